@@ -1,0 +1,34 @@
+-- `characters::comment_at` meets its contract: past the end there is no slash.
+use mathlib.Core.Path.{sym, _∙_}
+use lib.ListN.{List·getD-eq-default}
+use borrow.Author.Needs.{needs}
+use borrow.Author.Tests.{eq-eqb, ne-eqb}
+use Rattle.characters.specs.Skipping.{commentAt}
+use Rattle.characters.proofs.skipping.comment_at.Statement.{statement}
+use Rattle.characters.proofs.skipping.comment_at.Tie as tie
+
+byte-at-requires : tie.Need-byte-at-requires
+byte-at-requires c κs = search needs
+
+add-byte-at : tie.Need-add-byte-at
+add-byte-at c = search needs
+
+byte-at-requires-2 : tie.Need-byte-at-requires-2
+byte-at-requires-2 c κs = search needs
+
+returns : tie.Need-returns
+unfolding commentAt
+returns c = rw (c .byte-at2 .ensures, eq-eqb _ 47 (sym (c .before .before .byte-at .ensures) ∙ c .before .if2 .taken))
+
+returns-2 : tie.Need-returns-2
+unfolding commentAt
+returns-2 c = rw (ne-eqb _ 47 (λ e. c .if2 .left (c .before .byte-at .ensures ∙ e)))
+
+returns-3 : tie.Need-returns-3
+unfolding commentAt
+returns-3 c = rw (List·getD-eq-default (c .before .before .args .text .now) 0 (c .if1 .left))
+
+pub comment-at-spec : {M : Type 1} → statement M
+comment-at-spec =
+    tie.close
+    (tie.spec byte-at-requires add-byte-at byte-at-requires-2 returns returns-2 returns-3)

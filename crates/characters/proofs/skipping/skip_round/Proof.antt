@@ -1,0 +1,33 @@
+-- `characters::skip_round` meets its contract.
+use mathlib.Core.Path.{sym, ap, _∙_}
+use borrow.Author.Needs.{needs}
+use Rattle.characters.specs.Skipping.{commentAt, commentEnd}
+use Rattle.characters.specs.SkippingLaws.{round-comment, round-plain}
+use Rattle.characters.proofs.skipping.skip_round.Statement.{statement}
+use Rattle.characters.proofs.skipping.skip_round.Tie as tie
+
+span-end-requires : tie.Need-span-end-requires
+span-end-requires c κs = search needs
+
+comment-at-requires : tie.Need-comment-at-requires
+comment-at-requires c κs = search needs
+
+comment-end-requires : tie.Need-comment-end-requires
+comment-end-requires c κs = search needs
+
+returns : tie.Need-returns
+returns c =
+    let text = c .before .before .before .before .before .args .text .now in
+    let at = c .before .before .before .span-end .ensures in
+    c .comment-end .ensures ∙ ap (commentEnd text) at ∙ sym (round-comment _ _ (ap (commentAt text) (sym at) ∙ sym (c .before .before .comment-at .ensures) ∙ c .before .if1 .taken))
+
+returns-2 : tie.Need-returns-2
+returns-2 c =
+    let text = c .before .before .before .before .args .text .now in
+    let at = c .before .before .span-end .ensures in
+    at ∙ sym (round-plain _ _ (ap (commentAt text) (sym at) ∙ sym (c .before .comment-at .ensures) ∙ c .if1 .left))
+
+pub skip-round-spec : {M : Type 1} → statement M
+skip-round-spec =
+    tie.close
+    (tie.spec span-end-requires comment-at-requires comment-end-requires returns returns-2)

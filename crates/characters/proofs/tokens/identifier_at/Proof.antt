@@ -1,0 +1,40 @@
+-- `characters::identifier_at` meets its contract: past the end no letter stands.
+use mathlib.Core.Path.{sym, ap, _∙_}
+use borrow.Author.Needs.{needs}
+use Rattle.characters.specs.TokenLaws.{identifier-letter, identifier-none, identifier-out}
+use Rattle.characters.specs.declared.tokens.Identifier.{Identifier}
+use Rattle.characters.proofs.tokens.identifier_at.Statement.{statement}
+use Rattle.characters.proofs.tokens.identifier_at.Tie as tie
+
+byte-at-requires : tie.Need-byte-at-requires
+byte-at-requires c κs = search needs
+
+is-of-requires : tie.Need-is-of-requires
+is-of-requires c κs = search needs
+
+add-span-end : tie.Need-add-span-end
+add-span-end c = search needs
+
+span-end-requires : tie.Need-span-end-requires
+span-end-requires c κs = search needs
+
+returns : tie.Need-returns
+returns c = ap Identifier.Ends (c .span-end .ensures) ∙ sym (identifier-letter _ _ (rw (c .before .before .before .byte-at .ensures) at (sym (c .before .before .is-of .ensures) ∙ c .before .if2 .taken)))
+
+returns-2 : tie.Need-returns-2
+returns-2 c = sym (identifier-none _ _ (rw (c .before .before .byte-at .ensures) at (sym (c .before .is-of .ensures) ∙ c .if2 .left)))
+
+returns-3 : tie.Need-returns-3
+returns-3 c = sym (identifier-out _ _ (c .if1 .left))
+
+pub identifier-at-spec : {M : Type 1} → statement M
+identifier-at-spec =
+    tie.close
+    (tie.spec
+    byte-at-requires
+    is-of-requires
+    add-span-end
+    span-end-requires
+    returns
+    returns-2
+    returns-3)

@@ -1,0 +1,34 @@
+-- `characters::number_at` meets its contract.
+use mathlib.Core.Path.{sym, _∙_}
+use native.Mathlib.Omega.{arith}
+use borrow.Author.Needs.{needs}
+use Rattle.characters.specs.SkippingLaws.{span-forward}
+use Rattle.characters.specs.TokenLaws.{number-none, number-some}
+use Rattle.characters.specs.declared.skipping.Span.the-variants.{Digits}
+use Rattle.characters.proofs.tokens.number_at.Statement.{statement}
+use Rattle.characters.proofs.tokens.number_at.Tie as tie
+
+span-end-requires : tie.Need-span-end-requires
+span-end-requires c κs = search needs
+
+returns : tie.Need-returns
+returns c = sym (number-none _ _ (sym (c .before .span-end .ensures) ∙ c .if1 .taken))
+
+sub-part : tie.Need-sub-part
+sub-part c = omega (arith, c .before .span-end .ensures, span-forward Digits (c .before .before .before .args .text .now) (c .before .before .before .args .place))
+
+part-requires : tie.Need-part-requires
+part-requires c κs = search needs
+
+number-of-requires : tie.Need-number-of-requires
+number-of-requires c κs = search needs
+
+returns-2 : tie.Need-returns-2
+returns-2 c =
+    let end = c .before .before .before .span-end .ensures in
+    c .number-of .ensures ∙ rw (c .before .part .ensures, end) (sym (number-some _ _ (λ e. c .before .before .if1 .left (end ∙ e))))
+
+pub number-at-spec : {M : Type 1} → statement M
+number-at-spec =
+    tie.close
+    (tie.spec span-end-requires returns sub-part part-requires number-of-requires returns-2)

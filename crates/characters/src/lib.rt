@@ -1,0 +1,24 @@
+// The lowest layer: what a byte is, and what stands at a place of a text. Document 01, "Characters".
+//
+// Every public function has a contract that equates its answer with a definition in specs/, over every list of bytes and every
+// place, a place beyond the end included. No public function has a `requires`. The crate relies on nothing but `std`, and assumes nothing.
+//
+// specs/ has the definitions (Classes, Skipping, Tokens, Spelling) and, in files of their own, the laws that the layers above cite.
+mod classes;
+mod skipping;
+mod spelling;
+mod table;
+mod tokens;
+
+pub use classes::Class;
+pub use classes::byte_at;
+pub use classes::class_of;
+pub use classes::is_of;
+pub use skipping::skip;
+pub use spelling::part;
+pub use spelling::same_bytes;
+pub use spelling::same_spelling;
+pub use tokens::Identifier;
+pub use tokens::Number;
+pub use tokens::identifier_at;
+pub use tokens::number_at;

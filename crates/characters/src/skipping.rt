@@ -1,0 +1,97 @@
+// Skipping whitespace and comments, by rounds: a round drops whitespace and then one comment, if `//` follows. `// a` and a line feed
+// may stand before another comment, so rounds are repeated until one drops nothing.
+ghost use mathlib.Core.Path.{_≡_};
+ghost use Rattle.characters.specs.Skipping.{belongs, spanEnd, commentAt, commentEnd, roundEnd, skipFrom};
+use crate::classes::Class;
+use crate::classes::byte_at;
+use crate::classes::is_of;
+
+// The spans of text that are read to their longest end.
+pub enum Span {
+    // whitespace
+    Spaces,
+    // what is no line feed
+    Line,
+    // letters and digits
+    Word,
+    // digits
+    Digits,
+}
+
+fn in_span(byte: u8, span: Span) -> bool
+    ensures { λ r. ⌜ r ≡ belongs span byte ⌝ }
+{
+    match span {
+        Span::Spaces => is_of(byte, Class::Whitespace),
+        Span::Line => byte != b'\n',
+        Span::Word => {
+            if is_of(byte, Class::Letter) {
+                true
+            } else {
+                is_of(byte, Class::Digit)
+            }
+        }
+        Span::Digits => is_of(byte, Class::Digit),
+    }
+}
+
+// Where the longest span at a place ends: at the place itself where no byte of it belongs there.
+pub fn span_end(text: &[u8], place: usize, span: Span) -> usize
+    ensures { λ r. ⌜ r ≡ spanEnd span (now (text .entry)) place ⌝ }
+{
+    let mut at = place;
+    while at < text.len() {
+        if !in_span(text[at], span) {
+            return at;
+        }
+        at += 1;
+    }
+    at
+}
+
+fn comment_at(text: &[u8], place: usize) -> bool
+    ensures { λ r. ⌜ r ≡ commentAt (now (text .entry)) place ⌝ }
+{
+    if place < text.len() {
+        if byte_at(text, place) == b'/' {
+            byte_at(text, place + 1) == b'/'
+        } else {
+            false
+        }
+    } else {
+        false
+    }
+}
+
+// Behind the line feed that ends a comment, or the end of the text.
+fn comment_end(text: &[u8], place: usize) -> usize
+    ensures { λ r. ⌜ r ≡ commentEnd (now (text .entry)) place ⌝ }
+{
+    let end = span_end(text, place, Span::Line);
+    if end < text.len() { end + 1 } else { end }
+}
+
+fn skip_round(text: &[u8], place: usize) -> usize
+    ensures { λ r. ⌜ r ≡ roundEnd (now (text .entry)) place ⌝ }
+{
+    let at = span_end(text, place, Span::Spaces);
+    if comment_at(text, at) {
+        comment_end(text, at)
+    } else {
+        at
+    }
+}
+
+// The place that skipping from a place leads to; a place beyond the end stays.
+pub fn skip(text: &[u8], place: usize) -> usize
+    ensures { λ r. ⌜ r ≡ skipFrom (now (text .entry)) place ⌝ }
+{
+    let mut at = place;
+    loop {
+        let next = skip_round(text, at);
+        if next == at {
+            break next;
+        }
+        at = next;
+    }
+}
