@@ -18,7 +18,9 @@ byte-at-requires-2 c κs = search needs
 
 returns : tie.Need-returns
 unfolding commentAt
-returns c = rw (c .byte-at2 .ensures, eq-eqb _ 47 (sym (c .before .before .byte-at .ensures) ∙ c .before .if2 .taken))
+returns c =
+    let byte-at = c .before .before .byte-at in
+    rw (c .byte-at2 .ensures, eq-eqb _ 47 (sym (byte-at .ensures) ∙ c .before .if2 .taken))
 
 returns-2 : tie.Need-returns-2
 unfolding commentAt
@@ -26,7 +28,9 @@ returns-2 c = rw (ne-eqb _ 47 (λ e. c .if2 .left (c .before .byte-at .ensures �
 
 returns-3 : tie.Need-returns-3
 unfolding commentAt
-returns-3 c = rw (List·getD-eq-default (c .before .before .args .text .now) 0 (c .if1 .left))
+returns-3 c =
+    let args = c .before .before .args in
+    rw (List·getD-eq-default (args .text .now) 0 (c .if1 .left))
 
 pub comment-at-spec : {M : Type 1} → statement M
 comment-at-spec =

@@ -35,10 +35,15 @@ returns-2 : tie.Need-returns-2
 returns-2 c = rw (c .enum-told2 .given .1)
 
 returns-3 : tie.Need-returns-3
-returns-3 c = rw (c .before .before .enum-told3 .given .1, sym (c .before .is-of2 .ensures) ∙ c .if1 .taken)
+returns-3 c =
+    let enum-told3 = c .before .before .enum-told3 in
+    rw (enum-told3 .given .1, sym (c .before .is-of2 .ensures) ∙ c .if1 .taken)
 
 returns-4 : tie.Need-returns-4
-returns-4 c = rw (c .before .before .before .enum-told3 .given .1, sym (c .before .before .is-of2 .ensures) ∙ c .before .if1 .left) (c .is-of3 .ensures)
+returns-4 c =
+    let enum-told3 = c .before .before .before .enum-told3 in
+    let is-of2 = c .before .before .is-of2 in
+    rw (enum-told3 .given .1, sym (is-of2 .ensures) ∙ c .before .if1 .left) (c .is-of3 .ensures)
 
 returns-5 : tie.Need-returns-5
 returns-5 c = rw (c .before .enum-told4 .given .1) (c .is-of4 .ensures)

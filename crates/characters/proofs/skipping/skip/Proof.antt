@@ -25,10 +25,14 @@ loop-less : tie.Need-loop-less Inv-loop μ-loop
 loop-less c = rw (c .before .skip-round .ensures) (round-leaves-less _ _ (λ e. c .if1 .left (c .before .skip-round .ensures ∙ e)))
 
 loop-again : tie.Need-loop-again Inv-loop μ-loop
-loop-again c = rw (c .before .skip-round .ensures) (sym (skip-on _ _) ∙ c .before .before .loop .inv)
+loop-again c =
+    let loop = c .before .before .loop in
+    rw (c .before .skip-round .ensures) (sym (skip-on _ _) ∙ loop .inv)
 
 returns : tie.Need-returns Inv-loop μ-loop
-returns c = c .if1 .taken ∙ sym (skip-stop _ _ (sym (c .before .skip-round .ensures) ∙ c .if1 .taken)) ∙ c .before .before .loop .inv
+returns c =
+    let loop = c .before .before .loop in
+    c .if1 .taken ∙ sym (skip-stop _ _ (sym (c .before .skip-round .ensures) ∙ c .if1 .taken)) ∙ loop .inv
 
 pub skip-spec : {M : Type 1} → statement M
 skip-spec =

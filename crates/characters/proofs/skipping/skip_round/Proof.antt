@@ -17,14 +17,19 @@ comment-end-requires c κs = search needs
 
 returns : tie.Need-returns
 returns c =
-    let text = c .before .before .before .before .before .args .text .now in
-    let at = c .before .before .before .span-end .ensures in
-    c .comment-end .ensures ∙ ap (commentEnd text) at ∙ sym (round-comment _ _ (ap (commentAt text) (sym at) ∙ sym (c .before .before .comment-at .ensures) ∙ c .before .if1 .taken))
+    let args = c .before .before .before .before .before .args in
+    let span-end = c .before .before .before .span-end in
+    let comment-at = c .before .before .comment-at in
+    let text = args .text .now in
+    let at = span-end .ensures in
+    c .comment-end .ensures ∙ ap (commentEnd text) at ∙ sym (round-comment _ _ (ap (commentAt text) (sym at) ∙ sym (comment-at .ensures) ∙ c .before .if1 .taken))
 
 returns-2 : tie.Need-returns-2
 returns-2 c =
-    let text = c .before .before .before .before .args .text .now in
-    let at = c .before .before .span-end .ensures in
+    let args = c .before .before .before .before .args in
+    let span-end = c .before .before .span-end in
+    let text = args .text .now in
+    let at = span-end .ensures in
     at ∙ sym (round-plain _ _ (ap (commentAt text) (sym at) ∙ sym (c .before .comment-at .ensures) ∙ c .if1 .left))
 
 pub skip-round-spec : {M : Type 1} → statement M

@@ -26,8 +26,10 @@ in-span-requires c κs = search needs
 
 returns : tie.Need-returns Inv-loop μ-loop
 returns c =
+    let loop-test = c .before .before .before .loop-test in
+    let loop = c .before .before .before .before .loop in
     let stopped = sym (c .before .in-span .ensures) ∙ not-true _ (c .if1 .taken) in
-    sym (span-stop _ _ _ (c .before .before .before .loop-test .taken) stopped) ∙ c .before .before .before .before .loop .inv
+    sym (span-stop _ _ _ (loop-test .taken) stopped) ∙ loop .inv
 
 add-at : tie.Need-add-at Inv-loop μ-loop
 add-at c = search needs
@@ -37,8 +39,10 @@ loop-less c = search needs
 
 loop-again : tie.Need-loop-again Inv-loop μ-loop
 loop-again c =
+    let loop-test = c .before .before .before .loop-test in
+    let loop = c .before .before .before .before .loop in
     let on = sym (c .before .in-span .ensures) ∙ not-false _ (c .if1 .left) in
-    sym (span-on _ _ _ (c .before .before .before .loop-test .taken) on) ∙ c .before .before .before .before .loop .inv
+    sym (span-on _ _ _ (loop-test .taken) on) ∙ loop .inv
 
 returns-2 : tie.Need-returns-2 Inv-loop μ-loop
 returns-2 c = sym (span-out _ _ _ (c .loop-test .left)) ∙ c .before .loop .inv

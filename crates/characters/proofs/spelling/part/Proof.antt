@@ -10,7 +10,9 @@ slice-aggregate-result : tie.Need-slice-aggregate-result
 slice-aggregate-result c = search needs
 
 returns : tie.Need-returns
-returns c = sym (part-out (c .before .before .args .bytes .now) (c .before .before .args .start) (c .before .before .args .size) (c .before .if1 .taken))
+returns c =
+    let args = c .before .before .args in
+    sym (part-out (args .bytes .now) (args .start) (args .size) (c .before .if1 .taken))
 
 sub-if2 : tie.Need-sub-if2
 sub-if2 c = search needs
@@ -37,10 +39,14 @@ part-result-end-2 : tie.Need-part-result-end-2
 part-result-end-2 c = search needs
 
 returns-2 : tie.Need-returns-2
-returns-2 c = part-inside (c .before .before .before .args .bytes .now) (c .before .before .before .args .start) (c .before .before .before .args .size)
+returns-2 c =
+    let args = c .before .before .before .args in
+    part-inside (args .bytes .now) (args .start) (args .size)
 
 returns-3 : tie.Need-returns-3
-returns-3 c = part-rest (c .before .before .before .args .bytes .now) (c .before .before .before .args .start) (c .before .before .before .args .size) (omega (arith, c .before .if2 .left))
+returns-3 c =
+    let args = c .before .before .before .args in
+    part-rest (args .bytes .now) (args .start) (args .size) (omega (arith, c .before .if2 .left))
 
 pub part-spec : {M : Type 1} → statement M
 part-spec =

@@ -29,7 +29,9 @@ shared-slice-read-if2-2 c = search needs
 returns-2 : tie.Need-returns-2 Inv-loop μ-loop
 returns-2 c =
     let loop = c .before .before .before .before .loop in
-    sym (same-differ _ _ _ (c .before .before .before .loop-test .taken) (loop .inv .0) (c .if2 .taken)) ∙ loop .inv .1
+    let loop-test = c .before .before .before .loop-test in
+    let loop = loop in
+    sym (same-differ _ _ _ (loop-test .taken) (loop .inv .0) (c .if2 .taken)) ∙ loop .inv .1
 
 add-i : tie.Need-add-i Inv-loop μ-loop
 add-i c = search needs
@@ -40,7 +42,9 @@ loop-less c = search needs
 loop-again : tie.Need-loop-again Inv-loop μ-loop
 loop-again c =
     let loop = c .before .before .before .before .loop in
-    (loop .inv .0, sym (same-on _ _ _ (c .before .before .before .loop-test .taken) (loop .inv .0) (c .if2 .left)) ∙ loop .inv .1)
+    let loop-test = c .before .before .before .loop-test in
+    let loop = loop in
+    (loop .inv .0, sym (same-on _ _ _ (loop-test .taken) (loop .inv .0) (c .if2 .left)) ∙ loop .inv .1)
 
 returns-3 : tie.Need-returns-3 Inv-loop μ-loop
 returns-3 c =

@@ -13,7 +13,9 @@ same-bytes-requires : tie.Need-same-bytes-requires
 same-bytes-requires c κs = search needs
 
 returns : tie.Need-returns
-returns c = simp (c .same-bytes .ensures, c .before .part2 .ensures, c .before .before .part .ensures)
+returns c =
+    let part = c .before .before .part in
+    simp (c .same-bytes .ensures, c .before .part2 .ensures, part .ensures)
 
 pub same-spelling-spec : {M : Type 1} → statement M
 same-spelling-spec = tie.close (tie.spec part-requires part-requires-2 same-bytes-requires returns)

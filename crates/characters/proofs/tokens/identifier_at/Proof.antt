@@ -19,10 +19,15 @@ span-end-requires : tie.Need-span-end-requires
 span-end-requires c κs = search needs
 
 returns : tie.Need-returns
-returns c = ap Identifier.Ends (c .span-end .ensures) ∙ sym (identifier-letter _ _ (rw (c .before .before .before .byte-at .ensures) at (sym (c .before .before .is-of .ensures) ∙ c .before .if2 .taken)))
+returns c =
+    let byte-at = c .before .before .before .byte-at in
+    let is-of = c .before .before .is-of in
+    ap Identifier.Ends (c .span-end .ensures) ∙ sym (identifier-letter _ _ (rw (byte-at .ensures) at (sym (is-of .ensures) ∙ c .before .if2 .taken)))
 
 returns-2 : tie.Need-returns-2
-returns-2 c = sym (identifier-none _ _ (rw (c .before .before .byte-at .ensures) at (sym (c .before .is-of .ensures) ∙ c .if2 .left)))
+returns-2 c =
+    let byte-at = c .before .before .byte-at in
+    sym (identifier-none _ _ (rw (byte-at .ensures) at (sym (c .before .is-of .ensures) ∙ c .if2 .left)))
 
 returns-3 : tie.Need-returns-3
 returns-3 c = sym (identifier-out _ _ (c .if1 .left))

@@ -15,7 +15,9 @@ returns : tie.Need-returns
 returns c = sym (number-none _ _ (sym (c .before .span-end .ensures) ∙ c .if1 .taken))
 
 sub-part : tie.Need-sub-part
-sub-part c = omega (arith, c .before .span-end .ensures, span-forward Digits (c .before .before .before .args .text .now) (c .before .before .before .args .place))
+sub-part c =
+    let args = c .before .before .before .args in
+    omega (arith, c .before .span-end .ensures, span-forward Digits (args .text .now) (args .place))
 
 part-requires : tie.Need-part-requires
 part-requires c κs = search needs
@@ -25,8 +27,10 @@ number-of-requires c κs = search needs
 
 returns-2 : tie.Need-returns-2
 returns-2 c =
-    let end = c .before .before .before .span-end .ensures in
-    c .number-of .ensures ∙ rw (c .before .part .ensures, end) (sym (number-some _ _ (λ e. c .before .before .if1 .left (end ∙ e))))
+    let span-end = c .before .before .before .span-end in
+    let if1 = c .before .before .if1 in
+    let end = span-end .ensures in
+    c .number-of .ensures ∙ rw (c .before .part .ensures, end) (sym (number-some _ _ (λ e. if1 .left (end ∙ e))))
 
 pub number-at-spec : {M : Type 1} → statement M
 number-at-spec =

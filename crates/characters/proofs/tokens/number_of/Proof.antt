@@ -25,14 +25,19 @@ digit-value-requires : tie.Need-digit-value-requires Inv-loop μ-loop
 digit-value-requires c κs = search needs
 
 sub-if1 : tie.Need-sub-if1 Inv-loop μ-loop
-sub-if1 c = omega (arith, c .digit-value .ensures, c .before .shared-slice-known2 .given (c .before .before .before .loop .i))
+sub-if1 c =
+    let loop = c .before .before .before .loop in
+    omega (arith, c .digit-value .ensures, c .before .shared-slice-known2 .given (loop .i))
 
 returns : tie.Need-returns Inv-loop μ-loop
 returns c =
     let loop = c .before .before .before .before .loop in
-    let digits = c .before .before .before .before .before .before .args .digits .now in
+    let args = c .before .before .before .before .before .before .args in
+    let loop-test = c .before .before .before .loop-test in
+    let loop = loop in
+    let digits = args .digits .now in
     let more : largest < loop .value * 10 + (getD digits (loop .i) 0 - 48) = omega (arith, c .if1 .taken, c .before .digit-value .ensures) in
-    sym (number-large _ _ (rw (loop .inv .1) at (decimal-large (loop .value) digits (loop .i) (c .before .before .before .loop-test .taken) more)))
+    sym (number-large _ _ (rw (loop .inv .1) at (decimal-large (loop .value) digits (loop .i) (loop-test .taken) more)))
 
 mul-value : tie.Need-mul-value Inv-loop μ-loop
 mul-value c = omega (arith, c .if1 .left)
@@ -40,7 +45,9 @@ mul-value c = omega (arith, c .if1 .left)
 add-value : tie.Need-add-value Inv-loop μ-loop
 add-value c =
     let loop = c .before .before .before .before .loop in
-    omega (arith, c .if1 .left, c .before .digit-value .ensures, c .before .before .shared-slice-known2 .given (loop .i))
+    let shared-slice-known2 = c .before .before .shared-slice-known2 in
+    let loop = loop in
+    omega (arith, c .if1 .left, c .before .digit-value .ensures, shared-slice-known2 .given (loop .i))
 
 add-i : tie.Need-add-i Inv-loop μ-loop
 add-i c = search needs
@@ -50,9 +57,12 @@ loop-less c = search needs
 
 loop-again : tie.Need-loop-again Inv-loop μ-loop
 loop-again c =
-    let loop = c .before .before .before .before .loop in (
-      omega (arith, c .if1 .left, c .before .digit-value .ensures, c .before .before .shared-slice-known2 .given (loop .i)),
-      rw (c .before .digit-value .ensures) (sym (decimal-on _ _ _ (c .before .before .before .loop-test .taken)) ∙ loop .inv .1),
+    let loop = c .before .before .before .before .loop in
+    let shared-slice-known2 = c .before .before .shared-slice-known2 in
+    let loop-test = c .before .before .before .loop-test in
+    let loop = loop in (
+      omega (arith, c .if1 .left, c .before .digit-value .ensures, shared-slice-known2 .given (loop .i)),
+      rw (c .before .digit-value .ensures) (sym (decimal-on _ _ _ (loop-test .taken)) ∙ loop .inv .1),
     )
 
 returns-2 : tie.Need-returns-2 Inv-loop μ-loop

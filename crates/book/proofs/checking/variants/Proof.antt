@@ -1,0 +1,42 @@
+use native.Mathlib.Omega.{arith}
+use lib.ListN.{getD}
+use borrow.Author.Needs.{needs}
+use Rattle.book.specs.Index.{variantsFit}
+use Rattle.book.specs.WholeLaws.{retest, variants-fit, too-many-variants}
+use Rattle.book.specs.declared.sections.Sort.{Sort}
+use Rattle.characters.specs.Classes.{between}
+use Rattle.book.proofs.checking.variants.Statement.{statement}
+use Rattle.book.proofs.checking.variants.Tie as tie
+
+section-requires : tie.Need-section-requires
+section-requires c κs = search needs
+
+section-requires-2 : tie.Need-section-requires-2
+section-requires-2 c κs = search needs
+
+same-length : tie.Need-same-length
+same-length c = search needs
+
+returns : tie.Need-returns
+returns c =
+    let args = c .before .before .before .before .before .before .before .args in
+    let if1 = c .before .before .before .before .if1 in
+    let section = c .before .before .section in
+    let total = args .total in
+    retest Sort.Variant (between total total) (variantsFit total) _ _ total 128 323 _ _ _ (variants-fit total _ (if1 .taken)) (if1 .taken) (section .ensures)
+
+same-length-2 : tie.Need-same-length-2
+same-length-2 c = search needs
+
+returns-2 : tie.Need-returns-2
+returns-2 c =
+    let args = c .before .before .before .before .before .before .before .args in
+    let if1 = c .before .before .before .before .if1 in
+    let section2 = c .before .before .section2 in
+    let total = args .total in
+    retest Sort.Variant (between 1 0) (variantsFit total) _ _ 0 128 323 _ _ _ (too-many-variants total (getD (args .book .now) (args .at) 0) (if1 .left)) (omega arith) (section2 .ensures)
+
+pub variants-spec : {M : Type 1} → statement M
+variants-spec =
+    tie.close
+    (tie.spec section-requires section-requires-2 same-length returns same-length-2 returns-2)

@@ -1,0 +1,52 @@
+use borrow.Author.Needs.{needs}
+use Rattle.book.specs.ReadingLaws.{step-in, step-out}
+use Rattle.book.proofs.reading.step.Statement.{statement}
+use Rattle.book.proofs.reading.step.Tie as tie
+
+count-requires : tie.Need-count-requires
+count-requires c κs = search needs
+
+place-requires : tie.Need-place-requires
+place-requires c κs = search needs
+
+byte-after-requires : tie.Need-byte-after-requires
+byte-after-requires c κs = search needs
+
+number-after-requires : tie.Need-number-after-requires
+number-after-requires c κs = search needs
+
+number-after-requires-2 : tie.Need-number-after-requires-2
+number-after-requires-2 c κs = search needs
+
+number-after-requires-3 : tie.Need-number-after-requires-3
+number-after-requires-3 c κs = search needs
+
+step-of-requires : tie.Need-step-of-requires
+step-of-requires c κs = search needs
+
+returns : tie.Need-returns
+returns c =
+    let count = c .before .before .before .before .before .before .before .count in
+    let if1 = c .before .before .before .before .before .before .if1 in
+    let place = c .before .before .before .before .before .place in
+    let byte-after = c .before .before .before .before .byte-after in
+    let number-after = c .before .before .before .number-after in
+    let number-after2 = c .before .before .number-after2 in
+    step-in _ _ _ _ _ _ _ _ _ _ (count .ensures) (if1 .taken) (place .ensures) (byte-after .ensures) (number-after .ensures) (number-after2 .ensures) (c .before .number-after3 .ensures) (c .step-of .ensures)
+
+returns-2 : tie.Need-returns-2
+returns-2 c = step-out _ _ _ _ (c .before .count .ensures) (c .if1 .left)
+
+pub step-spec : {M : Type 1} → statement M
+step-spec =
+    tie.close
+    (tie.spec
+    count-requires
+    place-requires
+    byte-after-requires
+    number-after-requires
+    number-after-requires-2
+    number-after-requires-3
+    step-of-requires
+    returns
+    returns-2)

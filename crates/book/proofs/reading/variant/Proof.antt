@@ -1,0 +1,57 @@
+use borrow.Author.Needs.{needs}
+use Rattle.book.specs.ReadingLaws.{variant-in, variant-out}
+use Rattle.book.proofs.reading.variant.Statement.{statement}
+use Rattle.book.proofs.reading.variant.Tie as tie
+
+count-requires : tie.Need-count-requires
+count-requires c κs = search needs
+
+place-requires : tie.Need-place-requires
+place-requires c κs = search needs
+
+byte-after-requires : tie.Need-byte-after-requires
+byte-after-requires c κs = search needs
+
+number-after-requires : tie.Need-number-after-requires
+number-after-requires c κs = search needs
+
+byte-after-requires-2 : tie.Need-byte-after-requires-2
+byte-after-requires-2 c κs = search needs
+
+associativity-of-requires : tie.Need-associativity-of-requires
+associativity-of-requires c κs = search needs
+
+first-requires : tie.Need-first-requires
+first-requires c κs = search needs
+
+number-after-requires-2 : tie.Need-number-after-requires-2
+number-after-requires-2 c κs = search needs
+
+returns : tie.Need-returns
+returns c =
+    let count = c .before .before .before .before .before .before .before .before .count in
+    let if1 = c .before .before .before .before .before .before .before .if1 in
+    let place = c .before .before .before .before .before .before .place in
+    let byte-after = c .before .before .before .before .before .byte-after in
+    let number-after = c .before .before .before .before .number-after in
+    let byte-after2 = c .before .before .before .byte-after2 in
+    let associativity-of = c .before .before .associativity-of in
+    variant-in _ _ _ _ _ _ _ _ _ _ _ (count .ensures) (if1 .taken) (place .ensures) (byte-after .ensures) (number-after .ensures) (byte-after2 .ensures) (associativity-of .ensures) (c .before .first .ensures) (c .number-after2 .ensures)
+
+returns-2 : tie.Need-returns-2
+returns-2 c = variant-out _ _ _ _ (c .before .count .ensures) (c .if1 .left)
+
+pub variant-spec : {M : Type 1} → statement M
+variant-spec =
+    tie.close
+    (tie.spec
+    count-requires
+    place-requires
+    byte-after-requires
+    number-after-requires
+    byte-after-requires-2
+    associativity-of-requires
+    first-requires
+    number-after-requires-2
+    returns
+    returns-2)

@@ -1,0 +1,34 @@
+use mathlib.Core.Path.{sym, _∙_}
+use borrow.Author.Needs.{needs}
+use borrow.Author.Tests.{not-true, not-false}
+use Rattle.book.specs.ReaderLaws.{checked-short, checked-bad, checked-good}
+use Rattle.book.proofs.spellings.spelling_byte.Statement.{statement}
+use Rattle.book.proofs.spellings.spelling_byte.Tie as tie
+
+returns : tie.Need-returns
+returns c = checked-short _ _ _ _ _ (c .if1 .taken)
+
+byte-at-requires : tie.Need-byte-at-requires
+byte-at-requires c κs = search needs
+
+shaped-requires : tie.Need-shaped-requires
+shaped-requires c κs = search needs
+
+returns-2 : tie.Need-returns-2
+returns-2 c =
+    let if1 = c .before .before .before .if1 in
+    let byte-at = c .before .before .byte-at in
+    checked-bad _ _ _ _ _ (if1 .left) (rw (byte-at .ensures) at (sym (c .before .shaped .ensures) ∙ not-true _ (c .if2 .taken)))
+
+add-t5 : tie.Need-add-t5
+add-t5 c = search needs
+
+returns-3 : tie.Need-returns-3
+returns-3 c =
+    let if1 = c .before .before .before .if1 in
+    let byte-at = c .before .before .byte-at in
+    checked-good _ _ _ _ _ (if1 .left) (rw (byte-at .ensures) at (sym (c .before .shaped .ensures) ∙ not-false _ (c .if2 .left)))
+
+pub spelling-byte-spec : {M : Type 1} → statement M
+spelling-byte-spec =
+    tie.close (tie.spec returns byte-at-requires shaped-requires returns-2 add-t5 returns-3)

@@ -1,0 +1,206 @@
+-- Document 01, "The book" and refusals 3 to 8 of "The answer": the check of a book, "byte by byte forward, a bad byte before a missing one".
+use mathlib.Core.Bool.{Bool, true, false, cond, not, _&&_, _||_}
+use mathlib.Core.List.{List, [], _∷_, map}
+use Prim.Native.Nat.{ℕ, zero, suc, _+_, _%_}
+use lib.Dec.{leb, ltb, eqb}
+use lib.ListN.{length, getD}
+use Rattle.characters.specs.Classes.{between, isOf}
+use Rattle.characters.specs.declared.classes.Class.the-variants.{Letter, Digit}
+use Rattle.book.specs.Book.{Entry, Book, stepNumber, stepNumbered}
+use Rattle.book.specs.declared.records.Mark.{Mark}
+use Rattle.book.specs.declared.records.Associativity.{Associativity}
+use Rattle.book.specs.declared.records.Nonterminal.{Nonterminal}
+use Rattle.book.specs.declared.records.Variant.{Variant}
+use Rattle.book.specs.declared.records.Step.{Step}
+
+-- ---- Readers: what a part of the book gives, from a place on
+pub data Checked (A : Type 0) : Type 0 where
+  -- a refusal's number and place
+  refused : ℕ → ℕ → Checked A
+  -- what was read, and the next place
+  accepted : A → ℕ → Checked A
+
+abbrev pub andThen : {A B : Type 0} → Checked A → (A → ℕ → Checked B) → Checked B
+andThen (refused number place) f = refused number place
+andThen (accepted x next) f = f x next
+
+abbrev pub Reader : Type 0 → Type 0
+Reader A = List ℕ → ℕ → Checked A
+
+abbrev pub _>>=_ : {A B : Type 0} → Reader A → (A → Reader B) → Reader B
+_>>=_ m f = λ book place. andThen (m book place) (λ x next. f x book next)
+
+abbrev pub give : {A : Type 0} → A → Reader A
+give x = λ book place. accepted x place
+
+abbrev pub here : Reader ℕ
+here = λ book place. accepted place place
+
+-- A byte that passes a test, else the refusal at the place `at`; where the book has ended, 3 at its length
+unfoldable pub checked : (ℕ → Bool) → ℕ → ℕ → Reader ℕ
+checked fits number at book place =
+    cond (ltb place (length book)) (cond (fits (getD book place 0)) (accepted (getD book place 0) (place + 1)) (refused number at)) (refused 3 (length book))
+
+-- "section count outside its limits or unequal to its sum": 4 at the count
+abbrev pub count : (ℕ → Bool) → Reader ℕ
+count fits = do
+  at ← here
+  checked fits 4 at
+
+-- "any other field out of range": 6 at that byte
+abbrev pub field : (ℕ → Bool) → Reader ℕ
+field fits = do
+  at ← here
+  checked fits 6 at
+
+-- n records in a row. Each is told the sum of the sizes of those before it
+module _ {A : Type 0} (size : A → ℕ) (one : ℕ → Reader A) where
+  unfoldable pub row : ℕ → ℕ → Reader (List A)
+  row zero sum = give []
+  row (suc n) sum = do
+    x ← one sum
+    xs ← row n (sum + size x)
+    give (x ∷ xs)
+
+-- "Five sections in order, each after a one-byte count"
+abbrev pub section : {A : Type 0} → (ℕ → Bool) → (A → ℕ) → (ℕ → Reader A) → Reader (List A)
+section fits size one = do
+  n ← count fits
+  row size one n 0
+
+-- what is before or at a place in the book is no record of another: the same, with the place where it begins
+abbrev pub placed : {A : Type 0} → Reader A → Reader (ℕ × A)
+placed m = do
+  at ← here
+  x ← m
+  give (at, x)
+
+-- ---- Spellings: "length, bytes"
+-- "identifier-shaped": a letter, or a digit that isn't first
+abbrev pub shaped : ℕ → ℕ → Bool
+shaped i b = isOf Letter b || (ltb 0 i && isOf Digit b)
+
+-- "spelling not of length 1 to 15, or not identifier-shaped": 5 at the length byte
+unfoldable pub spelling : Reader (List ℕ)
+spelling = do
+  at ← here
+  size ← checked (between 1 15) 5 at
+  row (λ b. 1) (λ i. checked (shaped i) 5 at) size 0
+
+-- ---- Sections 1 and 2: "reserved 0 or 1, length, bytes"; "kind 0 to 7, length, bytes"
+unfoldable pub entry : ℕ → Reader Entry
+entry greatest = do
+  label ← field (between 0 greatest)
+  bytes ← spelling
+  give (record { label = label; spelling = bytes })
+
+-- ---- Section 3: "mark, number of variants 0 to 16"; mark 2 "with 0 variants"
+abbrev pub markOf : ℕ → Mark
+markOf n = cond (eqb n 1) Mark.Variable (cond (eqb n 2) Mark.Identifier Mark.Plain)
+
+unfoldable pub nonterminal : ℕ → Reader Nonterminal
+nonterminal first = do
+  mark ← field (between 0 2)
+  number ← field (between 0 (cond (eqb mark 2) 0 16))
+  give (record { mark = markOf mark; first = first; number = number })
+
+-- ---- Section 4: "level; associativity 0 Left, 1 Right, 2 None, 3 Both; flags 0 to 3 (1 committed, plus 2 passing); steps 0 to 8";
+-- "Level 255 is Rust's default and needs Both, else 6 at the associativity"
+abbrev pub associativityOf : ℕ → Associativity
+associativityOf n = cond (eqb n 0) Associativity.Left (cond (eqb n 1) Associativity.Right (cond (eqb n 2) Associativity.None Associativity.Both))
+
+unfoldable pub variant : ℕ → Reader Variant
+variant first = do
+  level ← field (between 0 255)
+  associativity ← field (between (cond (eqb level 255) 3 0) 3)
+  flags ← field (between 0 3)
+  number ← field (between 0 8)
+  give (record {
+    level = level;
+    associativity = associativityOf associativity;
+    committed = eqb (flags % 2) 1;
+    passing = leb 2 flags;
+    first = first;
+    number = number;
+  })
+
+-- ---- Section 5: "kind, a, b, c; unused bytes 0"
+-- which a a kind has: "Characters are 33 to 126"; a word, a kind of names, a nonterminal, or 0
+abbrev pub argument : ℕ → ℕ → ℕ → ℕ → Bool
+argument words nonterminals kind a =
+    cond (eqb kind 0) (between 33 126 a)
+    (cond (eqb kind 1) (ltb a words)
+    (cond (eqb kind 5) (between 0 7 a)
+    (cond (leb 8 kind) (ltb a nonterminals)
+    (eqb a 0))))
+
+-- which b and c: "12 delimited a between b and c; 13 the same, optional"
+abbrev pub delimiter : ℕ → ℕ → Bool
+delimiter kind b = cond (leb 12 kind) (between 33 126 b) (eqb b 0)
+
+-- a kind that is none of these has no step; it reads as the character 0, which no book asks for
+unfoldable pub stepOf : ℕ → ℕ → ℕ → ℕ → Step
+stepOf kind a b c =
+    cond (eqb kind 0) (Step.Character a)
+    (cond (eqb kind 1) (Step.Word a)
+    (cond (eqb kind 2) Step.Identifier
+    (cond (eqb kind 3) Step.Number
+    (cond (eqb kind 4) Step.Variable
+    (cond (eqb kind 5) (Step.VariableOfKind a)
+    (cond (eqb kind 6) Step.RejectVariable
+    (cond (eqb kind 7) Step.RejectReserved
+    (cond (eqb kind 8) (Step.Nonterminal a)
+    (cond (eqb kind 9) (Step.Optional a)
+    (cond (eqb kind 10) (Step.Many a)
+    (cond (eqb kind 11) (Step.CommaList a)
+    (cond (eqb kind 12) (Step.Delimited a b c)
+    (cond (eqb kind 13) (Step.OptionalDelimited a b c)
+    (Step.Character 0))))))))))))))
+
+unfoldable pub step : ℕ → ℕ → Reader Step
+step words nonterminals = do
+  kind ← field (between 0 13)
+  a ← field (argument words nonterminals kind)
+  b ← field (delimiter kind)
+  c ← field (delimiter kind)
+  give (stepOf kind a b c)
+
+-- ---- "after steps": "passing variant other than one step of kind 8", 7 at the "first byte of the variant"
+abbrev pub passes : List Step → Variant → Bool
+passes steps v = not (v .passing) || (eqb (v .number) 1 && eqb (stepNumber (stepNumbered steps (v .first))) 8)
+
+unfoldable pub allPass : List Step → List (ℕ × Variant) → Reader (Unit {0})
+allPass steps [] = give tt
+allPass steps (v ∷ vs) = λ book place. cond (passes steps (v .1)) (allPass steps vs book place) (refused 7 (v .0))
+
+-- "last": "bytes left over", 8 at the "first of them"
+unfoldable pub ended : Reader (Unit {0})
+ended book place = cond (ltb place (length book)) (refused 8 place) (accepted tt place)
+
+-- ---- The whole book
+abbrev pub total : {A : Type 0} → (A → ℕ) → List A → ℕ
+total size [] = 0
+total size (x ∷ xs) = size x + total size xs
+
+unfoldable pub whole : Reader Book
+whole = do
+  words ← section (between 0 64) (λ w. 0) (λ first. entry 1)
+  names ← section (between 0 64) (λ w. 0) (λ first. entry 7)
+  nonterminals ← section (between 1 32) (λ n. n .number) nonterminal
+  variants ← section (λ n. between 0 128 n && eqb n (total (λ x. x .number) nonterminals)) (λ v. v .1 .number) (λ first. placed (variant first))
+  steps ← section (eqb (total (λ v. v .1 .number) variants)) (λ s. 0) (λ first. step (length words) (length nonterminals))
+  passed ← allPass steps variants
+  over ← ended
+  give (record { words = words; names = names; nonterminals = nonterminals; variants = map (λ v. v .1) variants; steps = steps })
+
+-- the book that the bytes are, or a refusal's number and place
+pub data Outcome : Type 0 where
+  book : Book → Outcome
+  refusal : ℕ → ℕ → Outcome
+
+abbrev pub outcome : Checked Book → Outcome
+outcome (refused number place) = refusal number place
+outcome (accepted b next) = book b
+
+unfoldable pub checkBook : List ℕ → Outcome
+checkBook bytes = outcome (whole bytes 0)

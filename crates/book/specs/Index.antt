@@ -1,0 +1,233 @@
+-- The index of a book, and the book that an index gives: each record from its place. This is no part of what document 01 says: the contract
+-- of `check_into` equates the book that its index gives with the one of `checkBook`, and the reading functions are stated over the former.
+use mathlib.Core.Bool.{Bool, true, false, cond, _&&_}
+use mathlib.Core.List.{List, [], _∷_, _++_, map}
+use mathlib.Core.Path.{_≡_}
+use Prim.Native.Nat.{ℕ, zero, suc, _+_, _-_, _*_, _%_, _≤_, _<_}
+use lib.Dec.{leb, ltb, eqb}
+use lib.ListN.{length, getD}
+use Rattle.characters.specs.Classes.{between}
+use Rattle.characters.specs.Spelling.{partOf}
+use Rattle.book.specs.Book.{Entry, Book}
+use Rattle.book.specs.Check.{Checked, refused, accepted, andThen, Reader, row, section, placed, entry, markOf, nonterminal, associativityOf, variant, stepOf, step, total, Outcome, outcome, checkBook}
+use Rattle.book.specs.declared.checking.Verdict.{Verdict}
+use Rattle.book.specs.declared.parts.Part.{Part}
+use Rattle.book.specs.declared.sections.Sort.{Sort}
+use Rattle.book.specs.declared.sections.Range.{Range}
+use Rattle.book.specs.declared.sections.Allowed.{Allowed}
+use Rattle.book.specs.declared.records.Nonterminal.{Nonterminal}
+use Rattle.book.specs.declared.records.Variant.{Variant}
+use Rattle.book.specs.declared.records.Step.{Step}
+
+-- ---- Records from a place of the book
+abbrev pub entryFrom : List ℕ → ℕ → Entry
+entryFrom book at = record { label = getD book at 0; spelling = partOf book (at + 2) (getD book (at + 1) 0) }
+
+abbrev pub nonterminalFrom : List ℕ → ℕ → ℕ → Nonterminal
+nonterminalFrom book at first = record { mark = markOf (getD book at 0); first = first; number = getD book (at + 1) 0 }
+
+abbrev pub variantFrom : List ℕ → ℕ → ℕ → Variant
+variantFrom book at first =
+    record {
+      level = getD book at 0;
+      associativity = associativityOf (getD book (at + 1) 0);
+      committed = eqb (getD book (at + 2) 0 % 2) 1;
+      passing = leb 2 (getD book (at + 2) 0);
+      first = first;
+      number = getD book (at + 3) 0;
+    }
+
+abbrev pub stepFrom : List ℕ → ℕ → Step
+stepFrom book at = stepOf (getD book at 0) (getD book (at + 1) 0) (getD book (at + 2) 0) (getD book (at + 3) 0)
+
+-- ---- Sorts of records: what one is, how it is read, what it counts, and it from its place
+abbrev pub RecordOf : Sort → Type 0
+RecordOf (Sort.Entry greatest) = Entry
+RecordOf Sort.Nonterminal = Nonterminal
+RecordOf Sort.Variant = ℕ × Variant
+RecordOf (Sort.Step words nonterminals) = Step
+
+abbrev pub oneOf : (sort : Sort) → ℕ → Reader (RecordOf sort)
+oneOf (Sort.Entry greatest) first = entry greatest
+oneOf Sort.Nonterminal first = nonterminal first
+oneOf Sort.Variant first = placed (variant first)
+oneOf (Sort.Step words nonterminals) first = step words nonterminals
+
+abbrev pub sizeOf : (sort : Sort) → RecordOf sort → ℕ
+sizeOf (Sort.Entry greatest) x = 0
+sizeOf Sort.Nonterminal x = x .number
+sizeOf Sort.Variant x = x .1 .number
+sizeOf (Sort.Step words nonterminals) x = 0
+
+abbrev pub recordFrom : (sort : Sort) → List ℕ → ℕ → ℕ → RecordOf sort
+recordFrom (Sort.Entry greatest) book at first = entryFrom book at
+recordFrom Sort.Nonterminal book at first = nonterminalFrom book at first
+recordFrom Sort.Variant book at first = (at, variantFrom book at first)
+recordFrom (Sort.Step words nonterminals) book at first = stepFrom book at
+
+-- ---- The index
+-- the values of f below n, in order
+unfoldable pub upTo : {A : Type 0} → ℕ → (ℕ → A) → List A
+upTo zero f = []
+upTo (suc n) f = upTo n f ++ (f n ∷ [])
+
+abbrev pub countIn : List ℕ → ℕ → ℕ
+countIn index base = getD index base 0
+
+abbrev pub placeIn : List ℕ → ℕ → ℕ → ℕ
+placeIn index base i = getD index (base + 1 + 2 * i) 0
+
+abbrev pub firstIn : List ℕ → ℕ → ℕ → ℕ
+firstIn index base i = getD index (base + 2 + 2 * i) 0
+
+-- the first n records of a section, by the index
+abbrev pub recordsIn : (sort : Sort) → List ℕ → List ℕ → ℕ → ℕ → List (RecordOf sort)
+recordsIn sort book index base n = upTo n (λ i. recordFrom sort book (placeIn index base i) (firstIn index base i))
+
+abbrev pub entriesIn : List ℕ → List ℕ → ℕ → List Entry
+entriesIn book index base = upTo (countIn index base) (λ i. entryFrom book (placeIn index base i))
+
+unfoldable pub bookIn : List ℕ → List ℕ → Book
+bookIn book index =
+    record {
+      words = entriesIn book index 0;
+      names = entriesIn book index 129;
+      nonterminals = upTo (countIn index 258) (λ i. nonterminalFrom book (placeIn index 258 i) (firstIn index 258 i));
+      variants = upTo (countIn index 323) (λ j. variantFrom book (placeIn index 323 j) (firstIn index 323 j));
+      steps = upTo (countIn index 580) (λ k. stepFrom book (placeIn index 580 k));
+    }
+
+-- ---- The ranges of a step's arguments
+abbrev pub belowRange : ℕ → Range
+belowRange n = cond (eqb n 0) (record { low = 1; high = 0 }) (record { low = 0; high = n - 1 })
+
+abbrev pub argumentRange : ℕ → ℕ → ℕ → Range
+argumentRange words nonterminals kind =
+    cond (eqb kind 0) (record { low = 33; high = 126 })
+    (cond (eqb kind 1) (belowRange words)
+    (cond (eqb kind 5) (record { low = 0; high = 7 })
+    (cond (leb 8 kind) (belowRange nonterminals)
+    (record { low = 0; high = 0 }))))
+
+abbrev pub delimiterRange : ℕ → Range
+delimiterRange kind = cond (leb 12 kind) (record { low = 33; high = 126 }) (record { low = 0; high = 0 })
+
+abbrev pub allowed : ℕ → ℕ → ℕ → Allowed
+allowed words nonterminals kind = cond (leb kind 13) (Allowed.Ranges (argumentRange words nonterminals kind) (delimiterRange kind)) Allowed.Refused
+
+-- ---- What the code's answers say
+-- a reading, of which the code gives the next place, or the refusal; what was read may go by the code's value
+abbrev pub given : {A : Type 0} → Part → (ℕ → A) → Checked A
+given (Part.Read value next) f = accepted (f value) next
+given (Part.Refused number place) f = refused number place
+
+-- the code's value, where there is one, is n
+abbrev pub Valued : Part → ℕ → Type 0
+Valued (Part.Read value next) n = value ≡ n
+Valued (Part.Refused number place) n = Unit {0}
+
+-- the code's value, where there is one, is a byte's
+abbrev pub Small : Part → Type 0
+Small (Part.Read value next) = value ≤ 255
+Small (Part.Refused number place) = Unit {0}
+
+-- a list is as it was, but for the numbers from `low` up to, and not including, `high`
+pub record Kept (low high : ℕ) (f g : List ℕ) : Type 0 where
+  pub below : (k : ℕ) → k < low → getD g k 0 ≡ getD f k 0
+  pub above : (k : ℕ) → high ≤ k → getD g k 0 ≡ getD f k 0
+
+-- one record was read
+pub record One (sort : Sort) (book : List ℕ) (at : ℕ) (part : Part) : Type 0 where
+  pub reads : (first : ℕ) → oneOf sort first book at ≡ given part (λ v. recordFrom sort book at first)
+  pub valued : (first : ℕ) → Valued part (sizeOf sort (recordFrom sort book at first))
+  pub small : Small part
+
+-- a row of records was read, and its numbers stand in the index
+pub record Row (sort : Sort) (book : List ℕ) (at count base : ℕ) (f g : List ℕ) (part : Part) : Type 0 where
+  pub reads : row (sizeOf sort) (oneOf sort) count 0 book at ≡ given part (λ v. recordsIn sort book g base count)
+  pub valued : Valued part (total (sizeOf sort) (recordsIn sort book g base count))
+  pub kept : Kept (base + 1) (base + 1 + 2 * count) f g
+
+-- where something was read, n is at most `high`
+abbrev pub Few : Part → ℕ → ℕ → Type 0
+Few (Part.Read value next) n high = n ≤ high
+Few (Part.Refused number place) n high = Unit {0}
+
+-- a section was read: its count, which passes a test and is at most `high`, and its row
+pub record Section (sort : Sort) (fits : ℕ → Bool) (book : List ℕ) (at high base : ℕ) (f g : List ℕ) (part : Part) : Type 0 where
+  pub reads : section fits (sizeOf sort) (oneOf sort) book at ≡ given part (λ v. recordsIn sort book g base (countIn g base))
+  pub valued : Valued part (total (sizeOf sort) (recordsIn sort book g base (countIn g base)))
+  pub few : Few part (countIn g base) high
+  pub kept : Kept base (base + 1 + 2 * high) f g
+
+-- ---- Sections one after the other
+-- what follows a part that was read
+abbrev pub followed : Part → (ℕ → Checked Book) → Checked Book
+followed (Part.Read value next) K = K next
+followed (Part.Refused number place) K = refused number place
+
+abbrev pub nonterminalsIn : List ℕ → List ℕ → List Nonterminal
+nonterminalsIn book index = recordsIn Sort.Nonterminal book index 258 (countIn index 258)
+
+abbrev pub placedIn : List ℕ → List ℕ → List (ℕ × Variant)
+placedIn book index = recordsIn Sort.Variant book index 323 (countIn index 323)
+
+abbrev pub stepsIn : List ℕ → List ℕ → List Step
+stepsIn book index = upTo (countIn index 580) (λ k. stepFrom book (placeIn index 580 k))
+
+abbrev pub Heads : Type 0
+Heads = List Entry → List Entry → List Nonterminal → ℕ → Checked Book
+
+-- words, names and nonterminals, and what follows them
+abbrev pub heads : List ℕ → Heads → Checked Book
+heads book K =
+    andThen (section (between 0 64) (λ w. 0) (λ first. entry 1) book 0) (λ words p.
+    andThen (section (between 0 64) (λ w. 0) (λ first. entry 7) book p) (λ names q.
+    andThen (section (between 1 32) (λ n. n .number) nonterminal book q) (λ nonterminals r. K words names nonterminals r)))
+
+pub record HeadsRead (book f g : List ℕ) (part : Part) : Type 0 where
+  pub reads : (K : Heads) → heads book K ≡ followed part (K (entriesIn book g 0) (entriesIn book g 129) (nonterminalsIn book g))
+  pub valued : Valued part (total (λ n. n .number) (nonterminalsIn book g))
+  pub few-words : Few part (countIn g 0) 64
+  pub few-names : Few part (countIn g 129) 64
+  pub few-nonterminals : Few part (countIn g 258) 32
+  pub kept : Kept 0 323 f g
+
+abbrev pub variantsFit : ℕ → ℕ → Bool
+variantsFit all n = between 0 128 n && eqb n all
+
+abbrev pub Sections : Type 0
+Sections = List Entry → List Entry → List Nonterminal → List (ℕ × Variant) → List Step → ℕ → Checked Book
+
+abbrev pub fiveSections : List ℕ → Sections → Checked Book
+fiveSections book K =
+    heads book (λ words names nonterminals p.
+    andThen (section (variantsFit (total (λ n. n .number) nonterminals)) (λ v. v .1 .number) (λ first. placed (variant first)) book p) (λ variants q.
+    andThen (section (eqb (total (λ v. v .1 .number) variants)) (λ s. 0) (λ first. step (length words) (length nonterminals)) book q) (λ steps r.
+    K words names nonterminals variants steps r)))
+
+pub record SectionsRead (book f g : List ℕ) (part : Part) : Type 0 where
+  pub reads : (K : Sections) → fiveSections book K ≡ followed part (K (entriesIn book g 0) (entriesIn book g 129) (nonterminalsIn book g) (placedIn book g) (stepsIn book g))
+  pub kept : Kept 0 1091 f g
+
+-- the verdict of an outcome
+abbrev pub verdict : Outcome → Verdict
+verdict (Outcome.book b) = Verdict.Accepted
+verdict (Outcome.refusal number place) = Verdict.Refused number place
+
+-- what the check promises: the verdict; the book, where it is accepted; and nothing beyond the index is stored
+pub record Checks (book f g : List ℕ) (r : Verdict) : Type 0 where
+  pub says : r ≡ verdict (checkBook book)
+  pub gives : r ≡ Verdict.Accepted → checkBook book ≡ Outcome.book (bookIn book g)
+  pub kept : Kept 0 1091 f g
+
+abbrev pub refusalOf : Part → Verdict
+refusalOf (Part.Read value next) = Verdict.Accepted
+refusalOf (Part.Refused number place) = Verdict.Refused number place
+
+-- the public promise: an index that is too short is refused as 1, and left
+pub record CheckedInto (book f g : List ℕ) (r : Verdict) : Type 0 where
+  pub says : r ≡ cond (ltb (length f) 1091) (Verdict.Refused 1 0) (verdict (checkBook book))
+  pub gives : r ≡ Verdict.Accepted → checkBook book ≡ Outcome.book (bookIn book g)
+  pub beyond : (k : ℕ) → 1091 ≤ k → getD g k 0 ≡ getD f k 0
+  pub short : length f < 1091 → g ≡ f

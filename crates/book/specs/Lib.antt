@@ -1,0 +1,11 @@
+-- Document 01, "The book", and refusals 3 to 8 of "The answer".
+pub mod Book
+pub mod Check
+pub mod Index
+pub mod ReaderLaws
+pub mod RecordLaws
+pub mod EntryLaws
+pub mod RowLaws
+pub mod ReadingLaws
+pub mod WholeLaws
+pub mod EndLaws

@@ -1,0 +1,136 @@
+-- Laws of readers: single bytes, what follows a part, and rows of records.
+use mathlib.Core.Path.{_≡_, refl, sym, ap, _∙_}
+use mathlib.Core.Bool.{Bool, true, false, cond, _&&_, and-false}
+use mathlib.Core.List.{List, [], _∷_, _++_, append-nil, append-assoc}
+use Prim.Native.Nat.{ℕ, zero, suc, _+_, _-_, _≤_, _<_}
+use native.Mathlib.Omega.{arith}
+use native.Mathlib.Nat.{sub-zero}
+use lib.Dec.{leb, ltb, eqb}
+use lib.ListN.{length, getD}
+use borrow.Author.Tests.{lt-ltb, le-ltb, le-leb, lt-leb, leb-true, leb-false, ltb-true, ltb-false}
+use Rattle.characters.specs.Cases.{by-test, clash}
+use Rattle.characters.specs.Classes.{between}
+use Rattle.book.specs.Check.{Checked, refused, accepted, andThen, Reader, checked, row, total}
+use Rattle.book.specs.Index.{given, Valued, Small}
+use Rattle.book.specs.declared.parts.Part.{Part}
+
+-- ---- Ranges
+pub between-inside : (low high b : ℕ) → low ≤ b → b ≤ high → between low high b ≡ true
+between-inside low high b h k = rw (le-leb low b h, le-leb b high k)
+
+pub between-under : (low high b : ℕ) → b < low → between low high b ≡ false
+between-under low high b h = rw (lt-leb low b h)
+
+pub between-over : (low high b : ℕ) → high < b → between low high b ≡ false
+between-over low high b h = rw (lt-leb b high h) (and-false (leb low b))
+
+pub between-high : (low high b : ℕ) → between low high b ≡ true → b ≤ high
+between-high low high b e = by-test (leb b high) (λ t. leb-true b high t) (λ t. clash e (rw t (and-false (leb low b))))
+
+-- ---- A byte
+module _ (fits : ℕ → Bool) (number at : ℕ) (book : List ℕ) (place : ℕ) where
+  pub checked-short : length book ≤ place → checked fits number at book place ≡ refused 3 (length book)
+  unfolding checked
+  checked-short h = rw (le-ltb place (length book) h)
+
+  pub checked-bad : place < length book → fits (getD book place 0) ≡ false → checked fits number at book place ≡ refused number at
+  unfolding checked
+  checked-bad h e = rw (lt-ltb place (length book) h, e)
+
+  pub checked-good : place < length book → fits (getD book place 0) ≡ true → checked fits number at book place ≡ accepted (getD book place 0) (place + 1)
+  unfolding checked
+  checked-good h e = rw (lt-ltb place (length book) h, e)
+
+  -- a byte that was read is the one at the place, and passes the test
+  pub record ByteRead (v q : ℕ) : Type 0 where
+    pub value : v ≡ getD book place 0
+    pub next : q ≡ place + 1
+    pub fitted : fits v ≡ true
+
+  pub checked-told : (v q : ℕ) → checked fits number at book place ≡ accepted v q → ByteRead v q
+  checked-told v q e =
+      by-test (ltb place (length book))
+      (λ t. let h = ltb-true place (length book) t in
+      by-test (fits (getD book place 0))
+      (λ good. let g = checked-good h good in
+      let value : v ≡ getD book place 0 = cc in
+      let next : q ≡ place + 1 = cc in
+      record { value = value; next = next; fitted = ap fits value ∙ good })
+      (λ bad. let b = checked-bad h bad in let z : _≡_ {A = ℕ} 0 1 = cc in absurd (omega arith)))
+      (λ t. let s = checked-short (ltb-false place (length book) t) in let z : _≡_ {A = ℕ} 0 1 = cc in absurd (omega arith))
+
+-- a byte that the code has read, against a range
+module _ (low high number at : ℕ) (book : List ℕ) (place value : ℕ) (h : place < length book) (value-is : value ≡ getD book place 0) where
+  pub field-low : value < low → checked (between low high) number at book place ≡ refused number at
+  field-low l = checked-bad (between low high) number at book place h (between-under low high (getD book place 0) (omega arith))
+
+  pub field-high : high < value → checked (between low high) number at book place ≡ refused number at
+  field-high l = checked-bad (between low high) number at book place h (between-over low high (getD book place 0) (omega arith))
+
+  pub field-read : low ≤ value → value ≤ high → checked (between low high) number at book place ≡ accepted value (place + 1)
+  field-read l k = checked-good (between low high) number at book place h (between-inside low high (getD book place 0) (omega arith) (omega arith)) ∙ rw value-is
+
+-- ---- What follows a part
+module _ {A : Type 0} (c : Checked A) (part : Part) (f : ℕ → A) (e : c ≡ given part f) where
+  pub read : {v q : ℕ} → part ≡ Part.Read v q → c ≡ accepted (f v) q
+  read told = e ∙ ap (λ (p : Part). given p f) told
+
+  pub stopped : {n p : ℕ} → part ≡ Part.Refused n p → c ≡ refused n p
+  stopped told = e ∙ ap (λ (p : Part). given p f) told
+
+  -- a refusal is handed on
+  pub stop : {B : Type 0} (K : A → ℕ → Checked B) (g : ℕ → B) {n p : ℕ} → part ≡ Part.Refused n p → andThen c K ≡ given part g
+  stop K g told = rw (stopped told, told)
+
+-- a refusal as a part says it
+pub handed : {A : Type 0} {c : Checked A} {part : Part} (g : ℕ → A) {n p : ℕ} → c ≡ refused n p → part ≡ Part.Refused n p → c ≡ given part g
+handed g e told = e ∙ sym (ap (λ (x : Part). given x g) told)
+
+-- a part that was refused has no value
+pub no-value : {part : Part} {n p : ℕ} → part ≡ Part.Refused n p → (k : ℕ) → Valued part k
+no-value told k = rw told tt
+
+pub no-size : {part : Part} {n p : ℕ} → part ≡ Part.Refused n p → Small part
+no-size told = rw told tt
+
+pub small-of : {part : Part} {v q : ℕ} → part ≡ Part.Read v q → Small part → v ≤ 255
+small-of told h = rw told at h
+
+pub value-of : {part : Part} {v q : ℕ} → part ≡ Part.Read v q → (k : ℕ) → Valued part k → v ≡ k
+value-of told k h = rw told at h
+
+-- ---- Rows. `before` has been read; what is left is read from here
+module _ {A : Type 0} (size : A → ℕ) (one : ℕ → Reader A) (book : List ℕ) where
+  abbrev pub after : List A → Checked (List A) → Checked (List A)
+  after before c = andThen c (λ xs next. accepted (before ++ xs) next)
+
+  after-nothing : (c : Checked (List A)) → after [] c ≡ c
+  after-nothing (refused number place) = refl
+  after-nothing (accepted xs next) = refl
+
+  after-one : (before : List A) (x : A) (c : Checked (List A)) → after before (andThen c (λ xs next. accepted (x ∷ xs) next)) ≡ after (before ++ (x ∷ [])) c
+  after-one before x (refused number place) = refl
+  after-one before x (accepted xs next) = ap (λ (l : List A). accepted l next) (sym (append-assoc before (x ∷ []) xs))
+
+  pub row-begins : (n sum place : ℕ) → after [] (row size one (n - 0) sum book place) ≡ row size one n sum book place
+  row-begins n sum place = rw sub-zero (after-nothing (row size one n sum book place))
+
+  module _ (before : List A) (n i sum place : ℕ) where
+    pub row-refused : i < n → {number at : ℕ} → one sum book place ≡ refused number at → after before (row size one (n - i) sum book place) ≡ refused number at
+    unfolding row
+    row-refused h e = let left : n - i ≡ suc (n - (i + 1)) = omega arith in rw left (rw e)
+
+    pub row-on : i < n → {x : A} {next : ℕ} → one sum book place ≡ accepted x next →
+        after before (row size one (n - i) sum book place) ≡ after (before ++ (x ∷ [])) (row size one (n - (i + 1)) (sum + size x) book next)
+    unfolding row
+    row-on h {x} {next} e =
+        let left : n - i ≡ suc (n - (i + 1)) = omega arith in
+        rw left (rw e (after-one before x (row size one (n - (i + 1)) (sum + size x) book next)))
+
+    pub row-ends : n ≤ i → after before (row size one (n - i) sum book place) ≡ accepted before place
+    unfolding row
+    row-ends h = let none-left : n - i ≡ 0 = omega arith in rw none-left (ap (λ (l : List A). accepted l place) (append-nil before))
+
+pub total-snoc : {A : Type 0} (size : A → ℕ) (xs : List A) (x : A) → total size (xs ++ (x ∷ [])) ≡ total size xs + size x
+total-snoc size [] x = omega arith
+total-snoc size (y ∷ xs) x = let h = total-snoc size xs x in omega arith

@@ -1,0 +1,160 @@
+-- Laws of reading a book by its index, in the order in which the code asks, and of the lookups.
+use mathlib.Core.Path.{_≡_, refl, sym, ap, _∙_}
+use mathlib.Core.Bool.{Bool, true, false, cond, _&&_, _||_}
+use mathlib.Core.List.{List, [], _∷_, _++_}
+use Prim.Native.Nat.{ℕ, zero, suc, _+_, _-_, _*_, _%_, _≤_, _<_}
+use native.Mathlib.Omega.{arith}
+use native.Mathlib.Nat.{add-zero, add-suc, suc-add}
+use native.Mathlib.Numerals.{add-one, sub-one}
+use lib.Dec.{leb, ltb, eqb}
+use lib.ListN.{length, getD, drop, length-append, List·getD-append, List·getD-eq-default, drop-of-length-le}
+use lib.Seq.{getD-append-seam, drop-cons, getD-at}
+use borrow.Author.Tests.{eq-eqb, ne-eqb, ltb-true, ltb-false}
+use Rattle.characters.specs.Cases.{by-test, clash}
+use Rattle.characters.specs.Spelling.{same, partOf}
+use Rattle.characters.specs.SpellingLaws.{part-out}
+use Rattle.book.specs.Book.{Entry, Book, entryNumber, nonterminalNumber, variantNumber, stepNumbered, reservedAs, isReserved, lookupFrom, lookupName}
+use Rattle.book.specs.Check.{markOf, associativityOf, stepOf}
+use Rattle.book.specs.Index.{upTo, countIn, placeIn, firstIn, entryFrom, nonterminalFrom, variantFrom, stepFrom, entriesIn, bookIn}
+use Rattle.book.specs.RowLaws.{upTo-more}
+use Rattle.book.specs.declared.names.Found.{Found}
+use Rattle.book.specs.declared.records.Mark.{Mark}
+use Rattle.book.specs.declared.records.Associativity.{Associativity}
+use Rattle.book.specs.declared.records.Nonterminal.{Nonterminal}
+use Rattle.book.specs.declared.records.Variant.{Variant}
+use Rattle.book.specs.declared.records.Step.{Step}
+
+-- ---- The values of a function below n
+module _ {A : Type 0} (f : ℕ → A) where
+  pub upTo-length : (n : ℕ) → length (upTo n f) ≡ n
+  unfolding upTo
+  upTo-length zero = refl
+  upTo-length (suc n) = length-append (upTo n f) (f n ∷ []) ∙ (let h = upTo-length n in omega arith)
+
+  pub upTo-in : (n k : ℕ) (d : A) → k < n → getD (upTo n f) k d ≡ f k
+  unfolding upTo
+  upTo-in zero k d h = absurd (omega arith)
+  upTo-in (suc n) k d h =
+      let l = upTo-length n in
+      by-test (ltb k n)
+      (λ t. let less = ltb-true k n t in
+      List·getD-append (upTo n f) (f n ∷ []) d k (omega arith) ∙ upTo-in n k d less)
+      (λ t. let e : k ≡ n = omega (arith, ltb-false k n t) in
+      rw e (getD-at (upTo n f) (f n) [] d n l))
+
+  pub upTo-out : (n k : ℕ) (d : A) → n ≤ k → getD (upTo n f) k d ≡ d
+  upTo-out n k d h = List·getD-eq-default (upTo n f) d (let l = upTo-length n in omega arith)
+
+-- ---- Records
+module _ (book index : List ℕ) where
+  module _ (i : ℕ) where
+    pub nonterminal-in : (count at byte first number : ℕ) (mark : Mark) → count ≡ countIn index 258 → i < count → at ≡ placeIn index 258 i →
+        byte ≡ getD book (at + 0) 0 → mark ≡ markOf byte → first ≡ firstIn index 258 i → number ≡ getD book (at + 1) 0 →
+        _≡_ {A = Nonterminal} (record { mark = mark; first = first; number = number }) (nonterminalNumber (bookIn book index) i)
+    unfolding bookIn
+    nonterminal-in count at byte first number mark c-is h at-is b-is m-is f-is n-is =
+        rw (m-is, b-is, f-is, n-is, at-is, add-zero) (sym (upTo-in _ (countIn index 258) i _ (omega arith)))
+
+    pub nonterminal-out : (count : ℕ) → count ≡ countIn index 258 → count ≤ i →
+        _≡_ {A = Nonterminal} (record { mark = Mark.Plain; first = 0; number = 0 }) (nonterminalNumber (bookIn book index) i)
+    unfolding bookIn
+    nonterminal-out count c-is h = sym (upTo-out _ (countIn index 258) i _ (omega arith))
+
+  module _ (j : ℕ) where
+    pub variant-in : (count at flags level byte first number : ℕ) (associativity : Associativity) → count ≡ countIn index 323 → j < count → at ≡ placeIn index 323 j →
+        flags ≡ getD book (at + 2) 0 → level ≡ getD book (at + 0) 0 → byte ≡ getD book (at + 1) 0 → associativity ≡ associativityOf byte →
+        first ≡ firstIn index 323 j → number ≡ getD book (at + 3) 0 →
+        _≡_ {A = Variant} (record { level = level; associativity = associativity; committed = eqb (flags % 2) 1; passing = leb 2 flags; first = first; number = number })
+        (variantNumber (bookIn book index) j)
+    unfolding bookIn
+    variant-in count at flags level byte first number associativity c-is h at-is f-is l-is b-is a-is first-is n-is =
+        rw (l-is, a-is, b-is, f-is, first-is, n-is, at-is, add-zero) (sym (upTo-in _ (countIn index 323) j _ (omega arith)))
+
+    pub variant-out : (count : ℕ) → count ≡ countIn index 323 → count ≤ j →
+        _≡_ {A = Variant} (record { level = 0; associativity = Associativity.Left; committed = false; passing = false; first = 0; number = 0 })
+        (variantNumber (bookIn book index) j)
+    unfolding bookIn
+    variant-out count c-is h = sym (upTo-out _ (countIn index 323) j _ (omega arith))
+
+  module _ (k : ℕ) where
+    pub step-in : (count at kind a b c : ℕ) (step : Step) → count ≡ countIn index 580 → k < count → at ≡ placeIn index 580 k →
+        kind ≡ getD book (at + 0) 0 → a ≡ getD book (at + 1) 0 → b ≡ getD book (at + 2) 0 → c ≡ getD book (at + 3) 0 → step ≡ stepOf kind a b c →
+        step ≡ stepNumbered (bookIn book index .steps) k
+    unfolding bookIn
+    step-in count at kind a b c step c-is h at-is k-is a-is b-is c-is′ s-is =
+        rw (s-is, k-is, a-is, b-is, c-is′, at-is, add-zero) (sym (upTo-in _ (countIn index 580) k _ (omega arith)))
+
+    pub step-out : (count : ℕ) → count ≡ countIn index 580 → count ≤ k → Step.Character 0 ≡ stepNumbered (bookIn book index .steps) k
+    unfolding bookIn
+    step-out count c-is h = sym (upTo-out _ (countIn index 580) k _ (omega arith))
+
+  -- an entry of a section
+  module _ (base i : ℕ) where
+    pub entry-in : (count at : ℕ) → count ≡ countIn index base → i < count → at ≡ placeIn index base i → entryNumber (entriesIn book index base) i ≡ entryFrom book at
+    entry-in count at c-is h at-is = rw at-is (upTo-in (λ i. entryFrom book (placeIn index base i)) (countIn index base) i _ (omega arith))
+
+    pub entry-out : (count : ℕ) → count ≡ countIn index base → count ≤ i → entryNumber (entriesIn book index base) i ≡ record { label = 0; spelling = [] }
+    entry-out count c-is h = upTo-out (λ i. entryFrom book (placeIn index base i)) (countIn index base) i _ (omega arith)
+
+-- ---- Reserved words
+module _ (wanted : List ℕ) (words : List Entry) (i : ℕ) where
+  pub reserved-hit : i < length words → reservedAs wanted (entryNumber words i) ≡ true → isReserved (drop i words) wanted ≡ true
+  unfolding isReserved
+  reserved-hit h e = rw (drop-cons words i (record { label = 0; spelling = [] }) h, e)
+
+  pub reserved-on : i < length words → reservedAs wanted (entryNumber words i) ≡ false → isReserved (drop i words) wanted ≡ isReserved (drop (i + 1) words) wanted
+  unfolding isReserved
+  reserved-on h e = rw (drop-cons words i (record { label = 0; spelling = [] }) h, e, add-one)
+
+  pub reserved-end : length words ≤ i → isReserved (drop i words) wanted ≡ false
+  unfolding isReserved
+  reserved-end h = rw (drop-of-length-le words h)
+
+pub words-length : (book index : List ℕ) → length (bookIn book index .words) ≡ countIn index 0
+unfolding bookIn
+words-length book index = upTo-length (λ i. entryFrom book (placeIn index 0 i)) (countIn index 0)
+
+-- ---- Names
+lookup-snoc : (found : Found) (i : ℕ) (names : List Entry) (n : Entry) (wanted : List ℕ) →
+    lookupFrom found i (names ++ (n ∷ [])) wanted ≡ cond (same wanted (n .spelling)) (Found.Name (i + length names) (n .label)) (lookupFrom found i names wanted)
+unfolding lookupFrom
+lookup-snoc found i [] n wanted = rw add-zero
+lookup-snoc found i (m ∷ names) n wanted =
+    let h = lookup-snoc (cond (same wanted (m .spelling)) (Found.Name i (m .label)) found) (suc i) names n wanted in
+    let k : suc i + length names ≡ i + suc (length names) = omega arith in
+    rw k at h
+
+module _ (book index wanted : List ℕ) where
+  abbrev nameFrom : ℕ → Entry
+  nameFrom i = entryFrom book (placeIn index 129 i)
+
+  -- the lookup among the first i names
+  abbrev pub lookupBelow : ℕ → Found
+  lookupBelow i = lookupName (upTo i nameFrom) wanted
+
+  pub lookup-all : lookupName (bookIn book index .names) wanted ≡ lookupBelow (countIn index 129)
+  unfolding bookIn
+  lookup-all = refl
+
+  pub lookup-none : (i : ℕ) → i ≤ 0 → lookupBelow i ≡ Found.Nothing
+  unfolding upTo lookupFrom
+  lookup-none i h = let e : i ≡ 0 = omega arith in rw e
+
+  module _ (i : ℕ) (some′ : 0 < i) (all : i ≤ countIn index 129) where
+    last-name : entryNumber (bookIn book index .names) (i - 1) ≡ nameFrom (i - 1)
+    unfolding bookIn
+    last-name = upTo-in nameFrom (countIn index 129) (i - 1) _ (omega arith)
+
+    one-less : lookupBelow i ≡ cond (same wanted (nameFrom (i - 1) .spelling)) (Found.Name (i - 1) (nameFrom (i - 1) .label)) (lookupBelow (i - 1))
+    one-less =
+        let e : i ≡ (i - 1) + 1 = omega arith in
+        let l = upTo-length nameFrom (i - 1) in
+        let z : 0 + length (upTo (i - 1) nameFrom) ≡ i - 1 = omega arith in
+        ap lookupBelow e ∙ ap (λ (ns : List Entry). lookupName ns wanted) (upTo-more (i - 1) nameFrom) ∙ lookup-snoc Found.Nothing 0 (upTo (i - 1) nameFrom) (nameFrom (i - 1)) wanted ∙ rw z
+
+    pub lookup-hit : (kind : ℕ) → same wanted (entryNumber (bookIn book index .names) (i - 1) .spelling) ≡ true → kind ≡ entryNumber (bookIn book index .names) (i - 1) .label →
+        lookupBelow i ≡ Found.Name (i - 1) kind
+    lookup-hit kind e k = one-less ∙ rw (rw last-name at e, k, last-name)
+
+    pub lookup-on : same wanted (entryNumber (bookIn book index .names) (i - 1) .spelling) ≡ false → lookupBelow i ≡ lookupBelow (i - 1)
+    lookup-on e = one-less ∙ rw (rw last-name at e)

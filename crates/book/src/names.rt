@@ -1,0 +1,133 @@
+// Words and starting names by their numbers, whether a spelling is reserved, and which starting name it is.
+ghost use mathlib.Core.Path.{_≡_};
+ghost use Prim.Native.Nat.{_+_, _≤_};
+ghost use lib.ListN.{getD, length};
+ghost use Rattle.characters.specs.Spelling.{partOf, same};
+ghost use Rattle.book.specs.Book.{entryNumber, reservedAs, isReserved, lookupName};
+ghost use Rattle.book.specs.Index.{entriesIn, entryFrom, placeIn, bookIn};
+use crate::index::NAMES;
+use crate::index::WORDS;
+use crate::index::count;
+use crate::index::place;
+use crate::reading::number_after;
+use characters::part;
+use characters::same_bytes;
+
+pub enum Found {
+    Name { number: usize, kind: usize },
+    Nothing,
+}
+
+// The spelling of the entry at a place of the book.
+fn spelling_from(book: &[u8], at: usize) -> &[u8]
+    ensures { λ r. ⌜ now r ≡ entryFrom (now (book .entry)) at .spelling ⌝ }
+{
+    if at < book.len() {
+        part(book, at + 2, number_after(book, at, 1))
+    } else {
+        part(book, at, 0)
+    }
+}
+
+// The spelling of entry i of a section, a part of the book.
+fn spelling<'a>(book: &'a [u8], index: &[usize], base: usize, i: usize) -> &'a [u8]
+    requires { ⌜ base ≤ 580 ⌝ }
+    ensures { λ r. ⌜ now r ≡ entryNumber (entriesIn (now (book .entry)) (now (index .entry)) base) i .spelling ⌝ }
+{
+    if i < count(index, base) {
+        spelling_from(book, place(index, base, i))
+    } else {
+        part(book, 0, 0)
+    }
+}
+
+// The number that stands before the spelling of entry i.
+fn label(book: &[u8], index: &[usize], base: usize, i: usize) -> usize
+    requires { ⌜ base ≤ 580 ⌝ }
+    ensures { λ r. ⌜ r ≡ entryNumber (entriesIn (now (book .entry)) (now (index .entry)) base) i .label ⌝ }
+{
+    if i < count(index, base) {
+        number_after(book, place(index, base, i), 0)
+    } else {
+        0
+    }
+}
+
+pub fn word<'a>(book: &'a [u8], index: &[usize], i: usize) -> &'a [u8]
+    ensures { λ r. ⌜ now r ≡ entryNumber (bookIn (now (book .entry)) (now (index .entry)) .words) i .spelling ⌝ }
+{
+    spelling(book, index, WORDS, i)
+}
+
+// 1 for a reserved word, 0 for another.
+pub fn word_label(book: &[u8], index: &[usize], i: usize) -> usize
+    ensures { λ r. ⌜ r ≡ entryNumber (bookIn (now (book .entry)) (now (index .entry)) .words) i .label ⌝ }
+{
+    label(book, index, WORDS, i)
+}
+
+pub fn name<'a>(book: &'a [u8], index: &[usize], i: usize) -> &'a [u8]
+    ensures { λ r. ⌜ now r ≡ entryNumber (bookIn (now (book .entry)) (now (index .entry)) .names) i .spelling ⌝ }
+{
+    spelling(book, index, NAMES, i)
+}
+
+pub fn name_kind(book: &[u8], index: &[usize], i: usize) -> usize
+    ensures { λ r. ⌜ r ≡ entryNumber (bookIn (now (book .entry)) (now (index .entry)) .names) i .label ⌝ }
+{
+    label(book, index, NAMES, i)
+}
+
+// Whether entry i is spelled as a part of the text.
+fn spelled(book: &[u8], index: &[usize], base: usize, i: usize, wanted: &[u8]) -> bool
+    requires { ⌜ base ≤ 580 ⌝ }
+    ensures { λ r. ⌜ r ≡ same (now (wanted .entry)) (entryNumber (entriesIn (now (book .entry)) (now (index .entry)) base) i .spelling) ⌝ }
+{
+    same_bytes(wanted, spelling(book, index, base, i))
+}
+
+// Whether word i is reserved and spelled as a part of the text.
+fn reserved_as(book: &[u8], index: &[usize], i: usize, wanted: &[u8]) -> bool
+    ensures { λ r. ⌜ r ≡ reservedAs (now (wanted .entry)) (entryNumber (bookIn (now (book .entry)) (now (index .entry)) .words) i) ⌝ }
+{
+    if label(book, index, WORDS, i) == 1 {
+        spelled(book, index, WORDS, i, wanted)
+    } else {
+        false
+    }
+}
+
+// Whether a part of the text is reserved: whether an equal word is.
+pub fn is_reserved(book: &[u8], index: &[usize], text: &[u8], start: usize, size: usize) -> bool
+    ensures { λ r. ⌜ r ≡ isReserved (bookIn (now (book .entry)) (now (index .entry)) .words) (partOf (now (text .entry)) start size) ⌝ }
+{
+    let wanted = part(text, start, size);
+    let words = count(index, WORDS);
+    let mut i = 0;
+    while i < words {
+        if reserved_as(book, index, i, wanted) {
+            return true;
+        }
+        i += 1;
+    }
+    false
+}
+
+// Which starting name a part of the text is: the last equal one.
+pub fn lookup(book: &[u8], index: &[usize], text: &[u8], start: usize, size: usize) -> Found
+    ensures { λ r. ⌜ r ≡ lookupName (bookIn (now (book .entry)) (now (index .entry)) .names) (partOf (now (text .entry)) start size) ⌝ }
+{
+    let wanted = part(text, start, size);
+    let mut i = count(index, NAMES);
+    while 0 < i {
+        let last = i - 1;
+        if spelled(book, index, NAMES, last, wanted) {
+            return Found::Name {
+                number: last,
+                kind: label(book, index, NAMES, last),
+            };
+        }
+        i = last;
+    }
+    Found::Nothing
+}

@@ -1,0 +1,229 @@
+// The records of each section, checked byte by byte, and a section as a whole.
+ghost use mathlib.Core.Path.{_≡_};
+ghost use mathlib.Core.Bool.{cond};
+ghost use Prim.Native.Nat.{_+_, _*_, _≤_};
+ghost use lib.Dec.{eqb};
+ghost use lib.ListN.{length};
+ghost use Rattle.characters.specs.Classes.{between};
+ghost use Rattle.book.specs.Index.{belowRange, allowed, One, Row, Section};
+use crate::index::put;
+use crate::parts::Part;
+use crate::parts::field;
+use crate::spellings::entry;
+
+fn most_variants(mark: usize) -> usize
+    ensures { λ r. ⌜ r ≡ cond (eqb mark 2) 0 16 ⌝ }
+{
+    if mark == 2 { 0 } else { 16 }
+}
+
+// Mark and number of variants; the value is the latter.
+fn nonterminal(book: &[u8], place: usize) -> Part
+    ensures { λ r. ⌜ One Sort.Nonterminal (now (book .entry)) place r ⌝ }
+{
+    let mark = field(book, place, 0, 2, 6, place);
+    let Part::Read { value, next } = mark else {
+        return mark;
+    };
+    field(book, next, 0, most_variants(value), 6, next)
+}
+
+fn least_associativity(level: usize) -> usize
+    ensures { λ r. ⌜ r ≡ cond (eqb level 255) 3 0 ⌝ }
+{
+    if level == 255 { 3 } else { 0 }
+}
+
+// Level, associativity, flags and number of steps; the value is the last.
+fn variant(book: &[u8], place: usize) -> Part
+    ensures { λ r. ⌜ One Sort.Variant (now (book .entry)) place r ⌝ }
+{
+    let level = field(book, place, 0, 255, 6, place);
+    let Part::Read { value, next } = level else {
+        return level;
+    };
+    let associativity = field(book, next, least_associativity(value), 3, 6, next);
+    let Part::Read {
+        value: _,
+        next: flags_at,
+    } = associativity
+    else {
+        return associativity;
+    };
+    let flags = field(book, flags_at, 0, 3, 6, flags_at);
+    let Part::Read {
+        value: _,
+        next: number_at,
+    } = flags
+    else {
+        return flags;
+    };
+    field(book, number_at, 0, 8, 6, number_at)
+}
+
+pub struct Range {
+    pub low: usize,
+    pub high: usize,
+}
+
+// What a step's a, and its b and c, may be.
+pub enum Allowed {
+    Ranges(Range, Range),
+    // no such kind
+    Refused,
+}
+
+fn below(n: usize) -> Range
+    ensures { λ r. ⌜ r ≡ belowRange n ⌝ }
+{
+    if n == 0 {
+        Range { low: 1, high: 0 }
+    } else {
+        Range {
+            low: 0,
+            high: n - 1,
+        }
+    }
+}
+
+fn arguments(kind: usize, words: usize, nonterminals: usize) -> Allowed
+    ensures { λ r. ⌜ r ≡ allowed words nonterminals kind ⌝ }
+{
+    let unused = Range { low: 0, high: 0 };
+    let character = Range { low: 33, high: 126 };
+    let name_kind = Range { low: 0, high: 7 };
+    let word = below(words);
+    let nonterminal = below(nonterminals);
+    match kind {
+        0 => Allowed::Ranges(character, unused),
+        1 => Allowed::Ranges(word, unused),
+        2 => Allowed::Ranges(unused, unused),
+        3 => Allowed::Ranges(unused, unused),
+        4 => Allowed::Ranges(unused, unused),
+        5 => Allowed::Ranges(name_kind, unused),
+        6 => Allowed::Ranges(unused, unused),
+        7 => Allowed::Ranges(unused, unused),
+        8 => Allowed::Ranges(nonterminal, unused),
+        9 => Allowed::Ranges(nonterminal, unused),
+        10 => Allowed::Ranges(nonterminal, unused),
+        11 => Allowed::Ranges(nonterminal, unused),
+        12 => Allowed::Ranges(nonterminal, character),
+        13 => Allowed::Ranges(nonterminal, character),
+        _ => Allowed::Refused,
+    }
+}
+
+fn step(book: &[u8], place: usize, words: usize, nonterminals: usize) -> Part
+    ensures { λ r. ⌜ One (Sort.Step words nonterminals) (now (book .entry)) place r ⌝ }
+{
+    let kind = field(book, place, 0, 255, 6, place);
+    let Part::Read { value, next } = kind else {
+        return kind;
+    };
+    let Allowed::Ranges(a, delimiter) = arguments(value, words, nonterminals) else {
+        return Part::Refused { number: 6, place };
+    };
+    let first = field(book, next, a.low, a.high, 6, next);
+    let Part::Read {
+        value: _,
+        next: second_at,
+    } = first
+    else {
+        return first;
+    };
+    let second = field(book, second_at, delimiter.low, delimiter.high, 6, second_at);
+    let Part::Read {
+        value: _,
+        next: third_at,
+    } = second
+    else {
+        return second;
+    };
+    let third = field(book, third_at, delimiter.low, delimiter.high, 6, third_at);
+    let Part::Read {
+        value: _,
+        next: last,
+    } = third
+    else {
+        return third;
+    };
+    Part::Read {
+        value: 0,
+        next: last,
+    }
+}
+
+// The sorts of records.
+pub enum Sort {
+    // with the greatest label
+    Entry(usize),
+    Nonterminal,
+    Variant,
+    // with the numbers of words and of nonterminals
+    Step(usize, usize),
+}
+
+fn one_record(book: &[u8], place: usize, sort: Sort) -> Part
+    ensures { λ r. ⌜ One sort (now (book .entry)) place r ⌝ }
+{
+    match sort {
+        Sort::Entry(greatest) => entry(book, place, greatest),
+        Sort::Nonterminal => nonterminal(book, place),
+        Sort::Variant => variant(book, place),
+        Sort::Step(words, nonterminals) => step(book, place, words, nonterminals),
+    }
+}
+
+// `count` records in a row. The index gets the place of each, and the sum of the values of those before it; the value is the sum of all.
+fn row(
+    book: &[u8],
+    place: usize,
+    sort: Sort,
+    count: usize,
+    index: &mut [usize],
+    base: usize,
+) -> Part
+    requires { ⌜ (base + 1 + 2 * count ≤ length (now index)) × (count ≤ 255) ⌝ }
+    ensures { λ r. ⌜ Row sort (now (book .entry)) place count base (now (index .entry)) (now (index .exit)) r ⌝ }
+{
+    let mut i = 0;
+    let mut at = place;
+    let mut sum = 0;
+    while i < count {
+        let slot = base + 1 + 2 * i;
+        put(index, slot, at);
+        put(index, slot + 1, sum);
+        let part = one_record(book, at, sort);
+        let Part::Read { value, next } = part else {
+            return part;
+        };
+        at = next;
+        sum += value;
+        i += 1;
+    }
+    Part::Read {
+        value: sum,
+        next: at,
+    }
+}
+
+// A section: its count, from `low` to `high`, and its records.
+pub fn section(
+    book: &[u8],
+    place: usize,
+    low: usize,
+    high: usize,
+    sort: Sort,
+    index: &mut [usize],
+    base: usize,
+) -> Part
+    requires { ⌜ (base + 1 + 2 * high ≤ length (now index)) × (high ≤ 255) ⌝ }
+    ensures { λ r. ⌜ Section sort (between low high) (now (book .entry)) place high base (now (index .entry)) (now (index .exit)) r ⌝ }
+{
+    let count = field(book, place, low, high, 4, place);
+    let Part::Read { value, next } = count else {
+        return count;
+    };
+    put(index, base, value);
+    row(book, next, sort, value, index, base)
+}
