@@ -1,5 +1,5 @@
 -- Document 01, "The book" and refusals 3 to 8 of "The answer": the check of a book, "byte by byte forward, a bad byte before a missing one".
-use mathlib.Core.Bool.{Bool, true, false, cond, not, _&&_, _||_}
+use mathlib.Core.Bool.{Bool, cond, not, _&&_, _||_}
 use mathlib.Core.List.{List, [], _∷_, map}
 use Prim.Native.Nat.{ℕ, zero, suc, _+_, _%_}
 use lib.Dec.{leb, ltb, eqb}
@@ -20,19 +20,23 @@ pub data Checked (A : Type 0) : Type 0 where
   -- what was read, and the next place
   accepted : A → ℕ → Checked A
 
+-- a refusal is handed on; what was read goes to what follows, with the next place
 abbrev pub andThen : {A B : Type 0} → Checked A → (A → ℕ → Checked B) → Checked B
 andThen (refused number place) f = refused number place
 andThen (accepted x next) f = f x next
 
+-- from the book's bytes and a place
 abbrev pub Reader : Type 0 → Type 0
 Reader A = List ℕ → ℕ → Checked A
 
 abbrev pub _>>=_ : {A B : Type 0} → Reader A → (A → Reader B) → Reader B
 _>>=_ m f = λ book place. andThen (m book place) (λ x next. f x book next)
 
+-- nothing is read, and x is given
 abbrev pub give : {A : Type 0} → A → Reader A
 give x = λ book place. accepted x place
 
+-- the place itself
 abbrev pub here : Reader ℕ
 here = λ book place. accepted place place
 
@@ -62,13 +66,13 @@ module _ {A : Type 0} (size : A → ℕ) (one : ℕ → Reader A) where
     xs ← row n (sum + size x)
     give (x ∷ xs)
 
--- "Five sections in order, each after a one-byte count"
+-- "Five sections in order, each after a one-byte count": the count, which passes a test, and so many records
 abbrev pub section : {A : Type 0} → (ℕ → Bool) → (A → ℕ) → (ℕ → Reader A) → Reader (List A)
 section fits size one = do
   n ← count fits
   row size one n 0
 
--- what is before or at a place in the book is no record of another: the same, with the place where it begins
+-- the same, with the place where it begins
 abbrev pub placed : {A : Type 0} → Reader A → Reader (ℕ × A)
 placed m = do
   at ← here
@@ -178,10 +182,12 @@ unfoldable pub ended : Reader (Unit {0})
 ended book place = cond (ltb place (length book)) (refused 8 place) (accepted tt place)
 
 -- ---- The whole book
+-- the sum of the sizes
 abbrev pub total : {A : Type 0} → (A → ℕ) → List A → ℕ
 total size [] = 0
 total size (x ∷ xs) = size x + total size xs
 
+-- the sections in order, then 7, then 8
 unfoldable pub whole : Reader Book
 whole = do
   words ← section (between 0 64) (λ w. 0) (λ first. entry 1)

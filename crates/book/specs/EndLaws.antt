@@ -1,18 +1,17 @@
 -- Laws of what comes after the five sections: passing variants, the end, and the outcome.
-use mathlib.Core.Path.{_≡_, refl, sym, ap, _∙_}
-use mathlib.Core.Bool.{Bool, true, false, cond, not, _&&_, _||_}
+use mathlib.Core.Path.{_≡_, refl, ap, _∙_}
+use mathlib.Core.Bool.{true, false}
 use mathlib.Core.List.{List, [], _∷_, _++_, map}
-use Prim.Native.Nat.{ℕ, zero, suc, _+_, _-_, _*_, _≤_, _<_}
+use Prim.Native.Nat.{ℕ, zero, suc, _+_, _≤_, _<_}
 use native.Mathlib.Omega.{arith}
 use native.Mathlib.Numerals.{add-one}
-use lib.Dec.{ltb, eqb}
-use lib.ListN.{length, getD, drop, drop-of-length-le}
+use lib.Dec.{eqb}
+use lib.ListN.{length, drop, drop-of-length-le}
 use lib.Seq.{drop-cons}
 use borrow.Author.Tests.{lt-ltb, le-ltb, eq-eqb, ne-eqb}
-use Rattle.book.specs.Book.{Entry, Book, variantNumber, stepNumber, stepNumbered}
-use Rattle.book.specs.Check.{Checked, refused, accepted, andThen, passes, allPass, ended, whole, Outcome, outcome, checkBook}
-use Rattle.book.specs.Index.{given, upTo, countIn, placeIn, firstIn, variantFrom, entriesIn, nonterminalsIn, placedIn, stepsIn, bookIn, followed, fiveSections, Sections, SectionsRead, verdict, Checks, CheckedInto, Kept}
-use Rattle.book.specs.ReaderLaws.{read, stopped}
+use Rattle.book.specs.Book.{Book, variantNumber, stepNumber, stepNumbered}
+use Rattle.book.specs.Check.{Checked, refused, accepted, andThen, passes, allPass, ended, whole, Outcome, checkBook}
+use Rattle.book.specs.Index.{given, upTo, countIn, placeIn, firstIn, variantFrom, entriesIn, nonterminalsIn, placedIn, stepsIn, bookIn, fiveSections, Sections, SectionsRead, Checks, CheckedInto, Kept}
 use Rattle.book.specs.ReadingLaws.{upTo-in, upTo-length}
 use Rattle.book.specs.WholeLaws.{follow-read}
 use Rattle.book.specs.declared.checking.Verdict.{Verdict}
@@ -156,7 +155,3 @@ into-short book f h =
       beyond = λ k l. refl;
       short = λ l. refl;
     }
-
--- with an index that is long enough
-pub into-says : (book f g : List ℕ) (r : Verdict) → CheckedInto book f g r → 1091 ≤ length f → r ≡ verdict (checkBook book)
-into-says book f g r c h = c .says ∙ rw (le-ltb (length f) 1091 h)

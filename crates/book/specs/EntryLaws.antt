@@ -1,20 +1,19 @@
 -- Laws of spellings, words and starting names, in the order in which the code reads their bytes.
-use mathlib.Core.Path.{_≡_, refl, sym, ap, _∙_}
-use mathlib.Core.Bool.{Bool, true, false}
+use mathlib.Core.Path.{_≡_, refl, sym, _∙_}
 use mathlib.Core.List.{List, [], _∷_, _++_}
-use Prim.Native.Nat.{ℕ, zero, suc, _+_, _-_, _≤_, _<_}
+use Prim.Native.Nat.{ℕ, _+_, _-_, _≤_, _<_}
 use native.Mathlib.Omega.{arith}
 use native.Mathlib.Numerals.{add-one}
 use lib.Dec.{ltb}
-use lib.ListN.{length, getD, take, drop, length-drop}
+use lib.ListN.{length, getD, drop, length-drop}
 use lib.Seq.{take-suc, getD-drop}
 use borrow.Author.Tests.{ltb-true, ltb-false}
 use Rattle.characters.specs.Cases.{by-test}
 use Rattle.characters.specs.Classes.{between}
 use Rattle.characters.specs.Spelling.{partOf}
-use Rattle.book.specs.Check.{Checked, refused, accepted, andThen, checked, row, shaped, spelling, entry}
-use Rattle.book.specs.Index.{given, Valued, One, entryFrom}
-use Rattle.book.specs.ReaderLaws.{ByteRead, checked-short, checked-told, after, row-begins, row-refused, row-on, row-ends}
+use Rattle.book.specs.Check.{Checked, refused, accepted, checked, row, shaped, spelling, entry}
+use Rattle.book.specs.Index.{given, Valued, One}
+use Rattle.book.specs.ReaderLaws.{checked-short, checked-told, after, row-begins, row-refused, row-on, row-ends}
 use Rattle.book.specs.RecordLaws.{Byte, one-refused}
 use Rattle.book.specs.declared.parts.Part.{Part}
 use Rattle.book.specs.declared.sections.Sort.{Sort}

@@ -1,7 +1,7 @@
 -- The index of a book, and the book that an index gives: each record from its place. This is no part of what document 01 says: the contract
 -- of `check_into` equates the book that its index gives with the one of `checkBook`, and the reading functions are stated over the former.
-use mathlib.Core.Bool.{Bool, true, false, cond, _&&_}
-use mathlib.Core.List.{List, [], _∷_, _++_, map}
+use mathlib.Core.Bool.{Bool, cond, _&&_}
+use mathlib.Core.List.{List, [], _∷_, _++_}
 use mathlib.Core.Path.{_≡_}
 use Prim.Native.Nat.{ℕ, zero, suc, _+_, _-_, _*_, _%_, _≤_, _<_}
 use lib.Dec.{leb, ltb, eqb}
@@ -9,7 +9,7 @@ use lib.ListN.{length, getD}
 use Rattle.characters.specs.Classes.{between}
 use Rattle.characters.specs.Spelling.{partOf}
 use Rattle.book.specs.Book.{Entry, Book}
-use Rattle.book.specs.Check.{Checked, refused, accepted, andThen, Reader, row, section, placed, entry, markOf, nonterminal, associativityOf, variant, stepOf, step, total, Outcome, outcome, checkBook}
+use Rattle.book.specs.Check.{Checked, refused, accepted, andThen, Reader, row, section, placed, entry, markOf, nonterminal, associativityOf, variant, stepOf, step, total, Outcome, checkBook}
 use Rattle.book.specs.declared.checking.Verdict.{Verdict}
 use Rattle.book.specs.declared.parts.Part.{Part}
 use Rattle.book.specs.declared.sections.Sort.{Sort}

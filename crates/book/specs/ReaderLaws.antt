@@ -1,13 +1,13 @@
 -- Laws of readers: single bytes, what follows a part, and rows of records.
 use mathlib.Core.Path.{_≡_, refl, sym, ap, _∙_}
-use mathlib.Core.Bool.{Bool, true, false, cond, _&&_, and-false}
+use mathlib.Core.Bool.{Bool, true, false, and-false}
 use mathlib.Core.List.{List, [], _∷_, _++_, append-nil, append-assoc}
-use Prim.Native.Nat.{ℕ, zero, suc, _+_, _-_, _≤_, _<_}
+use Prim.Native.Nat.{ℕ, suc, _+_, _-_, _≤_, _<_}
 use native.Mathlib.Omega.{arith}
 use native.Mathlib.Nat.{sub-zero}
-use lib.Dec.{leb, ltb, eqb}
+use lib.Dec.{leb, ltb}
 use lib.ListN.{length, getD}
-use borrow.Author.Tests.{lt-ltb, le-ltb, le-leb, lt-leb, leb-true, leb-false, ltb-true, ltb-false}
+use borrow.Author.Tests.{lt-ltb, le-ltb, le-leb, lt-leb, leb-true, ltb-true, ltb-false}
 use Rattle.characters.specs.Cases.{by-test, clash}
 use Rattle.characters.specs.Classes.{between}
 use Rattle.book.specs.Check.{Checked, refused, accepted, andThen, Reader, checked, row, total}
@@ -29,13 +29,13 @@ between-high low high b e = by-test (leb b high) (λ t. leb-true b high t) (λ t
 
 -- ---- A byte
 module _ (fits : ℕ → Bool) (number at : ℕ) (book : List ℕ) (place : ℕ) where
-  pub checked-short : length book ≤ place → checked fits number at book place ≡ refused 3 (length book)
-  unfolding checked
-  checked-short h = rw (le-ltb place (length book) h)
-
   pub checked-bad : place < length book → fits (getD book place 0) ≡ false → checked fits number at book place ≡ refused number at
   unfolding checked
   checked-bad h e = rw (lt-ltb place (length book) h, e)
+
+  pub checked-short : length book ≤ place → checked fits number at book place ≡ refused 3 (length book)
+  unfolding checked
+  checked-short h = rw (le-ltb place (length book) h)
 
   pub checked-good : place < length book → fits (getD book place 0) ≡ true → checked fits number at book place ≡ accepted (getD book place 0) (place + 1)
   unfolding checked

@@ -1,21 +1,20 @@
 -- Laws of reading a book by its index, in the order in which the code asks, and of the lookups.
 use mathlib.Core.Path.{_≡_, refl, sym, ap, _∙_}
-use mathlib.Core.Bool.{Bool, true, false, cond, _&&_, _||_}
+use mathlib.Core.Bool.{true, false, cond}
 use mathlib.Core.List.{List, [], _∷_, _++_}
-use Prim.Native.Nat.{ℕ, zero, suc, _+_, _-_, _*_, _%_, _≤_, _<_}
+use Prim.Native.Nat.{ℕ, zero, suc, _+_, _-_, _%_, _≤_, _<_}
 use native.Mathlib.Omega.{arith}
-use native.Mathlib.Nat.{add-zero, add-suc, suc-add}
-use native.Mathlib.Numerals.{add-one, sub-one}
+use native.Mathlib.Nat.{add-zero}
+use native.Mathlib.Numerals.{add-one}
 use lib.Dec.{leb, ltb, eqb}
 use lib.ListN.{length, getD, drop, length-append, List·getD-append, List·getD-eq-default, drop-of-length-le}
-use lib.Seq.{getD-append-seam, drop-cons, getD-at}
-use borrow.Author.Tests.{eq-eqb, ne-eqb, ltb-true, ltb-false}
-use Rattle.characters.specs.Cases.{by-test, clash}
-use Rattle.characters.specs.Spelling.{same, partOf}
-use Rattle.characters.specs.SpellingLaws.{part-out}
-use Rattle.book.specs.Book.{Entry, Book, entryNumber, nonterminalNumber, variantNumber, stepNumbered, reservedAs, isReserved, lookupFrom, lookupName}
+use lib.Seq.{drop-cons, getD-at}
+use borrow.Author.Tests.{ltb-true, ltb-false}
+use Rattle.characters.specs.Cases.{by-test}
+use Rattle.characters.specs.Spelling.{same}
+use Rattle.book.specs.Book.{Entry, markNumber, associativityNumber, entryNumber, nonterminalNumber, variantNumber, stepNumbered, reservedAs, isReserved, lookupFrom, lookupName}
 use Rattle.book.specs.Check.{markOf, associativityOf, stepOf}
-use Rattle.book.specs.Index.{upTo, countIn, placeIn, firstIn, entryFrom, nonterminalFrom, variantFrom, stepFrom, entriesIn, bookIn}
+use Rattle.book.specs.Index.{upTo, countIn, placeIn, firstIn, entryFrom, entriesIn, bookIn}
 use Rattle.book.specs.RowLaws.{upTo-more}
 use Rattle.book.specs.declared.names.Found.{Found}
 use Rattle.book.specs.declared.records.Mark.{Mark}
@@ -23,6 +22,18 @@ use Rattle.book.specs.declared.records.Associativity.{Associativity}
 use Rattle.book.specs.declared.records.Nonterminal.{Nonterminal}
 use Rattle.book.specs.declared.records.Variant.{Variant}
 use Rattle.book.specs.declared.records.Step.{Step}
+
+-- ---- Numbers and what they stand for
+pub mark-of-number : (mark : Mark) → markOf (markNumber mark) ≡ mark
+mark-of-number Mark.Plain = refl
+mark-of-number Mark.Variable = refl
+mark-of-number Mark.Identifier = refl
+
+pub associativity-of-number : (associativity : Associativity) → associativityOf (associativityNumber associativity) ≡ associativity
+associativity-of-number Associativity.Left = refl
+associativity-of-number Associativity.Right = refl
+associativity-of-number Associativity.None = refl
+associativity-of-number Associativity.Both = refl
 
 -- ---- The values of a function below n
 module _ {A : Type 0} (f : ℕ → A) where
@@ -98,13 +109,13 @@ module _ (book index : List ℕ) where
 
 -- ---- Reserved words
 module _ (wanted : List ℕ) (words : List Entry) (i : ℕ) where
-  pub reserved-hit : i < length words → reservedAs wanted (entryNumber words i) ≡ true → isReserved (drop i words) wanted ≡ true
-  unfolding isReserved
-  reserved-hit h e = rw (drop-cons words i (record { label = 0; spelling = [] }) h, e)
-
   pub reserved-on : i < length words → reservedAs wanted (entryNumber words i) ≡ false → isReserved (drop i words) wanted ≡ isReserved (drop (i + 1) words) wanted
   unfolding isReserved
   reserved-on h e = rw (drop-cons words i (record { label = 0; spelling = [] }) h, e, add-one)
+
+  pub reserved-hit : i < length words → reservedAs wanted (entryNumber words i) ≡ true → isReserved (drop i words) wanted ≡ true
+  unfolding isReserved
+  reserved-hit h e = rw (drop-cons words i (record { label = 0; spelling = [] }) h, e)
 
   pub reserved-end : length words ≤ i → isReserved (drop i words) wanted ≡ false
   unfolding isReserved

@@ -1,18 +1,17 @@
 -- Laws of single records, in the order in which the code reads their bytes: where the reading stops, and what was read.
 use mathlib.Core.Path.{_≡_, refl, sym, ap, _∙_, fun-ext}
-use mathlib.Core.Bool.{Bool, true, false, cond, _&&_, and-false}
-use mathlib.Core.List.{List, [], _∷_}
-use Prim.Native.Nat.{ℕ, zero, suc, _+_, _-_, _≤_, _<_}
+use mathlib.Core.Bool.{Bool, true, false, cond}
+use mathlib.Core.List.{List}
+use Prim.Native.Nat.{ℕ, _+_, _-_, _≤_, _<_}
 use native.Mathlib.Omega.{arith}
 use lib.Dec.{leb, ltb, eqb}
 use lib.ListN.{length, getD}
-use borrow.Author.Tests.{lt-ltb, le-ltb, le-leb, lt-leb, eq-eqb, ne-eqb, eqb-true, eqb-false, leb-true, leb-false, ltb-true, ltb-false}
+use borrow.Author.Tests.{le-ltb, eqb-true, eqb-false, leb-true, leb-false, ltb-true, ltb-false}
 use Rattle.characters.specs.Cases.{by-test, clash}
 use Rattle.characters.specs.Classes.{between}
-use Rattle.characters.specs.Spelling.{partOf}
-use Rattle.book.specs.Check.{Checked, refused, accepted, andThen, Reader, checked, row, spelling, entry, nonterminal, variant, step, stepOf, argument, delimiter}
-use Rattle.book.specs.Index.{given, Valued, One, oneOf, RecordOf, recordFrom, entryFrom, nonterminalFrom, variantFrom, stepFrom, belowRange, argumentRange, delimiterRange, allowed}
-use Rattle.book.specs.ReaderLaws.{between-high, between-inside, between-under, between-over, ByteRead, checked-short, checked-bad, checked-good, checked-told, read, stopped, no-value, no-size}
+use Rattle.book.specs.Check.{Checked, refused, accepted, checked, nonterminal, variant, step, argument, delimiter}
+use Rattle.book.specs.Index.{given, One, oneOf, recordFrom, belowRange, argumentRange, delimiterRange, allowed}
+use Rattle.book.specs.ReaderLaws.{between-high, between-inside, between-under, between-over, ByteRead, checked-short, checked-bad, checked-good, checked-told, no-value, no-size}
 use Rattle.book.specs.declared.parts.Part.{Part}
 use Rattle.book.specs.declared.sections.Sort.{Sort}
 use Rattle.book.specs.declared.sections.Range.{Range}

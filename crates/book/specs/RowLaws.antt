@@ -1,6 +1,6 @@
 -- Laws of a row of records with its index: two numbers are stored for each record.
-use mathlib.Core.Path.{_≡_, refl, sym, ap, _∙_}
-use mathlib.Core.Bool.{Bool, true, false}
+use mathlib.Core.Path.{_≡_, refl, sym, _∙_}
+use mathlib.Core.Bool.{Bool}
 use mathlib.Core.List.{List, [], _∷_, _++_}
 use Prim.Native.Nat.{ℕ, zero, suc, _+_, _-_, _*_, _≤_, _<_}
 use native.Mathlib.Omega.{arith}
@@ -8,8 +8,8 @@ use native.Mathlib.Numerals.{add-one}
 use lib.ListN.{length, getD, set, length-set}
 use lib.Seq.{getD-set-same, getD-set-other}
 use Rattle.characters.specs.Classes.{between}
-use Rattle.book.specs.Check.{Checked, refused, accepted, checked, row, total}
-use Rattle.book.specs.Index.{given, Valued, Kept, One, Row, Few, Section, RecordOf, oneOf, sizeOf, recordFrom, recordsIn, upTo, countIn, placeIn, firstIn}
+use Rattle.book.specs.Check.{refused, accepted, checked, row, total}
+use Rattle.book.specs.Index.{Kept, One, Row, Few, Section, oneOf, sizeOf, recordFrom, recordsIn, upTo, countIn, placeIn, firstIn}
 use Rattle.book.specs.ReaderLaws.{between-high, checked-told, after, row-begins, row-refused, row-on, row-ends, read, stopped, handed, no-value, value-of, total-snoc}
 use Rattle.book.specs.declared.parts.Part.{Part}
 use Rattle.book.specs.declared.sections.Sort.{Sort}

@@ -1,23 +1,20 @@
 -- Laws of the sections one after the other. A section's records stay where they are while later sections are read.
-use mathlib.Core.Path.{_≡_, refl, sym, ap, _∙_, fun-ext}
-use mathlib.Core.Bool.{Bool, true, false, cond, not, _&&_, _||_, and-false}
-use mathlib.Core.List.{List, [], _∷_, _++_, map}
-use Prim.Native.Nat.{ℕ, zero, suc, _+_, _-_, _*_, _≤_, _<_}
+use mathlib.Core.Path.{_≡_, sym, ap, _∙_}
+use mathlib.Core.Bool.{Bool, false, and-false}
+use mathlib.Core.List.{List}
+use Prim.Native.Nat.{ℕ, _+_, _*_, _≤_, _<_}
 use native.Mathlib.Omega.{arith}
-use native.Mathlib.Numerals.{add-one}
 use lib.Dec.{leb, ltb, eqb}
-use lib.ListN.{length, getD, drop, drop-of-length-le}
-use lib.Seq.{drop-cons}
-use borrow.Author.Tests.{lt-ltb, le-ltb, le-leb, lt-leb, eq-eqb, ne-eqb, eqb-true, eqb-false, leb-true, leb-false, ltb-true, ltb-false}
-use Rattle.characters.specs.Cases.{by-test, clash}
+use lib.ListN.{length, getD}
+use borrow.Author.Tests.{eq-eqb, ne-eqb, eqb-true, eqb-false, leb-true, leb-false, ltb-true, ltb-false}
+use Rattle.characters.specs.Cases.{by-test}
 use Rattle.characters.specs.Classes.{between}
-use Rattle.book.specs.Book.{Entry, Book, stepNumber, stepNumbered, variantNumber}
-use Rattle.book.specs.Check.{Checked, refused, accepted, andThen, Reader, checked, row, section, placed, entry, nonterminal, variant, step, total, passes, allPass, ended, whole, Outcome, outcome, checkBook}
-use Rattle.book.specs.Index.{given, Valued, Few, Kept, Section, RecordOf, sizeOf, oneOf, recordFrom, recordsIn, upTo, countIn, placeIn, firstIn, entriesIn, nonterminalsIn, placedIn, stepsIn, variantFrom, bookIn, followed, Heads, heads, HeadsRead, variantsFit, Sections, fiveSections, SectionsRead, verdict}
-use Rattle.book.specs.ReaderLaws.{between-inside, between-under, between-over, checked-short, checked-bad, read, stopped, handed, no-value, value-of}
+use Rattle.book.specs.Book.{Entry, Book}
+use Rattle.book.specs.Check.{Checked, andThen, checked, row, section, placed, entry, nonterminal, variant, step, total}
+use Rattle.book.specs.Index.{given, Few, Kept, Section, sizeOf, oneOf, recordsIn, countIn, placeIn, firstIn, entriesIn, nonterminalsIn, placedIn, stepsIn, followed, HeadsRead, variantsFit, SectionsRead}
+use Rattle.book.specs.ReaderLaws.{between-inside, between-under, between-over, no-value, value-of}
 use Rattle.book.specs.RowLaws.{upTo-same, not-few}
-use Rattle.book.specs.ReadingLaws.{upTo-in, upTo-length}
-use Rattle.book.specs.declared.checking.Verdict.{Verdict}
+use Rattle.book.specs.ReadingLaws.{upTo-length}
 use Rattle.book.specs.declared.parts.Part.{Part}
 use Rattle.book.specs.declared.sections.Sort.{Sort}
 use Rattle.book.specs.declared.records.Variant.{Variant}

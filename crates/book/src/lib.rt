@@ -28,6 +28,7 @@ pub use names::word;
 pub use names::word_label;
 pub use reading::nonterminal;
 pub use reading::step;
+pub use reading::step_number;
 pub use reading::variant;
 pub use records::Associativity;
 pub use records::Mark;

@@ -9,13 +9,13 @@ use native.Mathlib.Numerals.{add-one}
 use lib.Dec.{ltb, eqb}
 use lib.ListN.{length, getD, drop, drop-of-length-le}
 use lib.Seq.{drop-cons, getD-drop}
-use borrow.Author.Tests.{lt-ltb, le-ltb, eq-eqb, eqb-true, eqb-false, ltb-true, ltb-false}
-use Rattle.characters.specs.Cases.{by-test, clash}
+use borrow.Author.Tests.{eqb-true, eqb-false, ltb-true, ltb-false}
+use Rattle.characters.specs.Cases.{by-test}
 use Rattle.characters.specs.Classes.{isOf, classOf}
-use Rattle.characters.specs.Skipping.{belongs, spanEnd, commentAt, commentEnd, roundEnd, rounds, skipFrom}
+use Rattle.characters.specs.Skipping.{spanEnd, commentAt, commentEnd, roundEnd, rounds, skipFrom}
 use Rattle.characters.specs.SkippingLaws.{span-on, span-stop, span-out, comment-on, comment-line-feed, comment-out, comment-slash, comment-inside, round-comment, round-plain, rounds-stop, rounds-on, skip-no-comment, skip-no-whitespace}
 use Rattle.characters.specs.declared.classes.Class.the-variants.{Whitespace}
-use Rattle.characters.specs.declared.skipping.Span.the-variants.{Spaces, Line}
+use Rattle.characters.specs.declared.skipping.Span.the-variants.{Spaces}
 
 -- how many bytes are dropped, inside a comment or not
 unfoldable pub pass : Bool → List ℕ → ℕ

@@ -1,10 +1,9 @@
 -- Laws of spans and of skipping.
 use mathlib.Core.Path.{_≡_, refl, sym, ap, _∙_}
-use mathlib.Core.Bool.{Bool, true, false, not, _&&_, cond, false-and}
+use mathlib.Core.Bool.{Bool, true, false, not}
 use mathlib.Core.List.{List, [], _∷_}
 use Prim.Native.Nat.{ℕ, zero, suc, _+_, _-_, _≤_, _<_}
 use native.Mathlib.Omega.{arith}
-use native.Mathlib.Nat.{add-zero, add-suc, suc-add}
 use native.Mathlib.Numerals.{add-one}
 use lib.Dec.{ltb, eqb}
 use lib.ListN.{length, getD, drop, length-drop, drop-of-length-le, List·getD-eq-default}
@@ -15,7 +14,7 @@ use Rattle.characters.specs.Classes.{isOf, classOf}
 use Rattle.characters.specs.Skipping.{belongs, leading, spanEnd, commentAt, commentEnd, roundEnd, rounds, skipFrom}
 use Rattle.characters.specs.declared.classes.Class.the-variants.{Whitespace}
 use Rattle.characters.specs.declared.skipping.Span.{Span}
-use Rattle.characters.specs.declared.skipping.Span.the-variants.{Spaces, Line, Word, Digits}
+use Rattle.characters.specs.declared.skipping.Span.the-variants.{Spaces, Line}
 
 -- ---- The leading bytes of a list
 module _ (test : ℕ → Bool) where

@@ -1,3 +1,4 @@
+-- `book::all_pass` meets its contract. The invariant: the variants from j on decide.
 use mathlib.Core.Path.{_≡_, refl, sym, _∙_}
 use Prim.Native.Nat.{_-_}
 use native.Mathlib.Omega.{arith}

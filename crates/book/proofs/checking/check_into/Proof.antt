@@ -1,3 +1,4 @@
+-- `book::check_into` meets its contract.
 use borrow.Author.Needs.{needs}
 use Rattle.book.specs.EndLaws.{into-short, into-long}
 use Rattle.book.proofs.checking.check_into.Statement.{statement}

@@ -1,3 +1,4 @@
+-- `book::checked` meets its contract: each way out is one law of EndLaws.
 use mathlib.Core.Path.{ap, _∙_}
 use borrow.Author.Needs.{needs}
 use Rattle.book.specs.EndLaws.{checks-sections, checks-passing, checks-over, checks-accepted}

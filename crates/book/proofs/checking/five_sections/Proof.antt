@@ -1,3 +1,4 @@
+-- `book::five_sections` meets its contract: each way out is one law of WholeLaws.
 use borrow.Author.Needs.{needs}
 use Rattle.book.specs.WholeLaws.{sections-heads, sections-variants, sections-all}
 use Rattle.book.proofs.checking.five_sections.Statement.{statement}

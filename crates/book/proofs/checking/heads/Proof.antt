@@ -1,3 +1,4 @@
+-- `book::heads` meets its contract: each way out is one law of WholeLaws.
 use borrow.Author.Needs.{needs}
 use Rattle.book.specs.WholeLaws.{heads-words, heads-names, heads-all}
 use Rattle.book.proofs.checking.heads.Statement.{statement}

@@ -1,3 +1,4 @@
+-- `book::passes` meets its contract.
 use borrow.Author.Needs.{needs}
 use Rattle.book.specs.EndLaws.{passes-plain, passes-not-one, passes-one}
 use Rattle.book.specs.Index.{bookIn}

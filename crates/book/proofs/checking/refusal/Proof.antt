@@ -1,3 +1,4 @@
+-- `book::refusal` meets its contract.
 use borrow.Author.Needs.{needs}
 use Rattle.book.proofs.checking.refusal.Statement.{statement}
 use Rattle.book.proofs.checking.refusal.Tie as tie

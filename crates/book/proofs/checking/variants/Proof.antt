@@ -1,3 +1,4 @@
+-- `book::variants` meets its contract: the range asked of the count says the same as the test of `checkBook`.
 use native.Mathlib.Omega.{arith}
 use lib.ListN.{getD}
 use borrow.Author.Needs.{needs}

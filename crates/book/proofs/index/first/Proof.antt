@@ -1,3 +1,4 @@
+-- `book::first` meets its contract: past the end both give 0.
 use mathlib.Core.Path.{sym}
 use native.Mathlib.Omega.{arith}
 use lib.ListN.{List·getD-eq-default}

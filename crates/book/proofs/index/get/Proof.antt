@@ -1,3 +1,4 @@
+-- `book::get` meets its contract: past the end both give 0.
 use mathlib.Core.Path.{sym}
 use lib.ListN.{List·getD-eq-default}
 use borrow.Author.Needs.{needs}

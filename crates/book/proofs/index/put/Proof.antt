@@ -1,3 +1,4 @@
+-- `book::put` meets its contract: past the end nothing is stored.
 use mathlib.Core.Path.{sym}
 use lib.Seq.{set-out}
 use borrow.Author.Needs.{needs}

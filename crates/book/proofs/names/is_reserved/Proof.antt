@@ -1,3 +1,4 @@
+-- `book::is_reserved` meets its contract. The invariant: the words from i on decide.
 use mathlib.Core.Path.{_≡_, refl, sym, _∙_}
 use Prim.Native.Nat.{_-_}
 use native.Mathlib.Omega.{arith}

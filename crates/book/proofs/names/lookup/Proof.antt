@@ -1,3 +1,4 @@
+-- `book::lookup` meets its contract. The invariant: the names below i decide.
 use mathlib.Core.Path.{_≡_, sym, ap, _∙_}
 use Prim.Native.Nat.{_≤_}
 use native.Mathlib.Omega.{arith}

@@ -1,3 +1,4 @@
+-- `book::name` meets its contract.
 use borrow.Author.Needs.{needs}
 use Rattle.book.specs.Index.{bookIn}
 use Rattle.book.proofs.names.name.Statement.{statement}

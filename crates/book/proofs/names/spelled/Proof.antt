@@ -1,3 +1,4 @@
+-- `book::spelled` meets its contract.
 use mathlib.Core.Path.{_∙_}
 use borrow.Author.Needs.{needs}
 use Rattle.book.proofs.names.spelled.Statement.{statement}

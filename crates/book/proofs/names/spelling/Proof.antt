@@ -1,3 +1,4 @@
+-- `book::spelling` (of names) meets its contract.
 use mathlib.Core.Path.{sym, ap, _∙_}
 use borrow.Author.Needs.{needs}
 use Rattle.book.specs.Book.{Entry}

@@ -1,3 +1,4 @@
+-- `book::spelling_from` meets its contract: beyond the book's end the part is empty.
 use mathlib.Core.Path.{sym, _∙_}
 use Prim.Native.Nat.{_+_}
 use native.Mathlib.Omega.{arith}

@@ -1,3 +1,4 @@
+-- `book::field` meets its contract.
 use borrow.Author.Needs.{needs}
 use Rattle.book.specs.ReaderLaws.{checked-short, field-low, field-high, field-read}
 use Rattle.book.proofs.parts.field.Statement.{statement}

@@ -1,3 +1,4 @@
+-- `book::associativity_of` meets its contract, number by number.
 use borrow.Author.Tests.{ne-eqb}
 use Rattle.book.proofs.reading.associativity_of.Statement.{statement}
 use Rattle.book.proofs.reading.associativity_of.Tie as tie

@@ -1,3 +1,4 @@
+-- `book::nonterminal` (of reading) meets its contract.
 use borrow.Author.Needs.{needs}
 use Rattle.book.specs.ReadingLaws.{nonterminal-in, nonterminal-out}
 use Rattle.book.proofs.reading.nonterminal.Statement.{statement}

@@ -1,3 +1,4 @@
+-- `book::step` (of reading) meets its contract.
 use borrow.Author.Needs.{needs}
 use Rattle.book.specs.ReadingLaws.{step-in, step-out}
 use Rattle.book.proofs.reading.step.Statement.{statement}

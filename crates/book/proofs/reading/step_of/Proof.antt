@@ -1,3 +1,4 @@
+-- `book::step_of` meets its contract, kind by kind.
 use borrow.Author.Tests.{ne-eqb}
 use Rattle.book.specs.Check.{stepOf}
 use Rattle.book.proofs.reading.step_of.Statement.{statement}

@@ -1,3 +1,4 @@
+-- `book::variant` (of reading) meets its contract.
 use borrow.Author.Needs.{needs}
 use Rattle.book.specs.ReadingLaws.{variant-in, variant-out}
 use Rattle.book.proofs.reading.variant.Statement.{statement}

@@ -1,3 +1,4 @@
+-- `book::arguments` meets its contract, kind by kind; a number that is none of the fourteen is above 13.
 use borrow.Author.Needs.{zero≤, needs}
 use borrow.Author.Tests.{lt-leb}
 use Rattle.book.specs.RecordLaws.{past}

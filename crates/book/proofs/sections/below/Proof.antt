@@ -1,3 +1,4 @@
+-- `book::below` meets its contract.
 use borrow.Author.Needs.{needs}
 use borrow.Author.Tests.{eq-eqb, ne-eqb}
 use Rattle.book.proofs.sections.below.Statement.{statement}

@@ -1,3 +1,4 @@
+-- `book::least_associativity` meets its contract.
 use borrow.Author.Tests.{eq-eqb, ne-eqb}
 use Rattle.book.proofs.sections.least_associativity.Statement.{statement}
 use Rattle.book.proofs.sections.least_associativity.Tie as tie

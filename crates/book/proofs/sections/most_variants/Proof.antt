@@ -1,3 +1,4 @@
+-- `book::most_variants` meets its contract.
 use borrow.Author.Tests.{eq-eqb, ne-eqb}
 use Rattle.book.proofs.sections.most_variants.Statement.{statement}
 use Rattle.book.proofs.sections.most_variants.Tie as tie

@@ -1,3 +1,4 @@
+-- `book::nonterminal` (of sections) meets its contract: each way out is one law of RecordLaws.
 use borrow.Author.Needs.{needs}
 use Rattle.book.specs.ReaderLaws.{read, stopped}
 use Rattle.book.specs.RecordLaws.{one-refused, nonterminal-stop, nonterminal-read}

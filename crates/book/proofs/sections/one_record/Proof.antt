@@ -1,3 +1,4 @@
+-- `book::one_record` meets its contract, sort by sort.
 use borrow.Author.Needs.{needs}
 use Rattle.book.proofs.sections.one_record.Statement.{statement}
 use Rattle.book.proofs.sections.one_record.Tie as tie

@@ -1,3 +1,4 @@
+-- `book::section` meets its contract.
 use native.Mathlib.Omega.{arith}
 use borrow.Author.Needs.{needs}
 use Rattle.book.specs.ReaderLaws.{read, stopped}

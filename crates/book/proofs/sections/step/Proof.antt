@@ -1,3 +1,4 @@
+-- `book::step` (of sections) meets its contract: each way out is one law of RecordLaws.
 use mathlib.Core.Path.{refl, sym, _∙_}
 use borrow.Author.Needs.{needs}
 use Rattle.book.specs.ReaderLaws.{read, stopped}

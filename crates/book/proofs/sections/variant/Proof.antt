@@ -1,3 +1,4 @@
+-- `book::variant` (of sections) meets its contract: each way out is one law of RecordLaws.
 use borrow.Author.Needs.{needs}
 use Rattle.book.specs.ReaderLaws.{read, stopped}
 use Rattle.book.specs.RecordLaws.{one-refused, variant-stop-level, variant-stop-associativity, variant-stop-flags, variant-read}

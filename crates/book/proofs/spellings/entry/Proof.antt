@@ -1,3 +1,4 @@
+-- `book::entry` meets its contract.
 use borrow.Author.Needs.{needs}
 use Rattle.book.specs.EntryLaws.{entry-stop, entry-read}
 use Rattle.book.specs.ReaderLaws.{read, stopped}

@@ -1,3 +1,4 @@
+-- `book::spelling` (of spellings) meets its contract.
 use borrow.Author.Needs.{needs}
 use Rattle.book.specs.EntryLaws.{spelling-stop, spelling-read}
 use Rattle.book.specs.ReaderLaws.{read, stopped, handed, no-value}
