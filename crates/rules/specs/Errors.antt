@@ -1,0 +1,74 @@
+-- Document 01, "Errors".
+use mathlib.Core.Bool.{Bool, cond, _&&_, _||_}
+use mathlib.Core.List.{List}
+use mathlib.Core.Option.{Option, none, some}
+use Prim.Native.Nat.{ℕ}
+use lib.Dec.{leb, ltb, eqb}
+use lib.ListN.{length}
+use Rattle.characters.specs.Skipping.{skipFrom}
+use Rattle.characters.specs.Tokens.{numberAt}
+use Rattle.characters.specs.declared.tokens.Number.{Number}
+use Rattle.book.specs.Book.{Book}
+use Rattle.book.specs.declared.records.Step.{Step}
+use Rattle.rules.specs.Tokens.{identifierEnd, reservedAt, variableAt, isSome, when}
+
+pub record Error : Type 0 where
+  pub place : ℕ
+  pub kind : ℕ
+  pub argument : ℕ
+
+abbrev pub error : ℕ → ℕ → ℕ → Error
+error place kind argument = record { place = place; kind = kind; argument = argument }
+
+-- "The furthest place wins, then least kind, then least argument"
+abbrev pub wins : Error → Error → Bool
+wins a b =
+    ltb (b .place) (a .place)
+    || (eqb (a .place) (b .place) && (ltb (a .kind) (b .kind) || (eqb (a .kind) (b .kind) && leb (a .argument) (b .argument))))
+
+unfoldable pub join : Error → Error → Error
+join a b = cond (wins a b) a b
+
+-- an error that counts only beyond a skipped place: errors stand at skipped places, so "more than skipped text lies between" is just that
+unfoldable pub beyond : ℕ → Error → Option Error
+beyond place e = cond (ltb place (e .place)) (some e) none
+
+unfoldable pub joinWith : Option Error → Option Error → Option Error
+joinWith none b = b
+joinWith (some a) none = some a
+joinWith (some a) (some b) = some (join a b)
+
+-- "When both sides of a choice fail, errors that consumed nothing since it drop; if none remain, 12 there", with "the variant's nonterminal"
+unfoldable pub choiceError : ℕ → ℕ → Error → Error → Error
+choiceError at N a b = elim (beyond at (join a b)) [ some e ↦ e | none ↦ error at 12 N ]
+
+-- what a step of kinds 0 to 7 gives where it reads no token: "1 character (its code); 2 word (number); 3 identifier wanted; 4 text ended where step kinds
+-- 2 to 5 wanted a token; 5 variable found; 6 reserved word found; 7 unknown name; 8 wrong kind (kind wanted); 9 digits wanted; 10 number too large"
+module _ (book : Book) (text : List ℕ) where
+  -- an identifier was wanted: the text ended, none is there, or it is reserved; else another kind of error
+  unfoldable pub identifierError : ℕ → Error → Error
+  identifierError at other =
+      when (eqb at (length text)) (λ _. error at 4 0)
+      (λ _. when (reservedAt book text at) (λ _. error at 6 0) (λ _. elim (identifierEnd book text at) [ some end ↦ other | none ↦ error at 3 0 ]))
+
+  -- kinds 8 to 13 read no token and are never asked for, but for the opening of kind 12
+  unfoldable pub tokenError : Step → ℕ → Error
+  tokenError (Step.Character a) place = error (skipFrom text place) 1 a
+  tokenError (Step.Word a) place = error (skipFrom text place) 2 a
+  tokenError Step.Identifier place = let at = skipFrom text place in identifierError at (error at 3 0)
+  tokenError Step.Number place =
+      let at = skipFrom text place in
+      when (eqb at (length text)) (λ _. error at 4 0)
+      (λ _. elim (numberAt text at) [ Number.Nothing ↦ error at 9 0 | Number.TooLarge ↦ error at 10 0 | Number.Value value end ↦ error at 10 0 ])
+  tokenError Step.Variable place = let at = skipFrom text place in identifierError at (error at 7 0)
+  tokenError (Step.VariableOfKind a) place =
+      let at = skipFrom text place in
+      identifierError at (when (isSome (variableAt book text at)) (λ _. error at 8 a) (λ _. error at 7 0))
+  tokenError Step.RejectVariable place = error (skipFrom text place) 5 0
+  tokenError Step.RejectReserved place = error (skipFrom text place) 6 0
+  tokenError (Step.Nonterminal a) place = error (skipFrom text place) 11 a
+  tokenError (Step.Optional a) place = error (skipFrom text place) 11 a
+  tokenError (Step.Many a) place = error (skipFrom text place) 11 a
+  tokenError (Step.CommaList a) place = error (skipFrom text place) 11 a
+  tokenError (Step.Delimited a b c) place = error (skipFrom text place) 1 b
+  tokenError (Step.OptionalDelimited a b c) place = error (skipFrom text place) 11 a

@@ -1,0 +1,10 @@
+pub mod Values
+pub mod Uses
+pub mod Tokens
+pub mod Steps
+pub mod Derivations
+pub mod Cells
+pub mod Errors
+pub mod Run
+pub mod Answer
+pub mod Rows
