@@ -6,5 +6,6 @@ pub mod Derivations
 pub mod Cells
 pub mod Errors
 pub mod Run
+pub mod RoundLaws
 pub mod Answer
 pub mod Rows

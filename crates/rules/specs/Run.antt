@@ -173,7 +173,7 @@ module _ (book : Book) (text : List ℕ) (allowance : ℕ) where
         variants run c m (nt .number) (nt .first) [] none s
 
     -- "they are set to all found, and it is run again until a run fails or adds nothing"; a run that fails has no parse to add. Each run but the last adds
-    -- one, and a 65th meets 22, so that 65 runs are always enough
+    -- one, and a 65th meets 22, so that 65 runs are always enough (RoundLaws)
     unfoldable pub rounds : ℕ → Runner → Call → ℕ → State → Result Found
     rounds zero run c m s = ok (found (c .mine) none s)
     rounds (suc n) run c m s =
