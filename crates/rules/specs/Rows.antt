@@ -92,6 +92,10 @@ ownWith flags = 0 ∷ 0 ∷ 1 ∷ 0 ∷ 2 ∷ 2 ∷ 255 ∷ 3 ∷ 1 ∷ 1 ∷ 1 
 abbrev pub manyEmpty : ℕ → List ℕ → List ℕ
 manyEmpty steps more = 0 ∷ 0 ∷ 2 ∷ 0 ∷ 1 ∷ 0 ∷ 1 ∷ 2 ∷ 255 ∷ 3 ∷ 1 ∷ steps ∷ 255 ∷ 3 ∷ 1 ∷ 0 ∷ steps ∷ 10 ∷ 1 ∷ 0 ∷ 0 ∷ more
 
+-- one nonterminal with two empty variants
+abbrev pub twoEmpty : List ℕ
+twoEmpty = 0 ∷ 0 ∷ 1 ∷ 0 ∷ 2 ∷ 2 ∷ 255 ∷ 3 ∷ 1 ∷ 0 ∷ 255 ∷ 3 ∷ 1 ∷ 0 ∷ 0 ∷ []
+
 pub record More : Type 0 where
   -- `1`, by a passing variant
   pub passing : reads (ownWith 3) (49 ∷ []) ≡ value (n 1) 2
@@ -106,7 +110,9 @@ pub record More : Type 0 where
   -- row 2 takes 75 units, and not one less
   pub enough : readsWithin 75 (example 0) (49 ∷ 45 ∷ 50 ∷ 42 ∷ 51 ∷ []) ≡ value (minus (n 1) (times (n 2) (n 3))) 3
   pub tooFew : readsWithin 74 (example 0) (49 ∷ 45 ∷ 50 ∷ 42 ∷ 51 ∷ []) ≡ refused 20 0 0 0
+  -- the variants run in their order: the first one's cell comes first
+  pub order : take 9 (answerOf (replicate 12288 0) (replicate 256 0) twoEmpty [] 0 1000000 .cells) ≡ 1 ∷ 0 ∷ 0 ∷ 3 ∷ 0 ∷ 1 ∷ 3 ∷ 1 ∷ 1 ∷ []
 
 pub more : More
 unfolding classOf leading spanEnd commentAt commentEnd roundEnd rounds skipFrom identifierAt decimal numberOf numberAt same isReserved lookupFrom checked row spelling entry nonterminal variant stepOf step allPass ended whole checkBook outwards govern governor isSome isKind ofKind characterEnd identifierEnd reservedAt freeEnd variableAt tokenAt claimed afterElement closed numbersOf cellsIn identityOf findCell treeIn treesIn meaningOf meanings join beyond joinWith choiceError identifierError tokenError _>>=_ sameParse has allIn kept add addAll ask newest others spend make itemCell withCell withToken nested begin counted variants oneRun roundsRun failedCall runCall runIdentifier stored enter child either follow followed plainNext listNext chosen stops choice listing steps runner run cellNumbers parseNumbers written wholeValues allAre firstHigh byValues ending onBook answerOf
-more = record { passing = refl; unpassing = refl; lastStep = refl; missingCharacter = refl; longest = refl; tooLong = refl; enough = refl; tooFew = refl }
+more = record { passing = refl; unpassing = refl; lastStep = refl; missingCharacter = refl; longest = refl; tooLong = refl; enough = refl; tooFew = refl; order = refl }
