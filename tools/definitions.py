@@ -523,10 +523,13 @@ class Parser:
         return left
 
     def do_block(self):
-        """`x ← e` and what follows is `e >>= (λ x. ..)`."""
+        """`x ← e` and what follows is `e >>= (λ x. ..)`. The block ends with the bracket in which it stands."""
         word = self.next("do")
-        lines = blocks(self.words[self.at:])
-        self.at = len(self.words)
+        first, depth = self.at, 0
+        while self.at < len(self.words) and (depth > 0 or self.words[self.at].text not in CLOSING):
+            depth += (self.words[self.at].text in OPENING) - (self.words[self.at].text in CLOSING)
+            self.at += 1
+        lines = blocks(self.words[first:self.at])
         result = None
         for line in reversed(lines):
             if result is None:

@@ -5,9 +5,9 @@
 
 A vector is one JSON object a line: the call's book and text (hexadecimal), start, allowance, cells_len and parses_len (12,288 and 256
 where not given), and its answer, cells and parses (cells null where both lists stay untouched). Chosen are the vectors of files named
-open.jsonl up to a work of 1,000, one of the least work for each refusal, error kind, step kind, mark, associativity and number of parses, and others evenly,
-each of a work that the prover computes in less than a second."""
-import json, os, re, sys
+by_hand.jsonl and open.jsonl up to a work of 1,000, one of the least work for each refusal, error kind, step kind, mark, associativity and
+number of parses, and others evenly, each of a work that the prover computes in less than a second."""
+import itertools, json, os, re, sys
 
 ROOT = os.path.dirname(os.path.dirname(os.path.abspath(__file__)))
 MOST_WORK, WANTED, A_GROUP = 60, 180, 20
@@ -50,7 +50,7 @@ def chosen(files):
         stem = os.path.splitext(os.path.basename(path))[0]
         for number, line in enumerate(open(path), 1):
             vector = json.loads(line)
-            if stem == "open" and vector["answer"][4] <= 1000:
+            if stem in ("by_hand", "open") and vector["answer"][4] <= 1000:
                 result.append((f"{stem} {number}", vector))
                 shown |= features(vector)
             elif vector["answer"][4] <= MOST_WORK and len(vector["text"]) < 400 and vector["answer"][0] != 22:
@@ -67,8 +67,19 @@ def chosen(files):
     return result
 
 
-def numbers(values):
-    return "(" + " ∷ ".join(map(str, values)) + " ∷ [])" if values else "[]"
+def numbers(values, then="[]"):
+    """A list of numbers, and what follows them; a hundred equal ones or more by `replicate`."""
+    result = ""
+    for value, run in itertools.groupby(values):
+        size = len(list(run))
+        result += f"replicate {size} {value} ++ (" if size >= 100 else f"{value} ∷ " * size
+    return "(" + result + then + ")" * (result.count("(") + 1) if result else then
+
+
+def filled(values, used, size):
+    """A list at exit: these numbers, zeros up to the used part's end, and what was lent."""
+    unused = f"zeros {used - len(values)} {size - used}"
+    return numbers(values, unused) if values else f"({unused})"
 
 
 def equation(vector):
@@ -80,8 +91,7 @@ def equation(vector):
     if vector["cells"] is None:
         return f"{call} ≡ gives (answer {answer}) (replicate {cells_size} 7) (replicate {parses_size} 7)"
     parses = [number for parse in vector["parses"] for number in parse]
-    cells = f"(written 12288 {numbers(vector['cells'])} (replicate {cells_size} 7))"
-    return f"{call} ≡ gives (answer {answer}) {cells} (written 256 {numbers(parses)} (replicate {parses_size} 7))"
+    return f"{call} ≡ gives (answer {answer}) {filled(vector['cells'], 12288, cells_size)} {filled(parses, 256, parses_size)}"
 
 
 def imports(names):
@@ -115,7 +125,7 @@ def main():
     with open(f"{ROOT}/crates/vectors/specs/Answers.antt", "w") as out:
         out.write(f"""-- The definitions on {len(vectors)} vectors, every number compared. Written by tools/vector_theorems.py.
 use mathlib.Core.Path.{{_≡_, refl}}
-use mathlib.Core.List.{{List, [], _∷_}}
+use mathlib.Core.List.{{List, [], _∷_, _++_}}
 use Prim.Native.Nat.{{ℕ}}
 use lib.ListN.{{replicate}}
 {uses}
@@ -126,10 +136,9 @@ gives a cells parses = record {{ answer = a; cells = cells; parses = parses }}
 abbrev call : ℕ → ℕ → List ℕ → List ℕ → ℕ → ℕ → Answered
 call cellsSize parsesSize book text start allowance = answerOf (replicate cellsSize 7) (replicate parsesSize 7) book text start allowance
 
--- what is written over a longer list
-longer : written 6 (1 ∷ 2 ∷ 3 ∷ []) (replicate 8 7) ≡ 1 ∷ 2 ∷ 3 ∷ 0 ∷ 0 ∷ 0 ∷ 7 ∷ 7 ∷ []
-unfolding written
-longer = refl
+-- the rest of a list at exit: so many zeros, and so many numbers as they were
+abbrev zeros : ℕ → ℕ → List ℕ
+zeros unused beyond = replicate unused 0 ++ replicate beyond 7
 """)
         for first in range(0, len(vectors), A_GROUP):
             group = vectors[first : first + A_GROUP]

@@ -10,7 +10,7 @@ use Rattle.book.specs.Check.{checkBook, Outcome}
 use Rattle.rules.specs.Values.{Parse, whole}
 use Rattle.rules.specs.Tokens.{when}
 use Rattle.rules.specs.Cells.{Cell, numbersOf}
-use Rattle.rules.specs.Run.{Result, met, ok, Found, run}
+use Rattle.rules.specs.Run.{Result, met, ok, Parsed, run}
 
 -- "refusal (0 if none), place, kind, argument, work, number of parses, value cell"
 pub record Answer : Type 0 where
@@ -69,18 +69,18 @@ module _ (cells parses : List ℕ) where
   cleared a = record { answer = a; cells = written 12288 [] cells; parses = written 256 [] parses }
 
   -- "31, 32: lists as on success"
-  abbrev pub filled : Answer → Found → Answered
+  abbrev pub filled : Answer → Parsed → Answered
   filled a r = record { answer = a; cells = written 12288 (cellNumbers (r .state .cells)) cells; parses = written 256 (parseNumbers (r .set)) parses }
 
   -- the end: 31, 32 or a value
-  unfoldable pub byValues : List ℕ → Found → Answered
+  unfoldable pub byValues : List ℕ → Parsed → Answered
   byValues [] r = filled (answer 31 0 0 0 (r .state .work) (length (r .set)) 0) r
   byValues (v ∷ vs) r =
       when (allAre v vs) (λ _. filled (answer 0 0 0 0 (r .state .work) (length (r .set)) v) r) (λ _. filled (answer 32 0 0 0 (r .state .work) (length (r .set)) 0) r)
 
-  unfoldable pub ending : List ℕ → Result Found → Answered
-  ending text (met number work) = cleared (answer number 0 0 0 work 0 0)
-  ending text (ok r) =
+  unfoldable pub atEnd : List ℕ → Result Parsed → Answered
+  atEnd text (met number work) = cleared (answer number 0 0 0 work 0 0)
+  atEnd text (ok r) =
       elim (r .failure) [
         | some e ↦ cleared (answer 30 (e .place) (e .kind) (e .argument) (r .state .work) 0 0)
         | none ↦ byValues (wholeValues text (r .set)) r
@@ -91,7 +91,7 @@ module _ (cells parses : List ℕ) where
   onBook book text start allowance =
       when (leb (length (book .nonterminals)) start) (λ _. untouched 9 0)
       (λ _. when (ltb 4096 (length text)) (λ _. untouched 10 4096)
-      (λ _. elim (firstHigh 0 text) [ some i ↦ untouched 11 i | none ↦ ending text (run book text allowance start) ]))
+      (λ _. elim (firstHigh 0 text) [ some i ↦ untouched 11 i | none ↦ atEnd text (run book text allowance start) ]))
 
   unfoldable pub answerOf : List ℕ → List ℕ → ℕ → ℕ → Answered
   answerOf bytes text start allowance =

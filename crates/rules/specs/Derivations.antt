@@ -9,10 +9,9 @@ use Rattle.characters.specs.Skipping.{skipFrom}
 use Rattle.characters.specs.Spelling.{partOf}
 use Rattle.book.specs.Book.{Book, nonterminalNumber, variantNumber}
 use Rattle.book.specs.declared.records.Associativity.{Associativity}
-use Rattle.book.specs.declared.records.Mark.{Mark}
 use Rattle.book.specs.declared.records.Step.{Step}
 use Rattle.rules.specs.Values.{Tree, Trees, none′, _▸_, variant, name, number, variable, absent, list, Parse}
-use Rattle.rules.specs.Uses.{Use, Path, useOf, minimum, same-start, governor, keeps}
+use Rattle.rules.specs.Uses.{Use, Path, base, useOf, hasMark, minimum, same-start, governor, keeps}
 use Rattle.rules.specs.Tokens.{Item, Token, freeEnd, spelled, tokenAt, characterEnd, claimed, goes, halts, afterElement, closed}
 use Rattle.rules.specs.Steps.{Todo, take′, elements, ending, todoOf}
 
@@ -30,39 +29,39 @@ abbrev pub parseOf : Book → ℕ → ℕ → Trees → Parse Tree
 parseOf book j rest items =
     record { rest = rest; level = variantNumber book j .level; associativity = variantNumber book j .associativity; value = valueOf book j items }
 
+-- what an item is
+unfoldable pub treeOf : List ℕ → Item → Tree
+treeOf text (Item.name place size) = name (partOf text place size)
+treeOf text (Item.number n) = number n
+treeOf text (Item.variable i kind) = variable i kind
+
+-- the items with a token's
+unfoldable pub withItem : List ℕ → Trees → Option Item → Trees
+withItem text items none = items
+withItem text items (some item) = items ▸ treeOf text item
+
 module _ (book : Book) (text : List ℕ) where
-  -- what an item is
-  unfoldable pub treeOf : Item → Tree
-  treeOf (Item.name place size) = name (partOf text place size)
-  treeOf (Item.number n) = number n
-  treeOf (Item.variable i kind) = variable i kind
-
-  -- the items with a token's
-  unfoldable pub withItem : Trees → Option Item → Trees
-  withItem items none = items
-  withItem items (some item) = items ▸ treeOf item
-
   mutual
     -- a use of a nonterminal, at its path and place, has a parse
     pub data Derives : Path → ℕ → ℕ → Parse Tree → Type 0 where
       -- "A derivation takes a variant whose level reaches the minimum and all its steps in turn"
-      by-variant : {P : Path} {N u m i : ℕ} {p : Parse Tree} → governor P 0 N u ≡ minimum m →
+      by-variant : {P : Path} {N u m i : ℕ} {p : Parse Tree} → governor P base N u ≡ minimum m →
           i < nonterminalNumber book N .number → leb m (variantNumber book (nonterminalNumber book N .first + i) .level) ≡ true →
           Through P N u (nonterminalNumber book N .first + i) (todoOf book (variantNumber book (nonterminalNumber book N .first + i))) u none′ p →
           Derives P N u p
       -- "Child at the governor's own start: its derivations are those at the governor's place and path, kept when .."
-      by-governor : {P Q : Path} {N u i : ℕ} {f : Use} {p : Parse Tree} → governor P 0 N u ≡ same-start i f Q →
+      by-governor : {P Q : Path} {N u i : ℕ} {f : Use} {p : Parse Tree} → governor P base N u ≡ same-start i f Q →
           Derives Q (f .nonterminal) (f .start) p → keeps f p ≡ true → Derives P N u p
       -- "A mark-2 use yields an identifier (.. level 255 Both) unless .."; its value is, "for mark 2 the spelling"
-      by-identifier : {P : Path} {N u m end : ℕ} {p : Parse Tree} → governor P 0 N u ≡ minimum m → nonterminalNumber book N .mark ≡ Mark.Identifier →
-          claimed book text P 0 u ≡ false → freeEnd book text u ≡ some end →
-          p ≡ record { rest = end; level = 255; associativity = Associativity.Both; value = name (spelled book text u end) } → Derives P N u p
+      by-identifier : {P : Path} {N u m end : ℕ} {p : Parse Tree} → governor P base N u ≡ minimum m → hasMark book 2 N ≡ true →
+          claimed book text P base u ≡ false → freeEnd book text u ≡ some end →
+          p ≡ record { rest = end; level = 255; associativity = Associativity.Both; value = name (spelled text u end) } → Derives P N u p
 
     -- a use of N at u by variant j, with this left to do at a place, after these items, has a parse. "Kinds 2 to 5 and 8 to 13 add one item, others none"
     pub data Through : Path → ℕ → ℕ → ℕ → List (Todo Trees) → ℕ → Trees → Parse Tree → Type 0 where
       done : {P : Path} {N u j x : ℕ} {items : Trees} {p : Parse Tree} → p ≡ parseOf book j x items → Through P N u j [] x items p
       by-token : {P : Path} {N u j x : ℕ} {s : Step} {t : Token} {rest : List (Todo Trees)} {items : Trees} {p : Parse Tree} →
-          tokenAt book text s x ≡ some t → Through P N u j rest (t .next) (withItem items (t .item)) p → Through P N u j (take′ s ∷ rest) x items p
+          tokenAt book text s x ≡ some t → Through P N u j rest (t .next) (withItem text items (t .item)) p → Through P N u j (take′ s ∷ rest) x items p
       by-child : {P : Path} {N u j x M : ℕ} {q p : Parse Tree} {rest : List (Todo Trees)} {items : Trees} →
           Derives (useOf book N u j (skipFrom text x) ∷ P) M (skipFrom text x) q → Through P N u j rest (q .rest) (items ▸ q .value) p →
           Through P N u j (take′ (Step.Nonterminal M) ∷ rest) x items p

@@ -49,9 +49,9 @@ module _ (book : Book) (text : List ℕ) where
   unfoldable pub identifierError : ℕ → Error → Error
   identifierError at other =
       when (eqb at (length text)) (λ _. error at 4 0)
-      (λ _. when (reservedAt book text at) (λ _. error at 6 0) (λ _. elim (identifierEnd book text at) [ some end ↦ other | none ↦ error at 3 0 ]))
+      (λ _. when (reservedAt book text at) (λ _. error at 6 0) (λ _. elim (identifierEnd text at) [ some end ↦ other | none ↦ error at 3 0 ]))
 
-  -- kinds 8 to 13 read no token and are never asked for, but for the opening of kind 12
+  -- kinds 8 to 13 read no token and are never asked for
   unfoldable pub tokenError : Step → ℕ → Error
   tokenError (Step.Character a) place = error (skipFrom text place) 1 a
   tokenError (Step.Word a) place = error (skipFrom text place) 2 a
@@ -70,5 +70,5 @@ module _ (book : Book) (text : List ℕ) where
   tokenError (Step.Optional a) place = error (skipFrom text place) 11 a
   tokenError (Step.Many a) place = error (skipFrom text place) 11 a
   tokenError (Step.CommaList a) place = error (skipFrom text place) 11 a
-  tokenError (Step.Delimited a b c) place = error (skipFrom text place) 1 b
+  tokenError (Step.Delimited a b c) place = error (skipFrom text place) 11 a
   tokenError (Step.OptionalDelimited a b c) place = error (skipFrom text place) 11 a

@@ -2,7 +2,6 @@
 use mathlib.Core.Path.{_≡_, refl, sym, _∙_}
 use mathlib.Core.Bool.{true, false}
 use mathlib.Core.List.{List, [], _∷_, _++_}
-use mathlib.Core.Option.{Option}
 use Prim.Native.Nat.{ℕ, zero, suc, _+_, _≤_, _<_}
 use native.Mathlib.Omega.{arith}
 use lib.Dec.{ltb}
@@ -11,7 +10,7 @@ use borrow.Author.Tests.{ltb-true}
 use Rattle.characters.specs.Cases.{by-test, clash}
 use Rattle.book.specs.Book.{Book}
 use Rattle.rules.specs.Values.{Parse}
-use Rattle.rules.specs.Run.{Result, met, ok, _>>=_, State, Call, call, has, allIn, add, addAll, Runner, oneRun, rounds}
+use Rattle.rules.specs.Run.{Result, met, ok, _>>=_, State, Call, withMine, has, allIn, add, addAll, Runner, oneRun, rounds}
 
 -- what follows a result agrees if it agrees where there is one
 bind-same : {A B : Type 0} (x : Result A) (f g : A → Result B) → ((a : A) → x ≡ ok a → f a ≡ g a) → (x >>= f) ≡ (x >>= g)
@@ -94,18 +93,14 @@ module _ (s : State) where
       (λ t. let full = stopped set p ps (add-full s set p new t) in let z : _≡_ {A = ℕ} 0 1 = cc in absurd (omega arith)))
 
 -- ---- Rounds
-module _ (book : Book) (text : List ℕ) (allowance : ℕ) (inner : Option (Runner book text allowance)) (run : Runner book text allowance) (m : ℕ) where
-  -- the call with all that was found
-  abbrev with-all : Call → List (Parse ℕ) → Call
-  with-all c all = call (c .path) (c .stored) (c .nonterminal) (c .start) all
-
+module _ (book : Book) (text : List ℕ) (run : Runner) (m : ℕ) where
   abbrev enough : ℕ → Call → State → Type 0
-  enough n c s = rounds book text allowance inner n run c m s ≡ rounds book text allowance inner (suc n) run c m s
+  enough n c s = rounds book text n run c m s ≡ rounds book text (suc n) run c m s
 
-  round : (n : ℕ) (c : Call) (s : State) → ((all : List (Parse ℕ)) (t : State) → Grown (c .mine) all → enough n (with-all c all) t) → enough (suc n) c s
+  round : (n : ℕ) (c : Call) (s : State) → ((all : List (Parse ℕ)) (t : State) → Grown (c .mine) all → enough n (withMine c all) t) → enough (suc n) c s
   unfolding rounds
   round n c s next =
-      bind-same (oneRun book text allowance inner run c m s) _ _ (λ r e.
+      bind-same (oneRun book text run c m s) _ _ (λ r e.
       by-test (allIn (c .mine) (r .set))
       (λ t. rw t)
       (λ t. rw t (bind-same (addAll (r .state) (c .mine) (r .set)) _ _ (λ all told. next all (r .state) (grows (r .state) (r .set) (c .mine) all told t)))))
@@ -113,10 +108,10 @@ module _ (book : Book) (text : List ℕ) (allowance : ℕ) (inner : Option (Runn
   -- a round more changes nothing
   pub one-more : (n : ℕ) (c : Call) (s : State) → 64 < suc n + length (c .mine) → enough (suc n) c s
   one-more zero c s h = round zero c s (λ all t g. let longer = g .longer in let most = g .most in absurd (omega arith))
-  one-more (suc n) c s h = round (suc n) c s (λ all t g. let longer = g .longer in one-more n (with-all c all) t (omega arith))
+  one-more (suc n) c s h = round (suc n) c s (λ all t g. let longer = g .longer in one-more n (withMine c all) t (omega arith))
 
   -- so 65 rounds are as good as any larger number
-  pub rounds-suffice : (k : ℕ) (c : Call) (s : State) → rounds book text allowance inner 65 run c m s ≡ rounds book text allowance inner (k + 65) run c m s
+  pub rounds-suffice : (k : ℕ) (c : Call) (s : State) → rounds book text 65 run c m s ≡ rounds book text (k + 65) run c m s
   rounds-suffice zero c s = refl
   rounds-suffice (suc k) c s =
       let before : k + 65 ≡ suc (k + 64) = omega arith in

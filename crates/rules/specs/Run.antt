@@ -6,11 +6,11 @@ use Prim.Native.Nat.{ℕ, zero, suc, _-_, _/_, _%_, _^_}
 use lib.Dec.{leb, ltb, eqb}
 use lib.ListN.{length, getD}
 use Rattle.characters.specs.Skipping.{skipFrom}
-use Rattle.book.specs.Book.{Book, nonterminalNumber, variantNumber, associativityNumber, markNumber}
+use Rattle.book.specs.Book.{Book, nonterminalNumber, variantNumber, associativityNumber}
 use Rattle.book.specs.declared.records.Associativity.{Associativity}
 use Rattle.book.specs.declared.records.Step.{Step}
 use Rattle.rules.specs.Values.{Parse}
-use Rattle.rules.specs.Uses.{Use, Path, useOf, minimum, same-start, governor, keeps}
+use Rattle.rules.specs.Uses.{Use, Path, base, useOf, hasMark, minimum, same-start, governor, keeps}
 use Rattle.rules.specs.Tokens.{Item, freeEnd, tokenAt, characterEnd, claimed, goes, halts, afterElement, closed, when}
 use Rattle.rules.specs.Steps.{Todo, take′, elements, ending, todoOf}
 use Rattle.rules.specs.Cells.{Cell, findCell}
@@ -32,19 +32,23 @@ pub record State : Type 0 where
   pub cells : List Cell
   pub asked : List Bool
 
--- a set of parses; an error that is handed on, if any; and the state after it. A call, choice or step that yields a parse hands on none, and one that
--- fails always has one; the variants of a call together may fail with none, and the call then has its own
-pub record Found : Type 0 where
+-- what a run gives: a set of parses; an error that is handed on, if any; and the state after it. A call, choice or step that yields a parse hands on no
+-- error, and one that fails always has one; the variants of a call together may fail with none, and the call then has its own
+pub record Parsed : Type 0 where
   pub set : List (Parse ℕ)
   pub failure : Option Error
   pub state : State
 
-abbrev pub found : List (Parse ℕ) → Option Error → State → Found
-found set failure state = record { set = set; failure = failure; state = state }
+abbrev pub parsed : List (Parse ℕ) → Option Error → State → Parsed
+parsed set failure state = record { set = set; failure = failure; state = state }
 
+-- a cell's number, and the state after it
 pub record Made : Type 0 where
   pub cell : ℕ
   pub state : State
+
+abbrev pub made : ℕ → State → Made
+made cell state = record { cell = cell; state = state }
 
 -- an open call: its path, the stored sets of the calls around it, its nonterminal and start, and its own stored set
 pub record Call : Type 0 where
@@ -56,6 +60,22 @@ pub record Call : Type 0 where
 
 abbrev pub call : Path → List (List (Parse ℕ)) → ℕ → ℕ → List (Parse ℕ) → Call
 call path stored nonterminal start mine = record { path = path; stored = stored; nonterminal = nonterminal; start = start; mine = mine }
+
+-- its stored parses are set to all found
+abbrev pub withMine : Call → List (Parse ℕ) → Call
+withMine c all = call (c .path) (c .stored) (c .nonterminal) (c .start) all
+
+-- runs what is left of a variant: of a call, a variant's number, what is left to do, a place, the items so far and the set so far
+abbrev pub Runner : Type 0
+Runner = Call → ℕ → List (Todo ℕ) → ℕ → ℕ → List (Parse ℕ) → State → Result Parsed
+
+-- runs what is left behind a list or a step, on the same level: from a place, after these items
+abbrev pub Go : Type 0
+Go = ℕ → ℕ → List (Parse ℕ) → State → Result Parsed
+
+-- runs what follows a parse of a child, one level further in
+abbrev pub Next : Type 0
+Next = Parse ℕ → State → Runner → List (Parse ℕ) → Result Parsed
 
 -- ---- Sets: "in first-found order"
 unfoldable pub sameParse : Parse ℕ → Parse ℕ → Bool
@@ -97,264 +117,262 @@ unfoldable pub others : List Bool → List Bool
 others [] = []
 others (b ∷ bs) = bs
 
--- the call is opened, or over
-abbrev pub opened : State → State
-opened s = record { work = s .work; cells = s .cells; asked = false ∷ s .asked }
+abbrev pub withAsked : State → List Bool → State
+withAsked s asked = record { work = s .work; cells = s .cells; asked = asked }
 
-abbrev pub over : State → State
-over s = record { work = s .work; cells = s .cells; asked = others (s .asked) }
+-- ---- Work and cells
+-- 20, "a unit beyond the allowance"
+unfoldable pub spend : ℕ → State → Result State
+spend allowance s =
+    when (ltb (s .work) allowance) (λ _. ok (record { work = suc (s .work); cells = s .cells; asked = s .asked })) (λ _. met 20 allowance)
 
-abbrev pub nth : ℕ → List (List (Parse ℕ)) → List (Parse ℕ)
-nth i sets = getD sets i []
+-- 23, "a 4,097th cell"
+unfoldable pub make : List ℕ → Cell → State → Result Made
+make text c s =
+    let i = findCell text c 1 (s .cells) in
+    when (eqb i 0)
+    (λ _.
+    when (ltb (length (s .cells)) 4096)
+    (λ _. ok (made (suc (length (s .cells))) (record { work = s .work; cells = s .cells ++ (c ∷ []); asked = s .asked })))
+    (λ _. met 23 (s .work)))
+    (λ _. ok (made i s))
 
-module _ (book : Book) (text : List ℕ) (allowance : ℕ) where
-  -- ---- Work and cells
-  -- 20, "a unit beyond the allowance"
-  unfoldable pub spend : State → Result State
-  spend s = when (ltb (s .work) allowance) (λ _. ok (record { work = suc (s .work); cells = s .cells; asked = s .asked })) (λ _. met 20 allowance)
+unfoldable pub itemCell : Item → Cell
+itemCell (Item.name place size) = Cell.name place size
+itemCell (Item.number n) = Cell.number (n / 2 ^ 32) (n % 2 ^ 32)
+itemCell (Item.variable i kind) = Cell.variable i kind
 
-  -- 23, "a 4,097th cell"
-  unfoldable pub make : Cell → State → Result Made
-  make c s =
-      let i = findCell text c 1 (s .cells) in
-      when (eqb i 0)
-      (λ _.
-      when (ltb (length (s .cells)) 4096)
-      (λ _. ok (record { cell = suc (length (s .cells)); state = record { work = s .work; cells = s .cells ++ (c ∷ []); asked = s .asked } }))
-      (λ _. met 23 (s .work)))
-      (λ _. ok (record { cell = i; state = s }))
+-- ---- Errors
+-- "With none, a call gives 11 at its start"
+unfoldable pub failedCall : Call → Option Error → Error
+failedCall c none = error (c .start) 11 (c .nonterminal)
+failedCall c (some e) = e
 
-  unfoldable pub itemCell : Item → Cell
-  itemCell (Item.name place size) = Cell.name place size
-  itemCell (Item.number n) = Cell.number (n / 2 ^ 32) (n % 2 ^ 32)
-  itemCell (Item.variable i kind) = Cell.variable i kind
+-- "A call, choice or step that yields a parse hands on no error"
+unfoldable pub either : Option Error → Option Error → Option Error
+either none b = none
+either (some a) none = none
+either (some a) (some b) = some (join a b)
 
-  -- "Passing variants make no cell and keep the child's value": the items of a passing variant are its value itself
+-- both sides of a choice at a place
+unfoldable pub chosen : Call → ℕ → Option Error → Parsed → Parsed
+chosen c at none b = parsed (b .set) none (b .state)
+chosen c at (some a) b = elim (b .failure) [ none ↦ b | some e ↦ parsed (b .set) (some (choiceError at (c .nonterminal) a e)) (b .state) ]
+
+module _ (book : Book) (text : List ℕ) where
+  -- ---- A variant's cells
+  -- "1 empty chain (made as a variant begins)"; "Passing variants make no cell and keep the child's value": the items of a passing variant are its value itself
+  unfoldable pub begin : ℕ → State → Result Made
+  begin j s = when (variantNumber book j .passing) (λ _. ok (made 0 s)) (λ _. make text Cell.empty s)
+
   unfoldable pub withCell : ℕ → ℕ → ℕ → State → Result Made
-  withCell j items item s = when (variantNumber book j .passing) (λ _. ok (record { cell = item; state = s })) (λ _. make (Cell.chain items item) s)
+  withCell j items item s = when (variantNumber book j .passing) (λ _. ok (made item s)) (λ _. make text (Cell.chain items item) s)
 
   unfoldable pub withToken : ℕ → ℕ → Option Item → State → Result Made
-  withToken j items none s = ok (record { cell = items; state = s })
-  withToken j items (some item) s = make (itemCell item) s >>= (λ m. withCell j items (m .cell) (m .state))
+  withToken j items none s = ok (made items s)
+  withToken j items (some item) s = make text (itemCell item) s >>= (λ m. withCell j items (m .cell) (m .state))
 
-  -- ---- One level of nesting. `inner` runs a variant one level further in; none is 21, "nesting beyond 200"
-  abbrev pub Runner : Type 0
-  Runner = Call → ℕ → List (Todo ℕ) → ℕ → ℕ → List (Parse ℕ) → State → Result Found
+  -- the variant's own; its parse joins the set
+  unfoldable pub complete : ℕ → ℕ → ℕ → List (Parse ℕ) → State → Result Parsed
+  complete j x items set s = do
+    m ← when (variantNumber book j .passing) (λ _. ok (made items s)) (λ _. make text (Cell.variant j items) s)
+    more ← add (m .state) set (record { rest = x; level = variantNumber book j .level; associativity = variantNumber book j .associativity; value = m .cell })
+    ok (parsed more none (m .state))
 
-  module _ (inner : Option Runner) where
-    unfoldable pub nested : State → (Runner → Result Found) → Result Found
-    nested s f = elim inner [ some run ↦ f run | none ↦ met 21 (s .work) ]
+  -- ---- "A call runs its variants"
+  -- "A variant's errors count only if it is committed and more than skipped text lies between"
+  unfoldable pub counted : Call → ℕ → Option Error → Option Error
+  counted c j none = none
+  counted c j (some e) = cond (variantNumber book j .committed) (beyond (c .start) e) none
 
-    -- ---- "A call runs its variants"
-    -- a variant's run: "1 empty chain (made as a variant begins)"
-    unfoldable pub begin : ℕ → State → Result Made
-    begin j s = when (variantNumber book j .passing) (λ _. ok (record { cell = 0; state = s })) (λ _. make Cell.empty s)
+  -- n variants from j on, whose level reaches the minimum
+  unfoldable pub variants : Runner → Call → ℕ → ℕ → ℕ → List (Parse ℕ) → Option Error → State → Result Parsed
+  variants run c m zero j set e s = ok (parsed set e s)
+  variants run c m (suc n) j set e s =
+      when (leb m (variantNumber book j .level))
+      (λ _. do
+        b ← begin j s
+        r ← run c j (todoOf book (variantNumber book j)) (c .start) (b .cell) set (b .state)
+        variants run c m n (suc j) (r .set) (joinWith e (counted c j (r .failure))) (r .state))
+      (λ _. variants run c m n (suc j) set e s)
 
-    -- "A variant's errors count only if it is committed and more than skipped text lies between"
-    unfoldable pub counted : Call → ℕ → Option Error → Option Error
-    counted c j none = none
-    counted c j (some e) = cond (variantNumber book j .committed) (beyond (c .start) e) none
+  -- one run of a call: its own set is empty at first
+  unfoldable pub oneRun : Runner → Call → ℕ → State → Result Parsed
+  oneRun run c m s = let nt = nonterminalNumber book (c .nonterminal) in variants run c m (nt .number) (nt .first) [] none s
 
-    -- n variants from j on, whose level reaches the minimum
-    unfoldable pub variants : Runner → Call → ℕ → ℕ → ℕ → List (Parse ℕ) → Option Error → State → Result Found
-    variants run c m zero j set e s = ok (found set e s)
-    variants run c m (suc n) j set e s =
-        when (leb m (variantNumber book j .level))
-        (λ _.
-        begin j s >>= (λ b.
-        run c j (todoOf book (variantNumber book j)) (c .start) (b .cell) set (b .state) >>= (λ r.
-        variants run c m n (suc j) (r .set) (joinWith e (counted c j (r .failure))) (r .state))))
-        (λ _. variants run c m n (suc j) set e s)
+  -- "they are set to all found, and it is run again until a run fails or adds nothing"; a run that fails has no parse to add. Each run but the last adds
+  -- one, and a 65th meets 22, so that 65 runs are always enough (RoundLaws)
+  unfoldable pub rounds : ℕ → Runner → Call → ℕ → State → Result Parsed
+  rounds zero run c m s = ok (parsed (c .mine) none s)
+  rounds (suc n) run c m s = do
+    r ← oneRun run c m s
+    when (allIn (c .mine) (r .set)) (λ _. ok (parsed (c .mine) none (r .state)))
+        (λ _. do
+          all ← addAll (r .state) (c .mine) (r .set)
+          rounds n run (withMine c all) m (r .state))
 
-    -- one run of a call: its own set is empty at first
-    unfoldable pub oneRun : Runner → Call → ℕ → State → Result Found
-    oneRun run c m s =
-        let nt = nonterminalNumber book (c .nonterminal) in
-        variants run c m (nt .number) (nt .first) [] none s
+  unfoldable pub runCall : Runner → Call → ℕ → State → Result Parsed
+  runCall run c m s = do
+    r ← oneRun run c m s
+    elim (r .set) [
+      | [] ↦ ok (parsed [] (some (failedCall c (r .failure))) (r .state))
+      | p ∷ ps ↦ when (newest (r .state .asked))
+          (λ _. rounds 65 run (withMine c (r .set)) m (r .state))
+          (λ _. ok (parsed (r .set) none (r .state)))
+    ]
 
-    -- "they are set to all found, and it is run again until a run fails or adds nothing"; a run that fails has no parse to add. Each run but the last adds
-    -- one, and a 65th meets 22, so that 65 runs are always enough (RoundLaws)
-    unfoldable pub rounds : ℕ → Runner → Call → ℕ → State → Result Found
-    rounds zero run c m s = ok (found (c .mine) none s)
-    rounds (suc n) run c m s =
-        oneRun run c m s >>= (λ r.
-        when (allIn (c .mine) (r .set))
-        (λ _. ok (found (c .mine) none (r .state)))
-        (λ _.
-        addAll (r .state) (c .mine) (r .set) >>= (λ all.
-        rounds n run (call (c .path) (c .stored) (c .nonterminal) (c .start) all) m (r .state))))
+  -- "`identifier_nonterminal`": level 255, Both
+  unfoldable pub runIdentifier : Call → State → Result Parsed
+  runIdentifier c s =
+      when (claimed book text (c .path) base (c .start)) (λ _. missing)
+      (λ _. elim (freeEnd book text (c .start)) [ none ↦ missing | some end ↦ named end ])
+    where
+      missing : Result Parsed
+      missing = ok (parsed [] (some (failedCall c none)) s)
 
-    -- "With none, a call gives 11 at its start"
-    unfoldable pub failedCall : Call → Option Error → Error
-    failedCall c none = error (c .start) 11 (c .nonterminal)
-    failedCall c (some e) = e
+      named : ℕ → Result Parsed
+      named end = do
+        m ← make text (Cell.name (c .start) (end - c .start)) s
+        ok (parsed (record { rest = end; level = 255; associativity = Associativity.Both; value = m .cell } ∷ []) none (m .state))
 
-    unfoldable pub runCall : Runner → Call → ℕ → State → Result Found
-    runCall run c m s =
-        oneRun run c m s >>= (λ r.
-        elim (r .set) [
-          | [] ↦ ok (found [] (some (failedCall c (r .failure))) (r .state))
-          | p ∷ ps ↦ when (newest (r .state .asked))
-              (λ _. rounds 65 run (call (c .path) (c .stored) (c .nonterminal) (c .start) (r .set)) m (r .state))
-              (λ _. ok (found (r .set) none (r .state)))
-        ])
+  -- ---- What follows a parse
+  -- the item is added, and the steps go on
+  unfoldable pub plainNext : Call → ℕ → List (Todo ℕ) → ℕ → Next
+  plainNext c j rest items q s run set = withCell j items (q .value) s >>= (λ m. run c j rest (q .rest) (m .cell) set (m .state))
 
-    -- "`identifier_nonterminal`": level 255, Both
-    unfoldable pub runIdentifier : Call → State → Result Found
-    runIdentifier c s =
-        let missing = ok (found [] (some (error (c .start) 11 (c .nonterminal))) s) in
-        when (claimed book text (c .path) 0 (c .start)) (λ _. missing)
-        (λ _.
-        elim (freeEnd book text (c .start)) [
-          | none ↦ missing
-          | some end ↦ make (Cell.name (c .start) (end - c .start)) s >>= (λ m.
-              ok (found (record { rest = end; level = 255; associativity = Associativity.Both; value = m .cell } ∷ []) none (m .state)))
-        ])
+  -- the element is added, and the list goes on or ends
+  unfoldable pub listNext : Call → ℕ → Bool → ℕ → ℕ → Option ℕ → List (Todo ℕ) → ℕ → Next
+  listNext c j comma M values close rest items q s run set = do
+    m ← make text (Cell.chain values (q .value)) s
+    elim (afterElement text comma (q .rest)) [
+      | goes y ↦ run c j (elements comma M (m .cell) close ∷ rest) y items set (m .state)
+      | halts y ↦ run c j (ending (m .cell) close ∷ rest) y items set (m .state)
+    ]
 
-    -- "Re-entry at its start gives its stored parses, filtered; none is a failure"
-    unfoldable pub stored : List (Parse ℕ) → Error → State → Found
-    stored [] e s = found [] (some e) s
-    stored (p ∷ ps) e s = found (p ∷ ps) none s
+  -- a list stops: its cell, then its closing, then its chain cell
+  unfoldable pub stops : ℕ → ℕ → Option ℕ → Go → Go
+  stops j values close go x items set s = do
+    l ← make text (Cell.list values) s
+    elim (closed text close x) [
+      | none ↦ ok (parsed set (some (error (skipFrom text x) 1 (closing close))) (l .state))
+      | some y ↦ withCell j items (l .cell) (l .state) >>= (λ m. go y (m .cell) set (m .state))
+    ]
+    where
+      closing : Option ℕ → ℕ
+      closing none = 0
+      closing (some c) = c
 
-    -- "`enter`": one unit; the governor; then one level of nesting
-    unfoldable pub enter : Path → List (List (Parse ℕ)) → ℕ → ℕ → State → Result Found
-    enter path sets N u s₀ =
-        spend s₀ >>= (λ s.
-        elim (governor path 0 N u) [
-          | same-start i f around ↦ ok (stored (kept f (nth i sets)) (error u 11 N) (record { work = s .work; cells = s .cells; asked = ask i (s .asked) }))
-          | minimum m ↦ nested s (λ run.
-              let c = call path sets N u [] in
-              when (eqb (markNumber (nonterminalNumber book N .mark)) 2)
-              (λ _. runIdentifier c s)
-              (λ _. runCall run c m (opened s) >>= (λ r. ok (found (r .set) (r .failure) (over (r .state))))))
-        ])
+-- ---- One level of nesting. `inner` runs a variant one level further in; none is 21, "nesting beyond 200"
+module _ (book : Book) (text : List ℕ) (allowance : ℕ) (inner : Option Runner) where
+  unfoldable pub nested : State → (Runner → Result Parsed) → Result Parsed
+  nested s f = elim inner [ some run ↦ f run | none ↦ met 21 (s .work) ]
 
-    -- ---- "a variant runs its steps; a step calls a nonterminal again"
-    -- the call of a child at a place
-    unfoldable pub child : Call → ℕ → ℕ → ℕ → State → Result Found
-    child c j M x s = let at = skipFrom text x in enter (useOf book (c .nonterminal) (c .start) j at ∷ c .path) (c .mine ∷ c .stored) M at s
+  -- "Re-entry at its start gives its stored parses, filtered; none is a failure"
+  unfoldable pub reentry : List (Parse ℕ) → Error → State → Parsed
+  reentry [] e s = parsed [] (some e) s
+  reentry (p ∷ ps) e s = parsed (p ∷ ps) none s
 
-    -- "A call, choice or step that yields a parse hands on no error"
-    unfoldable pub either : Option Error → Option Error → Option Error
-    either none b = none
-    either (some a) none = none
-    either (some a) (some b) = some (join a b)
+  -- "`enter`": one unit; the governor; then one level of nesting
+  unfoldable pub enter : Path → List (List (Parse ℕ)) → ℕ → ℕ → State → Result Parsed
+  enter path sets N u s₀ = do
+    s ← spend allowance s₀
+    elim (governor path base N u) [
+      | same-start i f around ↦ ok (reentry (kept f (getD sets i [])) (error u 11 N) (withAsked s (ask i (s .asked))))
+      | minimum m ↦ nested s (λ run.
+          let c = call path sets N u [] in
+          when (hasMark book 2 N) (λ _. runIdentifier book text c s)
+          (λ _. do
+            r ← runCall book text run c m (withAsked s (false ∷ s .asked))
+            ok (parsed (r .set) (r .failure) (withAsked (r .state) (others (r .state .asked))))))
+    ]
 
-    -- what follows each parse of a child, one level further in
-    unfoldable pub follow : (Parse ℕ → State → Runner → List (Parse ℕ) → Result Found) → List (Parse ℕ) → List (Parse ℕ) → State → Result Found
-    follow next [] set s = ok (found set none s)
-    follow next (q ∷ []) set s = nested s (λ run. next q s run set)
-    follow next (q ∷ r ∷ qs) set s =
-        nested s (λ run.
-        next q s run set >>= (λ a.
-        follow next (r ∷ qs) (a .set) (a .state) >>= (λ b. ok (found (b .set) (either (a .failure) (b .failure)) (b .state)))))
+  -- ---- "a variant runs its steps; a step calls a nonterminal again"
+  -- the call of a child at a place
+  unfoldable pub enterChild : Call → ℕ → ℕ → ℕ → State → Result Parsed
+  enterChild c j M x s = let at = skipFrom text x in enter (useOf book (c .nonterminal) (c .start) j at ∷ c .path) (c .mine ∷ c .stored) M at s
 
-    -- the parses of a child are followed, if there are any
-    unfoldable pub followed : (Parse ℕ → State → Runner → List (Parse ℕ) → Result Found) → List (Parse ℕ) → Found → Result Found
-    followed next set r = elim (r .failure) [ some e ↦ ok (found set (some e) (r .state)) | none ↦ follow next (r .set) set (r .state) ]
+  -- what follows each parse of a child, one level further in
+  unfoldable pub follow : Next → List (Parse ℕ) → List (Parse ℕ) → State → Result Parsed
+  follow next [] set s = ok (parsed set none s)
+  follow next (q ∷ []) set s = nested s (λ run. next q s run set)
+  follow next (q ∷ r ∷ qs) set s = do
+    a ← nested s (λ run. next q s run set)
+    b ← follow next (r ∷ qs) (a .set) (a .state)
+    ok (parsed (b .set) (either (a .failure) (b .failure)) (b .state))
 
-    -- the item is added, and the steps go on
-    unfoldable pub plainNext : Call → ℕ → List (Todo ℕ) → ℕ → Parse ℕ → State → Runner → List (Parse ℕ) → Result Found
-    plainNext c j rest items q s run set = withCell j items (q .value) s >>= (λ m. run c j rest (q .rest) (m .cell) set (m .state))
+  -- the parses of a child are followed, if there are any
+  unfoldable pub followed : Next → List (Parse ℕ) → Parsed → Result Parsed
+  followed next set r = elim (r .failure) [ some e ↦ ok (parsed set (some e) (r .state)) | none ↦ follow next (r .set) set (r .state) ]
 
-    -- the element is added, and the list goes on or ends
-    unfoldable pub listNext : Call → ℕ → Bool → ℕ → ℕ → Option ℕ → List (Todo ℕ) → ℕ → Parse ℕ → State → Runner → List (Parse ℕ) → Result Found
-    listNext c j comma M values close rest items q s run set =
-        make (Cell.chain values (q .value)) s >>= (λ m.
-        elim (afterElement text comma (q .rest)) [
-          | goes y ↦ run c j (elements comma M (m .cell) close ∷ rest) y items set (m .state)
-          | halts y ↦ run c j (ending (m .cell) close ∷ rest) y items set (m .state)
-        ])
+  -- "stop comes before one more"; "one per choice (stop and one more together)"
+  unfoldable pub choice : Call → ℕ → Bool → ℕ → ℕ → Option ℕ → List (Todo ℕ) → Go → Go
+  choice c j comma M values close rest go x items set s₀ = do
+    s ← spend allowance s₀
+    a ← stops book text j values close go x items set s
+    r ← enterChild c j M x (a .state)
+    b ← followed (listNext book text c j comma M values close rest items) (a .set) r
+    ok (chosen c (skipFrom text x) (a .failure) b)
 
-    -- both sides of a choice
-    unfoldable pub chosen : Call → ℕ → Option Error → Found → Found
-    chosen c x none b = found (b .set) none (b .state)
-    chosen c x (some a) b = elim (b .failure) [ none ↦ b | some e ↦ found (b .set) (some (choiceError (skipFrom text x) (c .nonterminal) a e)) (b .state) ]
+  -- a list from its beginning; the empty chain is there since the variant began
+  unfoldable pub listing : Call → ℕ → Bool → ℕ → Option ℕ → List (Todo ℕ) → Go → Go
+  listing c j comma M close rest go x items set s = make text Cell.empty s >>= (λ e. choice c j comma M (e .cell) close rest go x items set (e .state))
 
-    -- the steps that are left behind a list or a step, on this level, from a place, after these items
-    abbrev pub Go : Type 0
-    Go = ℕ → ℕ → List (Parse ℕ) → State → Result Found
+  unfoldable pub steps : Runner
+  steps c j [] x items set s = complete book text j x items set s
+  steps c j (elements comma M values close ∷ rest) x items set s = choice c j comma M values close rest (steps c j rest) x items set s
+  steps c j (ending values close ∷ rest) x items set s = stops book text j values close (steps c j rest) x items set s
+  steps c j (take′ step ∷ rest) x items set s = oneStep step (steps c j rest)
+    where
+      tokenStep : Step → Go → Result Parsed
+      tokenStep k go = do
+        t ← spend allowance s
+        elim (tokenAt book text k x) [
+          | none ↦ ok (parsed set (some (tokenError book text k x)) t)
+          | some read ↦ withToken book text j items (read .item) t >>= (λ m. go (read .next) (m .cell) set (m .state))
+        ]
 
-    -- a list stops: its cell, then its closing, then its chain cell
-    unfoldable pub stops : ℕ → ℕ → Option ℕ → Go → ℕ → ℕ → List (Parse ℕ) → State → Result Found
-    stops j values close go x items set s =
-        make (Cell.list values) s >>= (λ l.
-        elim (closed text close x) [
-          | none ↦ ok (found set (some (error (skipFrom text x) 1 (closing close))) (l .state))
-          | some y ↦ withCell j items (l .cell) (l .state) >>= (λ m. go y (m .cell) set (m .state))
-        ])
-      where
-        closing : Option ℕ → ℕ
-        closing none = 0
-        closing (some c) = c
+      oneStep : Step → Go → Result Parsed
+      oneStep (Step.Character a) go = tokenStep (Step.Character a) go
+      oneStep (Step.Word a) go = tokenStep (Step.Word a) go
+      oneStep Step.Identifier go = tokenStep Step.Identifier go
+      oneStep Step.Number go = tokenStep Step.Number go
+      oneStep Step.Variable go = tokenStep Step.Variable go
+      oneStep (Step.VariableOfKind a) go = tokenStep (Step.VariableOfKind a) go
+      oneStep Step.RejectVariable go = tokenStep Step.RejectVariable go
+      oneStep Step.RejectReserved go = tokenStep Step.RejectReserved go
+      oneStep (Step.Nonterminal M) go = do
+        t ← spend allowance s
+        r ← enterChild c j M x t
+        followed (plainNext book text c j rest items) set r
+      oneStep (Step.Optional M) go = do
+        t ← spend allowance s
+        absent ← make text Cell.absent t
+        m ← withCell book text j items (absent .cell) (absent .state)
+        a ← go x (m .cell) set (m .state)
+        r ← enterChild c j M x (a .state)
+        b ← followed (plainNext book text c j rest items) (a .set) r
+        ok (chosen c (skipFrom text x) (a .failure) b)
+      oneStep (Step.Many M) go = listing c j false M none rest go x items set s
+      oneStep (Step.CommaList M) go = listing c j true M none rest go x items set s
+      oneStep (Step.Delimited M b e) go = do
+        t ← spend allowance s
+        elim (characterEnd text b x) [
+          | none ↦ ok (parsed set (some (error (skipFrom text x) 1 b)) t)
+          | some y ↦ listing c j true M (some e) rest go y items set t
+        ]
+      oneStep (Step.OptionalDelimited M b e) go = do
+        t ← spend allowance s
+        elim (characterEnd text b x) [
+          | none ↦ make text Cell.empty t >>= (λ m. stops book text j (m .cell) none go (skipFrom text x) items set (m .state))
+          | some y ↦ listing c j true M (some e) rest go y items set t
+        ]
 
-    -- "stop comes before one more"; "one per choice (stop and one more together)"
-    unfoldable pub choice : Call → ℕ → Bool → ℕ → ℕ → Option ℕ → List (Todo ℕ) → Go → ℕ → ℕ → List (Parse ℕ) → State → Result Found
-    choice c j comma M values close rest go x items set s₀ =
-        spend s₀ >>= (λ s.
-        stops j values close go x items set s >>= (λ a.
-        child c j M x (a .state) >>= (λ r.
-        followed (λ q t run u. listNext c j comma M values close rest items q t run u) (a .set) r >>= (λ b. ok (chosen c x (a .failure) b)))))
-
-    -- a list from its beginning; the empty chain is there since the variant began
-    unfoldable pub listing : Call → ℕ → Bool → ℕ → Option ℕ → List (Todo ℕ) → Go → ℕ → ℕ → List (Parse ℕ) → State → Result Found
-    listing c j comma M close rest go x items set s = make Cell.empty s >>= (λ e. choice c j comma M (e .cell) close rest go x items set (e .state))
-
-    unfoldable pub steps : Runner
-    steps c j [] x items set s =
-        let w = variantNumber book j in
-        when (w .passing) (λ _. ok (record { cell = items; state = s })) (λ _. make (Cell.variant j items) s) >>= (λ m.
-        add (m .state) set (record { rest = x; level = w .level; associativity = w .associativity; value = m .cell }) >>= (λ more. ok (found more none (m .state))))
-    steps c j (elements comma M values close ∷ rest) x items set s =
-        choice c j comma M values close rest (λ y is u t. steps c j rest y is u t) x items set s
-    steps c j (ending values close ∷ rest) x items set s = stops j values close (λ y is u t. steps c j rest y is u t) x items set s
-    steps c j (take′ step ∷ rest) x items set s = oneStep step (λ y is u t. steps c j rest y is u t)
-      where
-        token : Step → Go → Result Found
-        token k go =
-            spend s >>= (λ t.
-            elim (tokenAt book text k x) [
-              | none ↦ ok (found set (some (tokenError book text k x)) t)
-              | some read ↦ withToken j items (read .item) t >>= (λ m. go (read .next) (m .cell) set (m .state))
-            ])
-
-        oneStep : Step → Go → Result Found
-        oneStep (Step.Character a) go = token (Step.Character a) go
-        oneStep (Step.Word a) go = token (Step.Word a) go
-        oneStep Step.Identifier go = token Step.Identifier go
-        oneStep Step.Number go = token Step.Number go
-        oneStep Step.Variable go = token Step.Variable go
-        oneStep (Step.VariableOfKind a) go = token (Step.VariableOfKind a) go
-        oneStep Step.RejectVariable go = token Step.RejectVariable go
-        oneStep Step.RejectReserved go = token Step.RejectReserved go
-        oneStep (Step.Nonterminal M) go = spend s >>= (λ t. child c j M x t >>= (λ r. followed (λ q v run u. plainNext c j rest items q v run u) set r))
-        oneStep (Step.Optional M) go =
-            spend s >>= (λ t.
-            make Cell.absent t >>= (λ absent.
-            withCell j items (absent .cell) (absent .state) >>= (λ m.
-            go x (m .cell) set (m .state) >>= (λ a.
-            child c j M x (a .state) >>= (λ r.
-            followed (λ q v run u. plainNext c j rest items q v run u) (a .set) r >>= (λ b. ok (chosen c x (a .failure) b)))))))
-        oneStep (Step.Many M) go = listing c j false M none rest go x items set s
-        oneStep (Step.CommaList M) go = listing c j true M none rest go x items set s
-        oneStep (Step.Delimited M b e) go =
-            spend s >>= (λ t.
-            elim (characterEnd text b x) [
-              | none ↦ ok (found set (some (tokenError book text (Step.Delimited M b e) x)) t)
-              | some y ↦ listing c j true M (some e) rest go y items set t
-            ])
-        oneStep (Step.OptionalDelimited M b e) go =
-            spend s >>= (λ t.
-            elim (characterEnd text b x) [
-              | none ↦ make Cell.empty t >>= (λ m. stops j (m .cell) none go (skipFrom text x) items set (m .state))
-              | some y ↦ listing c j true M (some e) rest go y items set t
-            ])
-
+module _ (book : Book) (text : List ℕ) (allowance : ℕ) where
   -- a runner with so many levels of nesting left
   unfoldable pub runner : ℕ → Option Runner
   runner zero = none
-  runner (suc n) = some (steps (runner n))
+  runner (suc n) = some (steps book text allowance (runner n))
 
   -- the run of a text: 200 levels
-  unfoldable pub run : ℕ → Result Found
-  run start = enter (runner 200) [] [] start (skipFrom text 0) (record { work = 0; cells = []; asked = [] })
+  unfoldable pub run : ℕ → Result Parsed
+  run start = enter book text allowance (runner 200) [] [] start (skipFrom text 0) (record { work = 0; cells = []; asked = [] })

@@ -10,10 +10,10 @@ use Rattle.characters.specs.Spelling.{partOf, same}
 use Rattle.characters.specs.Tokens.{identifierAt, numberAt}
 use Rattle.characters.specs.declared.tokens.Identifier.{Identifier}
 use Rattle.characters.specs.declared.tokens.Number.{Number}
-use Rattle.book.specs.Book.{Book, entryNumber, isReserved, lookupName, nonterminalNumber, markNumber}
+use Rattle.book.specs.Book.{Book, entryNumber, isReserved, lookupName}
 use Rattle.book.specs.declared.names.Found.{Found}
 use Rattle.book.specs.declared.records.Step.{Step}
-use Rattle.rules.specs.Uses.{Path}
+use Rattle.rules.specs.Uses.{Path, hasMark}
 
 -- what a token adds: an identifier by the place and length of its spelling, a number, a variable by its name's number and kind
 pub data Item : Type 0 where
@@ -49,11 +49,11 @@ unfoldable pub ofKind : ℕ → Option Token → Option Token
 ofKind kind none = none
 ofKind kind (some t) = when (isKind kind (t .item)) (λ _. some t) (λ _. none)
 
--- the end of the character a, after skipping. Characters are 33 to 126, so the 0 beyond the end is none
-unfoldable pub characterEnd : List ℕ → ℕ → ℕ → Option ℕ
-characterEnd text a place = let at = skipFrom text place in when (eqb (getD text at 0) a) (λ _. some (at + 1)) (λ _. none)
+module _ (text : List ℕ) where
+  -- the end of the character a, after skipping. Characters are 33 to 126, so the 0 beyond the end is none
+  unfoldable pub characterEnd : ℕ → ℕ → Option ℕ
+  characterEnd a place = let at = skipFrom text place in when (eqb (getD text at 0) a) (λ _. some (at + 1)) (λ _. none)
 
-module _ (book : Book) (text : List ℕ) where
   -- an identifier at a place: its end
   unfoldable pub identifierEnd : ℕ → Option ℕ
   identifierEnd at = elim (identifierAt text at) [ Identifier.Ends end ↦ some end | Identifier.Nothing ↦ none ]
@@ -61,19 +61,20 @@ module _ (book : Book) (text : List ℕ) where
   abbrev pub spelled : ℕ → ℕ → List ℕ
   spelled at end = partOf text at (end - at)
 
+module _ (book : Book) (text : List ℕ) where
   -- whether a reserved word stands at a place
   unfoldable pub reservedAt : ℕ → Bool
-  reservedAt at = elim (identifierEnd at) [ some end ↦ isReserved (book .words) (spelled at end) | none ↦ false ]
+  reservedAt at = elim (identifierEnd text at) [ some end ↦ isReserved (book .words) (spelled text at end) | none ↦ false ]
 
   -- an identifier that is not reserved: "2, 4, 5 and a mark-2 use refuse a reserved word"
   unfoldable pub freeEnd : ℕ → Option ℕ
-  freeEnd at = when (reservedAt at) (λ _. none) (λ _. identifierEnd at)
+  freeEnd at = when (reservedAt at) (λ _. none) (λ _. identifierEnd text at)
 
   -- a variable at a place: the last equal starting name
   unfoldable pub variableAt : ℕ → Option Token
   variableAt at =
       elim (freeEnd at) [
-        | some end ↦ elim (lookupName (book .names) (spelled at end)) [ Found.Name i kind ↦ token end (some (variable i kind)) | Found.Nothing ↦ none ]
+        | some end ↦ elim (lookupName (book .names) (spelled text at end)) [ Found.Name i kind ↦ token end (some (variable i kind)) | Found.Nothing ↦ none ]
         | none ↦ none
       ]
 
@@ -82,8 +83,8 @@ module _ (book : Book) (text : List ℕ) where
   tokenAt (Step.Character a) place = elim (characterEnd text a place) [ some end ↦ token end none | none ↦ none ]
   tokenAt (Step.Word a) place =
       let at = skipFrom text place in
-      elim (identifierEnd at) [
-        | some end ↦ when (same (spelled at end) (entryNumber (book .words) a .spelling)) (λ _. token end none) (λ _. none)
+      elim (identifierEnd text at) [
+        | some end ↦ when (same (spelled text at end) (entryNumber (book .words) a .spelling)) (λ _. token end none) (λ _. none)
         | none ↦ none
       ]
   tokenAt Step.Identifier place = let at = skipFrom text place in elim (freeEnd at) [ some end ↦ token end (some (name at (end - at))) | none ↦ none ]
@@ -100,11 +101,14 @@ module _ (book : Book) (text : List ℕ) where
   tokenAt (Step.Delimited a b c) place = none
   tokenAt (Step.OptionalDelimited a b c) place = none
 
-  -- "unless an enclosing mark-1 use at the same place and scope could read a variable there": one that itself begins there
-  unfoldable pub claimed : Path → ℕ → ℕ → Bool
-  claimed [] scope u = false
-  claimed (f ∷ path) scope u =
-      (eqb (markNumber (nonterminalNumber book (f .nonterminal) .mark)) 1 && (eqb (f .start) u && eqb (f .scope) scope) && isSome (variableAt u)) || claimed path scope u
+  -- whether an enclosing mark-1 use begins at a place of a scope
+  unfoldable pub claimant : Path → ℕ → ℕ → Bool
+  claimant [] scope u = false
+  claimant (f ∷ path) scope u = (hasMark book 1 (f .nonterminal) && (eqb (f .scope) scope && eqb (f .start) u)) || claimant path scope u
+
+  -- "unless an enclosing mark-1 use at the same place and scope could read a variable there"
+  abbrev pub claimed : Path → ℕ → ℕ → Bool
+  claimed path scope u = claimant path scope u && isSome (variableAt u)
 
 -- ---- Lists
 -- after an element the list goes on at a place, or halts there

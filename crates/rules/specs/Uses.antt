@@ -3,7 +3,7 @@ use mathlib.Core.Bool.{Bool, true, false, _&&_}
 use mathlib.Core.List.{List, [], _∷_}
 use Prim.Native.Nat.{ℕ, zero, suc}
 use lib.Dec.{leb, ltb, eqb}
-use Rattle.book.specs.Book.{Book, variantNumber}
+use Rattle.book.specs.Book.{Book, nonterminalNumber, variantNumber, markNumber}
 use Rattle.book.specs.declared.records.Associativity.{Associativity}
 use Rattle.rules.specs.Values.{Parse}
 
@@ -16,10 +16,18 @@ pub record Use : Type 0 where
   pub associativity : Associativity
   pub child : ℕ
 
--- a use of N at u, with variant j, whose child begins at x. The base has one scope, 0
+-- "the base has one" scope
+abbrev pub base : ℕ
+base = 0
+
+-- a use of N at u, with variant j, whose child begins at x
 abbrev pub useOf : Book → ℕ → ℕ → ℕ → ℕ → Use
 useOf book N u j x =
-    record { nonterminal = N; scope = 0; start = u; level = variantNumber book j .level; associativity = variantNumber book j .associativity; child = x }
+    record { nonterminal = N; scope = base; start = u; level = variantNumber book j .level; associativity = variantNumber book j .associativity; child = x }
+
+-- "Mark 0 plain; 1 calls `try_claim_as_var` first; 2 is `identifier_nonterminal`"
+abbrev pub hasMark : Book → ℕ → ℕ → Bool
+hasMark book mark N = eqb (markNumber (nonterminalNumber book N .mark)) mark
 
 -- "Its path lists the enclosing uses", the nearest first
 abbrev pub Path : Type 0

@@ -1,6 +1,6 @@
 -- The definitions on 180 vectors, every number compared. Written by tools/vector_theorems.py.
 use mathlib.Core.Path.{_≡_, refl}
-use mathlib.Core.List.{List, [], _∷_}
+use mathlib.Core.List.{List, [], _∷_, _++_}
 use Prim.Native.Nat.{ℕ}
 use lib.ListN.{replicate}
 use Rattle.characters.specs.Classes.{classOf}
@@ -10,11 +10,11 @@ use Rattle.characters.specs.Spelling.{same}
 use Rattle.book.specs.Book.{isReserved, lookupFrom}
 use Rattle.book.specs.Check.{checked, row, spelling, entry, nonterminal, variant, stepOf, step, allPass, ended, whole, checkBook}
 use Rattle.rules.specs.Uses.{outwards, govern, governor}
-use Rattle.rules.specs.Tokens.{isSome, isKind, ofKind, characterEnd, identifierEnd, reservedAt, freeEnd, variableAt, tokenAt, claimed, afterElement, closed}
+use Rattle.rules.specs.Tokens.{isSome, isKind, ofKind, characterEnd, identifierEnd, reservedAt, freeEnd, variableAt, tokenAt, claimant, afterElement, closed}
 use Rattle.rules.specs.Cells.{numbersOf, cellsIn, identityOf, findCell, treeIn, treesIn, meaningOf, meanings}
 use Rattle.rules.specs.Errors.{join, beyond, joinWith, choiceError, identifierError, tokenError}
-use Rattle.rules.specs.Run.{_>>=_, sameParse, has, allIn, kept, add, addAll, ask, newest, others, spend, make, itemCell, withCell, withToken, nested, begin, counted, variants, oneRun, rounds as roundsRun, failedCall, runCall, runIdentifier, stored, enter, child, either, follow, followed, plainNext, listNext, chosen, stops, choice, listing, steps, runner, run}
-use Rattle.rules.specs.Answer.{cellNumbers, parseNumbers, written, wholeValues, allAre, firstHigh, byValues, ending, onBook, answerOf, Answer, Answered, answer}
+use Rattle.rules.specs.Run.{_>>=_, sameParse, has, allIn, kept, add, addAll, ask, newest, others, spend, make, itemCell, failedCall, either, chosen, begin, withCell, withToken, complete, counted, variants, oneRun, rounds as roundsRun, runCall, runIdentifier, plainNext, listNext, stops, nested, reentry, enter, enterChild, follow, followed, choice, listing, steps, runner, run}
+use Rattle.rules.specs.Answer.{cellNumbers, parseNumbers, written, wholeValues, allAre, firstHigh, byValues, atEnd, onBook, answerOf, Answer, Answered, answer}
 
 abbrev gives : Answer → List ℕ → List ℕ → Answered
 gives a cells parses = record { answer = a; cells = cells; parses = parses }
@@ -23,421 +23,420 @@ gives a cells parses = record { answer = a; cells = cells; parses = parses }
 abbrev call : ℕ → ℕ → List ℕ → List ℕ → ℕ → ℕ → Answered
 call cellsSize parsesSize book text start allowance = answerOf (replicate cellsSize 7) (replicate parsesSize 7) book text start allowance
 
--- what is written over a longer list
-longer : written 6 (1 ∷ 2 ∷ 3 ∷ []) (replicate 8 7) ≡ 1 ∷ 2 ∷ 3 ∷ 0 ∷ 0 ∷ 0 ∷ 7 ∷ 7 ∷ []
-unfolding written
-longer = refl
+-- the rest of a list at exit: so many zeros, and so many numbers as they were
+abbrev zeros : ℕ → ℕ → List ℕ
+zeros unused beyond = replicate unused 0 ++ replicate beyond 7
 
 record Vectors1 : Type 0 where
+  -- by_hand 1
+  v1 : call 12287 256 (0 ∷ 0 ∷ 1 ∷ 0 ∷ 1 ∷ 1 ∷ 255 ∷ 3 ∷ 1 ∷ 1 ∷ 1 ∷ 3 ∷ 0 ∷ 0 ∷ 0 ∷ []) (49 ∷ []) 0 1000000 ≡ gives (answer 1 0 0 0 0 0 0) (replicate 12287 7) (replicate 256 7)
+  -- by_hand 2
+  v2 : call 12288 255 (0 ∷ 0 ∷ 1 ∷ 0 ∷ 1 ∷ 1 ∷ 255 ∷ 3 ∷ 1 ∷ 1 ∷ 1 ∷ 3 ∷ 0 ∷ 0 ∷ 0 ∷ []) (49 ∷ []) 0 1000000 ≡ gives (answer 1 0 0 0 0 0 0) (replicate 12288 7) (replicate 255 7)
+  -- by_hand 3
+  v3 : call 12290 259 (0 ∷ 0 ∷ 1 ∷ 0 ∷ 1 ∷ 1 ∷ 255 ∷ 3 ∷ 1 ∷ 1 ∷ 1 ∷ 3 ∷ 0 ∷ 0 ∷ 0 ∷ []) (49 ∷ []) 0 1000000 ≡ gives (answer 0 0 0 0 2 1 4) (1 ∷ 0 ∷ 0 ∷ 5 ∷ 0 ∷ 1 ∷ 2 ∷ 1 ∷ 2 ∷ 3 ∷ 0 ∷ 3 ∷ zeros 12276 2) (1 ∷ 255 ∷ 3 ∷ 4 ∷ zeros 252 3)
+  -- by_hand 4
+  v4 : call 12288 256 (0 ∷ 0 ∷ 1 ∷ 0 ∷ 1 ∷ 1 ∷ 255 ∷ 3 ∷ 1 ∷ 1 ∷ 1 ∷ 3 ∷ 0 ∷ 0 ∷ 0 ∷ []) (replicate 4096 32 ++ (49 ∷ [])) 0 1000000 ≡ gives (answer 10 4096 0 0 0 0 0) (replicate 12288 7) (replicate 256 7)
+  -- by_hand 5
+  v5 : call 12288 256 (2 ∷ 0 ∷ 2 ∷ 105 ∷ 102 ∷ 0 ∷ 2 ∷ 111 ∷ 102 ∷ 0 ∷ 1 ∷ 0 ∷ 1 ∷ 1 ∷ 255 ∷ 3 ∷ 1 ∷ 2 ∷ 2 ∷ 3 ∷ 0 ∷ 0 ∷ 0 ∷ 1 ∷ 1 ∷ 0 ∷ 0 ∷ []) (49 ∷ 32 ∷ 111 ∷ 102 ∷ []) 0 1000000 ≡ gives (answer 0 0 0 0 3 1 4) (1 ∷ 0 ∷ 0 ∷ 5 ∷ 0 ∷ 1 ∷ 2 ∷ 1 ∷ 2 ∷ 3 ∷ 0 ∷ 3 ∷ zeros 12276 0) (4 ∷ 255 ∷ 3 ∷ 4 ∷ zeros 252 0)
+  -- by_hand 6
+  v6 : call 12288 256 (2 ∷ 0 ∷ 2 ∷ 105 ∷ 102 ∷ 0 ∷ 2 ∷ 111 ∷ 102 ∷ 0 ∷ 1 ∷ 0 ∷ 1 ∷ 1 ∷ 255 ∷ 3 ∷ 1 ∷ 2 ∷ 2 ∷ 3 ∷ 0 ∷ 0 ∷ 0 ∷ 1 ∷ 1 ∷ 0 ∷ 0 ∷ []) (49 ∷ 32 ∷ 105 ∷ 102 ∷ []) 0 1000000 ≡ gives (answer 30 2 2 1 3 0 0) (zeros 12288 0) (zeros 256 0)
+  -- by_hand 7
+  v7 : call 12288 256 (0 ∷ 1 ∷ 5 ∷ 1 ∷ 120 ∷ 1 ∷ 0 ∷ 1 ∷ 1 ∷ 255 ∷ 3 ∷ 1 ∷ 3 ∷ 3 ∷ 3 ∷ 0 ∷ 0 ∷ 0 ∷ 6 ∷ 0 ∷ 0 ∷ 0 ∷ 2 ∷ 0 ∷ 0 ∷ 0 ∷ []) (49 ∷ 32 ∷ 120 ∷ []) 0 1000000 ≡ gives (answer 30 2 5 0 3 0 0) (zeros 12288 0) (zeros 256 0)
+  -- by_hand 8
+  v8 : call 12288 256 (0 ∷ 1 ∷ 5 ∷ 1 ∷ 120 ∷ 1 ∷ 0 ∷ 1 ∷ 1 ∷ 255 ∷ 3 ∷ 1 ∷ 2 ∷ 2 ∷ 3 ∷ 0 ∷ 0 ∷ 0 ∷ 4 ∷ 0 ∷ 0 ∷ 0 ∷ []) (49 ∷ 32 ∷ 121 ∷ []) 0 1000000 ≡ gives (answer 30 2 7 0 3 0 0) (zeros 12288 0) (zeros 256 0)
+  -- by_hand 9
+  v9 : call 12288 256 (0 ∷ 1 ∷ 5 ∷ 1 ∷ 120 ∷ 1 ∷ 0 ∷ 1 ∷ 1 ∷ 255 ∷ 3 ∷ 1 ∷ 2 ∷ 2 ∷ 3 ∷ 0 ∷ 0 ∷ 0 ∷ 5 ∷ 5 ∷ 0 ∷ 0 ∷ []) (49 ∷ 32 ∷ 121 ∷ []) 0 1000000 ≡ gives (answer 30 2 7 0 3 0 0) (zeros 12288 0) (zeros 256 0)
+  -- by_hand 10
+  v10 : call 12288 256 (0 ∷ 1 ∷ 5 ∷ 1 ∷ 120 ∷ 1 ∷ 0 ∷ 1 ∷ 1 ∷ 255 ∷ 3 ∷ 1 ∷ 2 ∷ 2 ∷ 3 ∷ 0 ∷ 0 ∷ 0 ∷ 5 ∷ 3 ∷ 0 ∷ 0 ∷ []) (49 ∷ 32 ∷ 120 ∷ []) 0 1000000 ≡ gives (answer 30 2 8 3 3 0 0) (zeros 12288 0) (zeros 256 0)
+  -- by_hand 11
+  v11 : call 12288 256 (0 ∷ 0 ∷ 1 ∷ 0 ∷ 1 ∷ 1 ∷ 255 ∷ 3 ∷ 1 ∷ 2 ∷ 2 ∷ 0 ∷ 40 ∷ 0 ∷ 0 ∷ 3 ∷ 0 ∷ 0 ∷ 0 ∷ []) (40 ∷ 49 ∷ 56 ∷ 52 ∷ 52 ∷ 54 ∷ 55 ∷ 52 ∷ 52 ∷ 48 ∷ 55 ∷ 51 ∷ 55 ∷ 48 ∷ 57 ∷ 53 ∷ 53 ∷ 49 ∷ 54 ∷ 49 ∷ 54 ∷ []) 0 1000000 ≡ gives (answer 30 1 10 0 3 0 0) (zeros 12288 0) (zeros 256 0)
   -- open 1
-  v1 : call 12288 256 (0 ∷ 0 ∷ 2 ∷ 0 ∷ 1 ∷ 0 ∷ 1 ∷ 2 ∷ 255 ∷ 3 ∷ 1 ∷ 1 ∷ 255 ∷ 3 ∷ 1 ∷ 1 ∷ 2 ∷ 12 ∷ 1 ∷ 40 ∷ 41 ∷ 3 ∷ 0 ∷ 0 ∷ 0 ∷ []) (40 ∷ 49 ∷ 41 ∷ []) 0 1000000 ≡ gives (answer 0 0 0 0 5 1 9) (written 12288 (1 ∷ 0 ∷ 0 ∷ 8 ∷ 1 ∷ 0 ∷ 5 ∷ 0 ∷ 1 ∷ 2 ∷ 1 ∷ 3 ∷ 3 ∷ 1 ∷ 4 ∷ 2 ∷ 1 ∷ 5 ∷ 8 ∷ 6 ∷ 0 ∷ 2 ∷ 1 ∷ 7 ∷ 3 ∷ 0 ∷ 8 ∷ []) (replicate 12288 7)) (written 256 (3 ∷ 255 ∷ 3 ∷ 9 ∷ []) (replicate 256 7))
+  v12 : call 12288 256 (0 ∷ 0 ∷ 2 ∷ 0 ∷ 1 ∷ 0 ∷ 1 ∷ 2 ∷ 255 ∷ 3 ∷ 1 ∷ 1 ∷ 255 ∷ 3 ∷ 1 ∷ 1 ∷ 2 ∷ 12 ∷ 1 ∷ 40 ∷ 41 ∷ 3 ∷ 0 ∷ 0 ∷ 0 ∷ []) (40 ∷ 49 ∷ 41 ∷ []) 0 1000000 ≡ gives (answer 0 0 0 0 5 1 9) (1 ∷ 0 ∷ 0 ∷ 8 ∷ 1 ∷ 0 ∷ 5 ∷ 0 ∷ 1 ∷ 2 ∷ 1 ∷ 3 ∷ 3 ∷ 1 ∷ 4 ∷ 2 ∷ 1 ∷ 5 ∷ 8 ∷ 6 ∷ 0 ∷ 2 ∷ 1 ∷ 7 ∷ 3 ∷ 0 ∷ 8 ∷ zeros 12261 0) (3 ∷ 255 ∷ 3 ∷ 9 ∷ zeros 252 0)
   -- open 2
-  v2 : call 12288 256 (0 ∷ 0 ∷ 1 ∷ 0 ∷ 1 ∷ 1 ∷ 255 ∷ 3 ∷ 1 ∷ 1 ∷ 1 ∷ 13 ∷ 0 ∷ 45 ∷ 44 ∷ []) (45 ∷ 44 ∷ []) 0 1000000 ≡ gives (answer 0 0 0 0 8 1 4) (written 12288 (1 ∷ 0 ∷ 0 ∷ 8 ∷ 1 ∷ 0 ∷ 2 ∷ 1 ∷ 2 ∷ 3 ∷ 0 ∷ 3 ∷ 2 ∷ 1 ∷ 4 ∷ 8 ∷ 5 ∷ 0 ∷ 2 ∷ 5 ∷ 4 ∷ 8 ∷ 7 ∷ []) (replicate 12288 7)) (written 256 (2 ∷ 255 ∷ 3 ∷ 4 ∷ []) (replicate 256 7))
+  v13 : call 12288 256 (0 ∷ 0 ∷ 1 ∷ 0 ∷ 1 ∷ 1 ∷ 255 ∷ 3 ∷ 1 ∷ 1 ∷ 1 ∷ 13 ∷ 0 ∷ 45 ∷ 44 ∷ []) (45 ∷ 44 ∷ []) 0 1000000 ≡ gives (answer 0 0 0 0 8 1 4) (1 ∷ 0 ∷ 0 ∷ 8 ∷ 1 ∷ 0 ∷ 2 ∷ 1 ∷ 2 ∷ 3 ∷ 0 ∷ 3 ∷ 2 ∷ 1 ∷ 4 ∷ 8 ∷ 5 ∷ 0 ∷ 2 ∷ 5 ∷ 4 ∷ 8 ∷ 7 ∷ zeros 12265 0) (2 ∷ 255 ∷ 3 ∷ 4 ∷ zeros 252 0)
   -- open 3
-  v3 : call 12288 256 (0 ∷ 0 ∷ 2 ∷ 0 ∷ 1 ∷ 2 ∷ 0 ∷ 1 ∷ 255 ∷ 3 ∷ 3 ∷ 1 ∷ 1 ∷ 8 ∷ 1 ∷ 0 ∷ 0 ∷ []) (97 ∷ []) 0 1000000 ≡ gives (answer 0 0 0 0 3 1 1) (written 12288 (4 ∷ 0 ∷ 1 ∷ []) (replicate 12288 7)) (written 256 (1 ∷ 255 ∷ 3 ∷ 1 ∷ []) (replicate 256 7))
+  v14 : call 12288 256 (0 ∷ 0 ∷ 2 ∷ 0 ∷ 1 ∷ 2 ∷ 0 ∷ 1 ∷ 255 ∷ 3 ∷ 3 ∷ 1 ∷ 1 ∷ 8 ∷ 1 ∷ 0 ∷ 0 ∷ []) (97 ∷ []) 0 1000000 ≡ gives (answer 0 0 0 0 3 1 1) (4 ∷ 0 ∷ 1 ∷ zeros 12285 0) (1 ∷ 255 ∷ 3 ∷ 1 ∷ zeros 252 0)
   -- open 4
-  v4 : call 12288 256 (0 ∷ 0 ∷ 1 ∷ 2 ∷ 0 ∷ 0 ∷ 0 ∷ []) (97 ∷ []) 0 1000000 ≡ gives (answer 0 0 0 0 1 1 1) (written 12288 (4 ∷ 0 ∷ 1 ∷ []) (replicate 12288 7)) (written 256 (1 ∷ 255 ∷ 3 ∷ 1 ∷ []) (replicate 256 7))
+  v15 : call 12288 256 (0 ∷ 0 ∷ 1 ∷ 2 ∷ 0 ∷ 0 ∷ 0 ∷ []) (97 ∷ []) 0 1000000 ≡ gives (answer 0 0 0 0 1 1 1) (4 ∷ 0 ∷ 1 ∷ zeros 12285 0) (1 ∷ 255 ∷ 3 ∷ 1 ∷ zeros 252 0)
   -- open 5
-  v5 : call 12288 256 (0 ∷ 0 ∷ 1 ∷ 0 ∷ 2 ∷ 2 ∷ 1 ∷ 0 ∷ 3 ∷ 1 ∷ 255 ∷ 3 ∷ 1 ∷ 0 ∷ 1 ∷ 8 ∷ 0 ∷ 0 ∷ 0 ∷ []) [] 0 1000000 ≡ gives (answer 0 0 0 0 7 2 2) (written 12288 (1 ∷ 0 ∷ 0 ∷ 3 ∷ 1 ∷ 1 ∷ []) (replicate 12288 7)) (written 256 (0 ∷ 255 ∷ 3 ∷ 2 ∷ 0 ∷ 1 ∷ 0 ∷ 2 ∷ []) (replicate 256 7))
+  v16 : call 12288 256 (0 ∷ 0 ∷ 1 ∷ 0 ∷ 2 ∷ 2 ∷ 1 ∷ 0 ∷ 3 ∷ 1 ∷ 255 ∷ 3 ∷ 1 ∷ 0 ∷ 1 ∷ 8 ∷ 0 ∷ 0 ∷ 0 ∷ []) [] 0 1000000 ≡ gives (answer 0 0 0 0 7 2 2) (1 ∷ 0 ∷ 0 ∷ 3 ∷ 1 ∷ 1 ∷ zeros 12282 0) (0 ∷ 255 ∷ 3 ∷ 2 ∷ 0 ∷ 1 ∷ 0 ∷ 2 ∷ zeros 248 0)
   -- open 6
-  v6 : call 12288 256 (0 ∷ 0 ∷ 2 ∷ 0 ∷ 1 ∷ 0 ∷ 2 ∷ 3 ∷ 255 ∷ 3 ∷ 1 ∷ 1 ∷ 255 ∷ 3 ∷ 1 ∷ 0 ∷ 255 ∷ 3 ∷ 1 ∷ 1 ∷ 2 ∷ 8 ∷ 1 ∷ 0 ∷ 0 ∷ 0 ∷ 45 ∷ 0 ∷ 0 ∷ []) (45 ∷ []) 0 1000000 ≡ gives (answer 0 0 0 0 4 2 7) (written 12288 (1 ∷ 0 ∷ 0 ∷ 3 ∷ 1 ∷ 1 ∷ 3 ∷ 2 ∷ 1 ∷ 2 ∷ 1 ∷ 2 ∷ 3 ∷ 0 ∷ 4 ∷ 2 ∷ 1 ∷ 3 ∷ 3 ∷ 0 ∷ 6 ∷ []) (replicate 12288 7)) (written 256 (0 ∷ 255 ∷ 3 ∷ 5 ∷ 1 ∷ 255 ∷ 3 ∷ 7 ∷ []) (replicate 256 7))
+  v17 : call 12288 256 (0 ∷ 0 ∷ 2 ∷ 0 ∷ 1 ∷ 0 ∷ 2 ∷ 3 ∷ 255 ∷ 3 ∷ 1 ∷ 1 ∷ 255 ∷ 3 ∷ 1 ∷ 0 ∷ 255 ∷ 3 ∷ 1 ∷ 1 ∷ 2 ∷ 8 ∷ 1 ∷ 0 ∷ 0 ∷ 0 ∷ 45 ∷ 0 ∷ 0 ∷ []) (45 ∷ []) 0 1000000 ≡ gives (answer 0 0 0 0 4 2 7) (1 ∷ 0 ∷ 0 ∷ 3 ∷ 1 ∷ 1 ∷ 3 ∷ 2 ∷ 1 ∷ 2 ∷ 1 ∷ 2 ∷ 3 ∷ 0 ∷ 4 ∷ 2 ∷ 1 ∷ 3 ∷ 3 ∷ 0 ∷ 6 ∷ zeros 12267 0) (0 ∷ 255 ∷ 3 ∷ 5 ∷ 1 ∷ 255 ∷ 3 ∷ 7 ∷ zeros 248 0)
   -- open 7
-  v7 : call 12288 256 (0 ∷ 0 ∷ 1 ∷ 0 ∷ 2 ∷ 2 ∷ 255 ∷ 3 ∷ 1 ∷ 1 ∷ 255 ∷ 3 ∷ 1 ∷ 0 ∷ 1 ∷ 12 ∷ 0 ∷ 40 ∷ 41 ∷ []) (40 ∷ 40 ∷ 41 ∷ []) 0 1000000 ≡ gives (answer 31 0 0 0 8 1 0) (written 12288 (1 ∷ 0 ∷ 0 ∷ 8 ∷ 1 ∷ 0 ∷ 2 ∷ 1 ∷ 2 ∷ 3 ∷ 0 ∷ 3 ∷ 3 ∷ 1 ∷ 1 ∷ 2 ∷ 1 ∷ 5 ∷ 8 ∷ 6 ∷ 0 ∷ 2 ∷ 1 ∷ 7 ∷ 3 ∷ 0 ∷ 8 ∷ 2 ∷ 1 ∷ 4 ∷ 8 ∷ 10 ∷ 0 ∷ 2 ∷ 1 ∷ 9 ∷ 8 ∷ 12 ∷ []) (replicate 12288 7)) (written 256 (0 ∷ 255 ∷ 3 ∷ 5 ∷ []) (replicate 256 7))
+  v18 : call 12288 256 (0 ∷ 0 ∷ 1 ∷ 0 ∷ 2 ∷ 2 ∷ 255 ∷ 3 ∷ 1 ∷ 1 ∷ 255 ∷ 3 ∷ 1 ∷ 0 ∷ 1 ∷ 12 ∷ 0 ∷ 40 ∷ 41 ∷ []) (40 ∷ 40 ∷ 41 ∷ []) 0 1000000 ≡ gives (answer 31 0 0 0 8 1 0) (1 ∷ 0 ∷ 0 ∷ 8 ∷ 1 ∷ 0 ∷ 2 ∷ 1 ∷ 2 ∷ 3 ∷ 0 ∷ 3 ∷ 3 ∷ 1 ∷ 1 ∷ 2 ∷ 1 ∷ 5 ∷ 8 ∷ 6 ∷ 0 ∷ 2 ∷ 1 ∷ 7 ∷ 3 ∷ 0 ∷ 8 ∷ 2 ∷ 1 ∷ 4 ∷ 8 ∷ 10 ∷ 0 ∷ 2 ∷ 1 ∷ 9 ∷ 8 ∷ 12 ∷ zeros 12250 0) (0 ∷ 255 ∷ 3 ∷ 5 ∷ zeros 252 0)
   -- open 8
-  v8 : call 12288 256 (0 ∷ 0 ∷ 2 ∷ 0 ∷ 1 ∷ 2 ∷ 0 ∷ 1 ∷ 255 ∷ 3 ∷ 1 ∷ 1 ∷ 1 ∷ 9 ∷ 1 ∷ 0 ∷ 0 ∷ []) (97 ∷ []) 0 1000000 ≡ gives (answer 0 0 0 0 3 2 7) (written 12288 (1 ∷ 0 ∷ 0 ∷ 7 ∷ 0 ∷ 0 ∷ 2 ∷ 1 ∷ 2 ∷ 3 ∷ 0 ∷ 3 ∷ 4 ∷ 0 ∷ 1 ∷ 2 ∷ 1 ∷ 5 ∷ 3 ∷ 0 ∷ 6 ∷ []) (replicate 12288 7)) (written 256 (0 ∷ 255 ∷ 3 ∷ 4 ∷ 1 ∷ 255 ∷ 3 ∷ 7 ∷ []) (replicate 256 7))
+  v19 : call 12288 256 (0 ∷ 0 ∷ 2 ∷ 0 ∷ 1 ∷ 2 ∷ 0 ∷ 1 ∷ 255 ∷ 3 ∷ 1 ∷ 1 ∷ 1 ∷ 9 ∷ 1 ∷ 0 ∷ 0 ∷ []) (97 ∷ []) 0 1000000 ≡ gives (answer 0 0 0 0 3 2 7) (1 ∷ 0 ∷ 0 ∷ 7 ∷ 0 ∷ 0 ∷ 2 ∷ 1 ∷ 2 ∷ 3 ∷ 0 ∷ 3 ∷ 4 ∷ 0 ∷ 1 ∷ 2 ∷ 1 ∷ 5 ∷ 3 ∷ 0 ∷ 6 ∷ zeros 12267 0) (0 ∷ 255 ∷ 3 ∷ 4 ∷ 1 ∷ 255 ∷ 3 ∷ 7 ∷ zeros 248 0)
   -- open 9
-  v9 : call 12288 256 (0 ∷ 0 ∷ 2 ∷ 0 ∷ 1 ∷ 2 ∷ 0 ∷ 1 ∷ 255 ∷ 3 ∷ 1 ∷ 1 ∷ 1 ∷ 11 ∷ 1 ∷ 0 ∷ 0 ∷ []) (97 ∷ []) 0 1000000 ≡ gives (answer 0 0 0 0 3 2 9) (written 12288 (1 ∷ 0 ∷ 0 ∷ 8 ∷ 1 ∷ 0 ∷ 2 ∷ 1 ∷ 2 ∷ 3 ∷ 0 ∷ 3 ∷ 4 ∷ 0 ∷ 1 ∷ 2 ∷ 1 ∷ 5 ∷ 8 ∷ 6 ∷ 0 ∷ 2 ∷ 1 ∷ 7 ∷ 3 ∷ 0 ∷ 8 ∷ []) (replicate 12288 7)) (written 256 (0 ∷ 255 ∷ 3 ∷ 4 ∷ 1 ∷ 255 ∷ 3 ∷ 9 ∷ []) (replicate 256 7))
-  -- open 10
-  v10 : call 12288 256 (0 ∷ 0 ∷ 1 ∷ 0 ∷ 1 ∷ 1 ∷ 255 ∷ 3 ∷ 1 ∷ 1 ∷ 1 ∷ 13 ∷ 0 ∷ 40 ∷ 41 ∷ []) [] 0 1000000 ≡ gives (answer 0 0 0 0 2 1 4) (written 12288 (1 ∷ 0 ∷ 0 ∷ 8 ∷ 1 ∷ 0 ∷ 2 ∷ 1 ∷ 2 ∷ 3 ∷ 0 ∷ 3 ∷ []) (replicate 12288 7)) (written 256 (0 ∷ 255 ∷ 3 ∷ 4 ∷ []) (replicate 256 7))
-  -- open 11
-  v11 : call 12288 256 (0 ∷ 0 ∷ 1 ∷ 0 ∷ 1 ∷ 1 ∷ 255 ∷ 3 ∷ 1 ∷ 1 ∷ 1 ∷ 12 ∷ 0 ∷ 40 ∷ 41 ∷ []) (40 ∷ 32 ∷ []) 0 1000000 ≡ gives (answer 30 2 12 0 5 0 0) (written 12288 [] (replicate 12288 7)) (written 256 [] (replicate 256 7))
-  -- open 12
-  v12 : call 12288 256 (0 ∷ 0 ∷ 1 ∷ 0 ∷ 1 ∷ 1 ∷ 255 ∷ 3 ∷ 1 ∷ 1 ∷ 1 ∷ 12 ∷ 0 ∷ 40 ∷ 41 ∷ []) (40 ∷ 32 ∷ []) 0 1000000 ≡ gives (answer 30 2 12 0 5 0 0) (written 12288 [] (replicate 12288 7)) (written 256 [] (replicate 256 7))
-  -- open 13
-  v13 : call 12288 256 (0 ∷ 0 ∷ 1 ∷ 0 ∷ 1 ∷ 1 ∷ 255 ∷ 3 ∷ 1 ∷ 3 ∷ 3 ∷ 0 ∷ 45 ∷ 0 ∷ 0 ∷ 9 ∷ 0 ∷ 0 ∷ 0 ∷ 0 ∷ 33 ∷ 0 ∷ 0 ∷ []) (45 ∷ []) 0 1000000 ≡ gives (answer 30 1 12 0 6 0 0) (written 12288 [] (replicate 12288 7)) (written 256 [] (replicate 256 7))
-  -- open 14
-  v14 : call 12288 256 (0 ∷ 0 ∷ 2 ∷ 0 ∷ 1 ∷ 2 ∷ 0 ∷ 1 ∷ 255 ∷ 3 ∷ 1 ∷ 1 ∷ 1 ∷ 12 ∷ 1 ∷ 91 ∷ 93 ∷ []) (91 ∷ 97 ∷ []) 0 1000000 ≡ gives (answer 30 2 1 93 4 0 0) (written 12288 [] (replicate 12288 7)) (written 256 [] (replicate 256 7))
-  -- open 15
-  v15 : call 12288 256 (0 ∷ 0 ∷ 1 ∷ 0 ∷ 1 ∷ 1 ∷ 255 ∷ 3 ∷ 1 ∷ 3 ∷ 3 ∷ 0 ∷ 45 ∷ 0 ∷ 0 ∷ 13 ∷ 0 ∷ 40 ∷ 41 ∷ 0 ∷ 45 ∷ 0 ∷ 0 ∷ []) (45 ∷ []) 0 1000000 ≡ gives (answer 30 1 1 45 4 0 0) (written 12288 [] (replicate 12288 7)) (written 256 [] (replicate 256 7))
-  -- open 16
-  v16 : call 12288 256 (0 ∷ 0 ∷ 2 ∷ 0 ∷ 1 ∷ 2 ∷ 0 ∷ 1 ∷ 255 ∷ 3 ∷ 1 ∷ 1 ∷ 1 ∷ 12 ∷ 1 ∷ 91 ∷ 93 ∷ []) (91 ∷ 97 ∷ []) 0 1000000 ≡ gives (answer 30 2 1 93 4 0 0) (written 12288 [] (replicate 12288 7)) (written 256 [] (replicate 256 7))
-  -- open 17
-  v17 : call 12288 256 (0 ∷ 0 ∷ 1 ∷ 0 ∷ 1 ∷ 1 ∷ 255 ∷ 3 ∷ 1 ∷ 3 ∷ 3 ∷ 0 ∷ 45 ∷ 0 ∷ 0 ∷ 13 ∷ 0 ∷ 40 ∷ 41 ∷ 0 ∷ 45 ∷ 0 ∷ 0 ∷ []) (45 ∷ []) 0 1000000 ≡ gives (answer 30 1 1 45 4 0 0) (written 12288 [] (replicate 12288 7)) (written 256 [] (replicate 256 7))
-  -- open 18
-  v18 : call 12288 256 (1 ∷ 1 ∷ 1 ∷ 97 ∷ 0 ∷ 1 ∷ 0 ∷ 1 ∷ 1 ∷ 255 ∷ 3 ∷ 1 ∷ 2 ∷ 2 ∷ 0 ∷ 45 ∷ 0 ∷ 0 ∷ 7 ∷ 0 ∷ 0 ∷ 0 ∷ []) (45 ∷ 32 ∷ 97 ∷ []) 0 1000000 ≡ gives (answer 30 2 6 0 3 0 0) (written 12288 [] (replicate 12288 7)) (written 256 [] (replicate 256 7))
-  -- open 19
-  v19 : call 12288 256 (1 ∷ 0 ∷ 1 ∷ 97 ∷ 0 ∷ 1 ∷ 0 ∷ 2 ∷ 2 ∷ 255 ∷ 3 ∷ 1 ∷ 2 ∷ 255 ∷ 3 ∷ 1 ∷ 1 ∷ 3 ∷ 1 ∷ 0 ∷ 0 ∷ 0 ∷ 2 ∷ 0 ∷ 0 ∷ 0 ∷ 2 ∷ 0 ∷ 0 ∷ 0 ∷ []) (97 ∷ 32 ∷ 97 ∷ []) 0 1000000 ≡ gives (answer 0 0 0 0 4 2 4) (written 12288 (1 ∷ 0 ∷ 0 ∷ 4 ∷ 2 ∷ 1 ∷ 2 ∷ 1 ∷ 2 ∷ 3 ∷ 0 ∷ 3 ∷ 3 ∷ 1 ∷ 3 ∷ []) (replicate 12288 7)) (written 256 (3 ∷ 255 ∷ 3 ∷ 4 ∷ 1 ∷ 255 ∷ 3 ∷ 5 ∷ []) (replicate 256 7))
-  -- open 20
-  v20 : call 12288 256 (0 ∷ 1 ∷ 1 ∷ 1 ∷ 97 ∷ 1 ∷ 0 ∷ 2 ∷ 2 ∷ 255 ∷ 3 ∷ 1 ∷ 1 ∷ 255 ∷ 3 ∷ 1 ∷ 0 ∷ 1 ∷ 5 ∷ 0 ∷ 0 ∷ 0 ∷ []) (97 ∷ []) 0 1000000 ≡ gives (answer 31 0 0 0 2 1 0) (written 12288 (1 ∷ 0 ∷ 0 ∷ 3 ∷ 1 ∷ 1 ∷ []) (replicate 12288 7)) (written 256 (0 ∷ 255 ∷ 3 ∷ 2 ∷ []) (replicate 256 7))
+  v20 : call 12288 256 (0 ∷ 0 ∷ 2 ∷ 0 ∷ 1 ∷ 2 ∷ 0 ∷ 1 ∷ 255 ∷ 3 ∷ 1 ∷ 1 ∷ 1 ∷ 11 ∷ 1 ∷ 0 ∷ 0 ∷ []) (97 ∷ []) 0 1000000 ≡ gives (answer 0 0 0 0 3 2 9) (1 ∷ 0 ∷ 0 ∷ 8 ∷ 1 ∷ 0 ∷ 2 ∷ 1 ∷ 2 ∷ 3 ∷ 0 ∷ 3 ∷ 4 ∷ 0 ∷ 1 ∷ 2 ∷ 1 ∷ 5 ∷ 8 ∷ 6 ∷ 0 ∷ 2 ∷ 1 ∷ 7 ∷ 3 ∷ 0 ∷ 8 ∷ zeros 12261 0) (0 ∷ 255 ∷ 3 ∷ 4 ∷ 1 ∷ 255 ∷ 3 ∷ 9 ∷ zeros 248 0)
 
 vectors1 : Vectors1
-unfolding classOf leading spanEnd commentAt commentEnd roundEnd rounds skipFrom identifierAt decimal numberOf numberAt same isReserved lookupFrom checked row spelling entry nonterminal variant stepOf step allPass ended whole checkBook outwards govern governor isSome isKind ofKind characterEnd identifierEnd reservedAt freeEnd variableAt tokenAt claimed afterElement closed numbersOf cellsIn identityOf findCell treeIn treesIn meaningOf meanings join beyond joinWith choiceError identifierError tokenError _>>=_ sameParse has allIn kept add addAll ask newest others spend make itemCell withCell withToken nested begin counted variants oneRun roundsRun failedCall runCall runIdentifier stored enter child either follow followed plainNext listNext chosen stops choice listing steps runner run cellNumbers parseNumbers written wholeValues allAre firstHigh byValues ending onBook answerOf
+unfolding classOf leading spanEnd commentAt commentEnd roundEnd rounds skipFrom identifierAt decimal numberOf numberAt same isReserved lookupFrom checked row spelling entry nonterminal variant stepOf step allPass ended whole checkBook outwards govern governor isSome isKind ofKind characterEnd identifierEnd reservedAt freeEnd variableAt tokenAt claimant afterElement closed numbersOf cellsIn identityOf findCell treeIn treesIn meaningOf meanings join beyond joinWith choiceError identifierError tokenError _>>=_ sameParse has allIn kept add addAll ask newest others spend make itemCell failedCall either chosen begin withCell withToken complete counted variants oneRun roundsRun runCall runIdentifier plainNext listNext stops nested reentry enter enterChild follow followed choice listing steps runner run cellNumbers parseNumbers written wholeValues allAre firstHigh byValues atEnd onBook answerOf
 vectors1 = record { v1 = refl; v2 = refl; v3 = refl; v4 = refl; v5 = refl; v6 = refl; v7 = refl; v8 = refl; v9 = refl; v10 = refl; v11 = refl; v12 = refl; v13 = refl; v14 = refl; v15 = refl; v16 = refl; v17 = refl; v18 = refl; v19 = refl; v20 = refl }
 
 record Vectors21 : Type 0 where
+  -- open 10
+  v21 : call 12288 256 (0 ∷ 0 ∷ 1 ∷ 0 ∷ 1 ∷ 1 ∷ 255 ∷ 3 ∷ 1 ∷ 1 ∷ 1 ∷ 13 ∷ 0 ∷ 40 ∷ 41 ∷ []) [] 0 1000000 ≡ gives (answer 0 0 0 0 2 1 4) (1 ∷ 0 ∷ 0 ∷ 8 ∷ 1 ∷ 0 ∷ 2 ∷ 1 ∷ 2 ∷ 3 ∷ 0 ∷ 3 ∷ zeros 12276 0) (0 ∷ 255 ∷ 3 ∷ 4 ∷ zeros 252 0)
+  -- open 11
+  v22 : call 12288 256 (0 ∷ 0 ∷ 1 ∷ 0 ∷ 1 ∷ 1 ∷ 255 ∷ 3 ∷ 1 ∷ 1 ∷ 1 ∷ 12 ∷ 0 ∷ 40 ∷ 41 ∷ []) (40 ∷ 32 ∷ []) 0 1000000 ≡ gives (answer 30 2 12 0 5 0 0) (zeros 12288 0) (zeros 256 0)
+  -- open 12
+  v23 : call 12288 256 (0 ∷ 0 ∷ 1 ∷ 0 ∷ 1 ∷ 1 ∷ 255 ∷ 3 ∷ 1 ∷ 1 ∷ 1 ∷ 12 ∷ 0 ∷ 40 ∷ 41 ∷ []) (40 ∷ 32 ∷ []) 0 1000000 ≡ gives (answer 30 2 12 0 5 0 0) (zeros 12288 0) (zeros 256 0)
+  -- open 13
+  v24 : call 12288 256 (0 ∷ 0 ∷ 1 ∷ 0 ∷ 1 ∷ 1 ∷ 255 ∷ 3 ∷ 1 ∷ 3 ∷ 3 ∷ 0 ∷ 45 ∷ 0 ∷ 0 ∷ 9 ∷ 0 ∷ 0 ∷ 0 ∷ 0 ∷ 33 ∷ 0 ∷ 0 ∷ []) (45 ∷ []) 0 1000000 ≡ gives (answer 30 1 12 0 6 0 0) (zeros 12288 0) (zeros 256 0)
+  -- open 14
+  v25 : call 12288 256 (0 ∷ 0 ∷ 2 ∷ 0 ∷ 1 ∷ 2 ∷ 0 ∷ 1 ∷ 255 ∷ 3 ∷ 1 ∷ 1 ∷ 1 ∷ 12 ∷ 1 ∷ 91 ∷ 93 ∷ []) (91 ∷ 97 ∷ []) 0 1000000 ≡ gives (answer 30 2 1 93 4 0 0) (zeros 12288 0) (zeros 256 0)
+  -- open 15
+  v26 : call 12288 256 (0 ∷ 0 ∷ 1 ∷ 0 ∷ 1 ∷ 1 ∷ 255 ∷ 3 ∷ 1 ∷ 3 ∷ 3 ∷ 0 ∷ 45 ∷ 0 ∷ 0 ∷ 13 ∷ 0 ∷ 40 ∷ 41 ∷ 0 ∷ 45 ∷ 0 ∷ 0 ∷ []) (45 ∷ []) 0 1000000 ≡ gives (answer 30 1 1 45 4 0 0) (zeros 12288 0) (zeros 256 0)
+  -- open 16
+  v27 : call 12288 256 (0 ∷ 0 ∷ 2 ∷ 0 ∷ 1 ∷ 2 ∷ 0 ∷ 1 ∷ 255 ∷ 3 ∷ 1 ∷ 1 ∷ 1 ∷ 12 ∷ 1 ∷ 91 ∷ 93 ∷ []) (91 ∷ 97 ∷ []) 0 1000000 ≡ gives (answer 30 2 1 93 4 0 0) (zeros 12288 0) (zeros 256 0)
+  -- open 17
+  v28 : call 12288 256 (0 ∷ 0 ∷ 1 ∷ 0 ∷ 1 ∷ 1 ∷ 255 ∷ 3 ∷ 1 ∷ 3 ∷ 3 ∷ 0 ∷ 45 ∷ 0 ∷ 0 ∷ 13 ∷ 0 ∷ 40 ∷ 41 ∷ 0 ∷ 45 ∷ 0 ∷ 0 ∷ []) (45 ∷ []) 0 1000000 ≡ gives (answer 30 1 1 45 4 0 0) (zeros 12288 0) (zeros 256 0)
+  -- open 18
+  v29 : call 12288 256 (1 ∷ 1 ∷ 1 ∷ 97 ∷ 0 ∷ 1 ∷ 0 ∷ 1 ∷ 1 ∷ 255 ∷ 3 ∷ 1 ∷ 2 ∷ 2 ∷ 0 ∷ 45 ∷ 0 ∷ 0 ∷ 7 ∷ 0 ∷ 0 ∷ 0 ∷ []) (45 ∷ 32 ∷ 97 ∷ []) 0 1000000 ≡ gives (answer 30 2 6 0 3 0 0) (zeros 12288 0) (zeros 256 0)
+  -- open 19
+  v30 : call 12288 256 (1 ∷ 0 ∷ 1 ∷ 97 ∷ 0 ∷ 1 ∷ 0 ∷ 2 ∷ 2 ∷ 255 ∷ 3 ∷ 1 ∷ 2 ∷ 255 ∷ 3 ∷ 1 ∷ 1 ∷ 3 ∷ 1 ∷ 0 ∷ 0 ∷ 0 ∷ 2 ∷ 0 ∷ 0 ∷ 0 ∷ 2 ∷ 0 ∷ 0 ∷ 0 ∷ []) (97 ∷ 32 ∷ 97 ∷ []) 0 1000000 ≡ gives (answer 0 0 0 0 4 2 4) (1 ∷ 0 ∷ 0 ∷ 4 ∷ 2 ∷ 1 ∷ 2 ∷ 1 ∷ 2 ∷ 3 ∷ 0 ∷ 3 ∷ 3 ∷ 1 ∷ 3 ∷ zeros 12273 0) (3 ∷ 255 ∷ 3 ∷ 4 ∷ 1 ∷ 255 ∷ 3 ∷ 5 ∷ zeros 248 0)
+  -- open 20
+  v31 : call 12288 256 (0 ∷ 1 ∷ 1 ∷ 1 ∷ 97 ∷ 1 ∷ 0 ∷ 2 ∷ 2 ∷ 255 ∷ 3 ∷ 1 ∷ 1 ∷ 255 ∷ 3 ∷ 1 ∷ 0 ∷ 1 ∷ 5 ∷ 0 ∷ 0 ∷ 0 ∷ []) (97 ∷ []) 0 1000000 ≡ gives (answer 31 0 0 0 2 1 0) (1 ∷ 0 ∷ 0 ∷ 3 ∷ 1 ∷ 1 ∷ zeros 12282 0) (0 ∷ 255 ∷ 3 ∷ 2 ∷ zeros 252 0)
   -- open 21
-  v21 : call 12288 256 (0 ∷ 1 ∷ 0 ∷ 1 ∷ 97 ∷ 2 ∷ 1 ∷ 1 ∷ 2 ∷ 0 ∷ 1 ∷ 255 ∷ 3 ∷ 1 ∷ 2 ∷ 2 ∷ 0 ∷ 45 ∷ 0 ∷ 0 ∷ 8 ∷ 1 ∷ 0 ∷ 0 ∷ []) (45 ∷ 97 ∷ []) 0 1000000 ≡ gives (answer 0 0 0 0 4 1 4) (written 12288 (1 ∷ 0 ∷ 0 ∷ 4 ∷ 1 ∷ 1 ∷ 2 ∷ 1 ∷ 2 ∷ 3 ∷ 0 ∷ 3 ∷ []) (replicate 12288 7)) (written 256 (2 ∷ 255 ∷ 3 ∷ 4 ∷ []) (replicate 256 7))
+  v32 : call 12288 256 (0 ∷ 1 ∷ 0 ∷ 1 ∷ 97 ∷ 2 ∷ 1 ∷ 1 ∷ 2 ∷ 0 ∷ 1 ∷ 255 ∷ 3 ∷ 1 ∷ 2 ∷ 2 ∷ 0 ∷ 45 ∷ 0 ∷ 0 ∷ 8 ∷ 1 ∷ 0 ∷ 0 ∷ []) (45 ∷ 97 ∷ []) 0 1000000 ≡ gives (answer 0 0 0 0 4 1 4) (1 ∷ 0 ∷ 0 ∷ 4 ∷ 1 ∷ 1 ∷ 2 ∷ 1 ∷ 2 ∷ 3 ∷ 0 ∷ 3 ∷ zeros 12276 0) (2 ∷ 255 ∷ 3 ∷ 4 ∷ zeros 252 0)
   -- open 22
-  v22 : call 12288 256 (0 ∷ 0 ∷ 1 ∷ 0 ∷ 1 ∷ 1 ∷ 255 ∷ 3 ∷ 1 ∷ 1 ∷ 1 ∷ 12 ∷ 0 ∷ 40 ∷ 41 ∷ []) (40 ∷ []) 0 1000000 ≡ gives (answer 30 1 12 0 5 0 0) (written 12288 [] (replicate 12288 7)) (written 256 [] (replicate 256 7))
+  v33 : call 12288 256 (0 ∷ 0 ∷ 1 ∷ 0 ∷ 1 ∷ 1 ∷ 255 ∷ 3 ∷ 1 ∷ 1 ∷ 1 ∷ 12 ∷ 0 ∷ 40 ∷ 41 ∷ []) (40 ∷ []) 0 1000000 ≡ gives (answer 30 1 12 0 5 0 0) (zeros 12288 0) (zeros 256 0)
   -- open 23
-  v23 : call 12288 256 (0 ∷ 0 ∷ 1 ∷ 2 ∷ 0 ∷ 0 ∷ 0 ∷ []) (97 ∷ []) 0 1000000 ≡ gives (answer 0 0 0 0 1 1 1) (written 12288 (4 ∷ 0 ∷ 1 ∷ []) (replicate 12288 7)) (written 256 (1 ∷ 255 ∷ 3 ∷ 1 ∷ []) (replicate 256 7))
+  v34 : call 12288 256 (0 ∷ 0 ∷ 1 ∷ 2 ∷ 0 ∷ 0 ∷ 0 ∷ []) (97 ∷ []) 0 1000000 ≡ gives (answer 0 0 0 0 1 1 1) (4 ∷ 0 ∷ 1 ∷ zeros 12285 0) (1 ∷ 255 ∷ 3 ∷ 1 ∷ zeros 252 0)
   -- open 24
-  v24 : call 12288 256 (0 ∷ 0 ∷ 1 ∷ 0 ∷ 2 ∷ 2 ∷ 255 ∷ 3 ∷ 1 ∷ 2 ∷ 255 ∷ 3 ∷ 1 ∷ 1 ∷ 3 ∷ 3 ∷ 0 ∷ 0 ∷ 0 ∷ 0 ∷ 33 ∷ 0 ∷ 0 ∷ 0 ∷ 49 ∷ 0 ∷ 0 ∷ []) (49 ∷ []) 0 1000000 ≡ gives (answer 0 0 0 0 4 1 4) (written 12288 (1 ∷ 0 ∷ 0 ∷ 5 ∷ 0 ∷ 1 ∷ 2 ∷ 1 ∷ 2 ∷ 3 ∷ 1 ∷ 1 ∷ []) (replicate 12288 7)) (written 256 (1 ∷ 255 ∷ 3 ∷ 4 ∷ []) (replicate 256 7))
+  v35 : call 12288 256 (0 ∷ 0 ∷ 1 ∷ 0 ∷ 2 ∷ 2 ∷ 255 ∷ 3 ∷ 1 ∷ 2 ∷ 255 ∷ 3 ∷ 1 ∷ 1 ∷ 3 ∷ 3 ∷ 0 ∷ 0 ∷ 0 ∷ 0 ∷ 33 ∷ 0 ∷ 0 ∷ 0 ∷ 49 ∷ 0 ∷ 0 ∷ []) (49 ∷ []) 0 1000000 ≡ gives (answer 0 0 0 0 4 1 4) (1 ∷ 0 ∷ 0 ∷ 5 ∷ 0 ∷ 1 ∷ 2 ∷ 1 ∷ 2 ∷ 3 ∷ 1 ∷ 1 ∷ zeros 12276 0) (1 ∷ 255 ∷ 3 ∷ 4 ∷ zeros 252 0)
   -- open 25
-  v25 : call 12288 256 (0 ∷ 0 ∷ 1 ∷ 0 ∷ 1 ∷ 1 ∷ 255 ∷ 3 ∷ 1 ∷ 1 ∷ 1 ∷ 13 ∷ 0 ∷ 45 ∷ 44 ∷ []) (45 ∷ 44 ∷ []) 0 1000000 ≡ gives (answer 0 0 0 0 8 1 4) (written 12288 (1 ∷ 0 ∷ 0 ∷ 8 ∷ 1 ∷ 0 ∷ 2 ∷ 1 ∷ 2 ∷ 3 ∷ 0 ∷ 3 ∷ 2 ∷ 1 ∷ 4 ∷ 8 ∷ 5 ∷ 0 ∷ 2 ∷ 5 ∷ 4 ∷ 8 ∷ 7 ∷ []) (replicate 12288 7)) (written 256 (2 ∷ 255 ∷ 3 ∷ 4 ∷ []) (replicate 256 7))
+  v36 : call 12288 256 (0 ∷ 0 ∷ 1 ∷ 0 ∷ 1 ∷ 1 ∷ 255 ∷ 3 ∷ 1 ∷ 1 ∷ 1 ∷ 13 ∷ 0 ∷ 45 ∷ 44 ∷ []) (45 ∷ 44 ∷ []) 0 1000000 ≡ gives (answer 0 0 0 0 8 1 4) (1 ∷ 0 ∷ 0 ∷ 8 ∷ 1 ∷ 0 ∷ 2 ∷ 1 ∷ 2 ∷ 3 ∷ 0 ∷ 3 ∷ 2 ∷ 1 ∷ 4 ∷ 8 ∷ 5 ∷ 0 ∷ 2 ∷ 5 ∷ 4 ∷ 8 ∷ 7 ∷ zeros 12265 0) (2 ∷ 255 ∷ 3 ∷ 4 ∷ zeros 252 0)
   -- open 26
-  v26 : call 12288 256 (0 ∷ 0 ∷ 2 ∷ 0 ∷ 1 ∷ 2 ∷ 0 ∷ 1 ∷ 255 ∷ 3 ∷ 1 ∷ 1 ∷ 1 ∷ 9 ∷ 1 ∷ 0 ∷ 0 ∷ []) [] 0 1000000 ≡ gives (answer 0 0 0 0 3 1 4) (written 12288 (1 ∷ 0 ∷ 0 ∷ 7 ∷ 0 ∷ 0 ∷ 2 ∷ 1 ∷ 2 ∷ 3 ∷ 0 ∷ 3 ∷ []) (replicate 12288 7)) (written 256 (0 ∷ 255 ∷ 3 ∷ 4 ∷ []) (replicate 256 7))
+  v37 : call 12288 256 (0 ∷ 0 ∷ 2 ∷ 0 ∷ 1 ∷ 2 ∷ 0 ∷ 1 ∷ 255 ∷ 3 ∷ 1 ∷ 1 ∷ 1 ∷ 9 ∷ 1 ∷ 0 ∷ 0 ∷ []) [] 0 1000000 ≡ gives (answer 0 0 0 0 3 1 4) (1 ∷ 0 ∷ 0 ∷ 7 ∷ 0 ∷ 0 ∷ 2 ∷ 1 ∷ 2 ∷ 3 ∷ 0 ∷ 3 ∷ zeros 12276 0) (0 ∷ 255 ∷ 3 ∷ 4 ∷ zeros 252 0)
   -- open 27
-  v27 : call 12288 256 (0 ∷ 0 ∷ 1 ∷ 0 ∷ 1 ∷ 1 ∷ 255 ∷ 3 ∷ 1 ∷ 1 ∷ 1 ∷ 12 ∷ 0 ∷ 40 ∷ 41 ∷ []) [] 0 1000000 ≡ gives (answer 30 0 11 0 2 0 0) (written 12288 [] (replicate 12288 7)) (written 256 [] (replicate 256 7))
+  v38 : call 12288 256 (0 ∷ 0 ∷ 1 ∷ 0 ∷ 1 ∷ 1 ∷ 255 ∷ 3 ∷ 1 ∷ 1 ∷ 1 ∷ 12 ∷ 0 ∷ 40 ∷ 41 ∷ []) [] 0 1000000 ≡ gives (answer 30 0 11 0 2 0 0) (zeros 12288 0) (zeros 256 0)
   -- open 28
-  v28 : call 12288 256 (0 ∷ 0 ∷ 2 ∷ 0 ∷ 1 ∷ 0 ∷ 1 ∷ 2 ∷ 255 ∷ 3 ∷ 1 ∷ 1 ∷ 255 ∷ 3 ∷ 1 ∷ 0 ∷ 1 ∷ 10 ∷ 1 ∷ 0 ∷ 0 ∷ []) [] 0 1000000 ≡ gives (answer 22 0 0 0 130 0 0) (written 12288 [] (replicate 12288 7)) (written 256 [] (replicate 256 7))
+  v39 : call 12288 256 (0 ∷ 0 ∷ 2 ∷ 0 ∷ 1 ∷ 0 ∷ 1 ∷ 2 ∷ 255 ∷ 3 ∷ 1 ∷ 1 ∷ 255 ∷ 3 ∷ 1 ∷ 0 ∷ 1 ∷ 10 ∷ 1 ∷ 0 ∷ 0 ∷ []) [] 0 1000000 ≡ gives (answer 22 0 0 0 130 0 0) (zeros 12288 0) (zeros 256 0)
   -- open 29
-  v29 : call 12288 256 (0 ∷ 0 ∷ 1 ∷ 0 ∷ 3 ∷ 3 ∷ 255 ∷ 3 ∷ 1 ∷ 2 ∷ 1 ∷ 0 ∷ 3 ∷ 1 ∷ 255 ∷ 3 ∷ 1 ∷ 1 ∷ 4 ∷ 0 ∷ 40 ∷ 0 ∷ 0 ∷ 8 ∷ 0 ∷ 0 ∷ 0 ∷ 8 ∷ 0 ∷ 0 ∷ 0 ∷ 0 ∷ 120 ∷ 0 ∷ 0 ∷ []) (40 ∷ 40 ∷ 40 ∷ 40 ∷ 40 ∷ 40 ∷ 40 ∷ 40 ∷ 40 ∷ 40 ∷ 40 ∷ 40 ∷ 40 ∷ 40 ∷ 40 ∷ 40 ∷ 40 ∷ 40 ∷ 40 ∷ 40 ∷ 40 ∷ 40 ∷ 40 ∷ 40 ∷ 40 ∷ 40 ∷ 40 ∷ 40 ∷ 40 ∷ 40 ∷ 40 ∷ 40 ∷ 40 ∷ 40 ∷ 40 ∷ 40 ∷ 40 ∷ 40 ∷ 40 ∷ 40 ∷ 40 ∷ 40 ∷ 40 ∷ 40 ∷ 40 ∷ 40 ∷ 40 ∷ 40 ∷ 40 ∷ 40 ∷ 40 ∷ 40 ∷ 40 ∷ 40 ∷ 40 ∷ 40 ∷ 40 ∷ 40 ∷ 40 ∷ 40 ∷ 40 ∷ 40 ∷ 40 ∷ 40 ∷ 40 ∷ 40 ∷ 40 ∷ 40 ∷ 40 ∷ 40 ∷ 40 ∷ 40 ∷ 40 ∷ 40 ∷ 40 ∷ 40 ∷ 40 ∷ 40 ∷ 40 ∷ 40 ∷ 40 ∷ 40 ∷ 40 ∷ 40 ∷ 40 ∷ 40 ∷ 40 ∷ 40 ∷ 40 ∷ 40 ∷ 40 ∷ 40 ∷ 40 ∷ 40 ∷ 40 ∷ 40 ∷ 40 ∷ 40 ∷ 40 ∷ 40 ∷ 40 ∷ 40 ∷ 40 ∷ 40 ∷ 40 ∷ 40 ∷ 40 ∷ 40 ∷ 40 ∷ 40 ∷ 40 ∷ 40 ∷ 40 ∷ 40 ∷ 40 ∷ 40 ∷ 40 ∷ 40 ∷ 40 ∷ 40 ∷ 40 ∷ 40 ∷ 40 ∷ 40 ∷ 40 ∷ 40 ∷ 40 ∷ 40 ∷ 40 ∷ 40 ∷ 40 ∷ 40 ∷ 40 ∷ 40 ∷ 40 ∷ 40 ∷ 40 ∷ 40 ∷ 40 ∷ 40 ∷ 40 ∷ 40 ∷ 40 ∷ 40 ∷ 40 ∷ 40 ∷ 40 ∷ 40 ∷ 40 ∷ 40 ∷ 40 ∷ 40 ∷ 40 ∷ 40 ∷ 40 ∷ 40 ∷ 40 ∷ 40 ∷ 40 ∷ 40 ∷ 40 ∷ 40 ∷ 40 ∷ 40 ∷ 40 ∷ 40 ∷ 40 ∷ 40 ∷ 40 ∷ 40 ∷ 40 ∷ 40 ∷ 40 ∷ 40 ∷ 40 ∷ 40 ∷ 40 ∷ 40 ∷ 40 ∷ 40 ∷ 40 ∷ 40 ∷ 40 ∷ 40 ∷ 40 ∷ 40 ∷ 40 ∷ 40 ∷ 40 ∷ 40 ∷ 40 ∷ 40 ∷ 40 ∷ 40 ∷ 40 ∷ 40 ∷ 40 ∷ 40 ∷ 40 ∷ 120 ∷ []) 0 2000 ≡ gives (answer 21 0 0 0 605 0 0) (written 12288 [] (replicate 12288 7)) (written 256 [] (replicate 256 7))
-  -- open 30
-  v30 : call 12288 256 (0 ∷ 0 ∷ 1 ∷ 0 ∷ 3 ∷ 3 ∷ 255 ∷ 3 ∷ 1 ∷ 2 ∷ 1 ∷ 0 ∷ 1 ∷ 2 ∷ 255 ∷ 3 ∷ 1 ∷ 1 ∷ 5 ∷ 0 ∷ 40 ∷ 0 ∷ 0 ∷ 8 ∷ 0 ∷ 0 ∷ 0 ∷ 8 ∷ 0 ∷ 0 ∷ 0 ∷ 0 ∷ 43 ∷ 0 ∷ 0 ∷ 0 ∷ 120 ∷ 0 ∷ 0 ∷ []) (40 ∷ 40 ∷ 40 ∷ 40 ∷ 40 ∷ 40 ∷ 40 ∷ 40 ∷ 40 ∷ 40 ∷ 40 ∷ 40 ∷ 40 ∷ 40 ∷ 40 ∷ 40 ∷ 40 ∷ 40 ∷ 40 ∷ 40 ∷ 40 ∷ 40 ∷ 40 ∷ 40 ∷ 40 ∷ 40 ∷ 40 ∷ 40 ∷ 40 ∷ 40 ∷ 40 ∷ 40 ∷ 40 ∷ 40 ∷ 40 ∷ 40 ∷ 40 ∷ 40 ∷ 40 ∷ 40 ∷ 40 ∷ 40 ∷ 40 ∷ 40 ∷ 40 ∷ 40 ∷ 40 ∷ 40 ∷ 40 ∷ 40 ∷ 40 ∷ 40 ∷ 40 ∷ 40 ∷ 40 ∷ 40 ∷ 40 ∷ 40 ∷ 40 ∷ 40 ∷ 40 ∷ 40 ∷ 40 ∷ 40 ∷ 40 ∷ 40 ∷ 40 ∷ 40 ∷ 40 ∷ 40 ∷ 40 ∷ 40 ∷ 40 ∷ 40 ∷ 40 ∷ 40 ∷ 40 ∷ 40 ∷ 40 ∷ 40 ∷ 40 ∷ 40 ∷ 40 ∷ 40 ∷ 40 ∷ 40 ∷ 40 ∷ 40 ∷ 40 ∷ 40 ∷ 40 ∷ 40 ∷ 40 ∷ 40 ∷ 40 ∷ 40 ∷ 40 ∷ 40 ∷ 40 ∷ 40 ∷ 40 ∷ 40 ∷ 40 ∷ 40 ∷ 40 ∷ 40 ∷ 40 ∷ 40 ∷ 40 ∷ 40 ∷ 40 ∷ 40 ∷ 40 ∷ 40 ∷ 40 ∷ 40 ∷ 40 ∷ 40 ∷ 40 ∷ 40 ∷ 40 ∷ 40 ∷ 40 ∷ 40 ∷ 40 ∷ 40 ∷ 40 ∷ 40 ∷ 40 ∷ 40 ∷ 40 ∷ 40 ∷ 40 ∷ 40 ∷ 40 ∷ 40 ∷ 40 ∷ 40 ∷ 40 ∷ 40 ∷ 40 ∷ 40 ∷ 40 ∷ 40 ∷ 40 ∷ 40 ∷ 40 ∷ 40 ∷ 40 ∷ 40 ∷ 40 ∷ 40 ∷ 40 ∷ 40 ∷ 40 ∷ 40 ∷ 40 ∷ 40 ∷ 40 ∷ 40 ∷ 40 ∷ 40 ∷ 40 ∷ 40 ∷ 40 ∷ 40 ∷ 40 ∷ 40 ∷ 40 ∷ 40 ∷ 40 ∷ 40 ∷ 40 ∷ 40 ∷ 40 ∷ 40 ∷ 40 ∷ 40 ∷ 40 ∷ 40 ∷ 40 ∷ 40 ∷ 40 ∷ 40 ∷ 40 ∷ 40 ∷ 40 ∷ 40 ∷ 40 ∷ 40 ∷ 40 ∷ 40 ∷ 40 ∷ 40 ∷ 40 ∷ 40 ∷ 40 ∷ 40 ∷ 40 ∷ 120 ∷ []) 0 2000 ≡ gives (answer 21 0 0 0 605 0 0) (written 12288 [] (replicate 12288 7)) (written 256 [] (replicate 256 7))
-  -- open 31
-  v31 : call 12288 256 (0 ∷ 0 ∷ 2 ∷ 0 ∷ 1 ∷ 0 ∷ 1 ∷ 2 ∷ 255 ∷ 3 ∷ 1 ∷ 2 ∷ 255 ∷ 3 ∷ 1 ∷ 0 ∷ 2 ∷ 10 ∷ 1 ∷ 0 ∷ 0 ∷ 0 ∷ 33 ∷ 0 ∷ 0 ∷ []) [] 0 1000000 ≡ gives (answer 21 0 0 0 601 0 0) (written 12288 [] (replicate 12288 7)) (written 256 [] (replicate 256 7))
-  -- open 32
-  v32 : call 12288 256 (0 ∷ 0 ∷ 2 ∷ 0 ∷ 2 ∷ 2 ∷ 0 ∷ 2 ∷ 255 ∷ 3 ∷ 1 ∷ 2 ∷ 255 ∷ 3 ∷ 1 ∷ 1 ∷ 3 ∷ 0 ∷ 40 ∷ 0 ∷ 0 ∷ 8 ∷ 0 ∷ 0 ∷ 0 ∷ 8 ∷ 1 ∷ 0 ∷ 0 ∷ []) (40 ∷ 40 ∷ 40 ∷ 40 ∷ 40 ∷ 40 ∷ 40 ∷ 40 ∷ 40 ∷ 40 ∷ 40 ∷ 40 ∷ 40 ∷ 40 ∷ 40 ∷ 40 ∷ 40 ∷ 40 ∷ 40 ∷ 40 ∷ 40 ∷ 40 ∷ 40 ∷ 40 ∷ 40 ∷ 40 ∷ 40 ∷ 40 ∷ 40 ∷ 40 ∷ 40 ∷ 40 ∷ 40 ∷ 40 ∷ 40 ∷ 40 ∷ 40 ∷ 40 ∷ 40 ∷ 40 ∷ 40 ∷ 40 ∷ 40 ∷ 40 ∷ 40 ∷ 40 ∷ 40 ∷ 40 ∷ 40 ∷ 40 ∷ 40 ∷ 40 ∷ 40 ∷ 40 ∷ 40 ∷ 40 ∷ 40 ∷ 40 ∷ 40 ∷ 40 ∷ 40 ∷ 40 ∷ 40 ∷ 40 ∷ 40 ∷ 40 ∷ 40 ∷ 40 ∷ 40 ∷ 40 ∷ 40 ∷ 40 ∷ 40 ∷ 40 ∷ 40 ∷ 40 ∷ 40 ∷ 40 ∷ 40 ∷ 40 ∷ 40 ∷ 40 ∷ 40 ∷ 40 ∷ 40 ∷ 40 ∷ 40 ∷ 40 ∷ 40 ∷ 40 ∷ 40 ∷ 40 ∷ 40 ∷ 40 ∷ 40 ∷ 40 ∷ 40 ∷ 40 ∷ 40 ∷ 40 ∷ 40 ∷ 40 ∷ 40 ∷ 40 ∷ 40 ∷ 40 ∷ 40 ∷ 40 ∷ 40 ∷ 40 ∷ 40 ∷ 40 ∷ 40 ∷ 40 ∷ 40 ∷ 40 ∷ 40 ∷ 40 ∷ 40 ∷ 40 ∷ 40 ∷ 40 ∷ 40 ∷ 40 ∷ 40 ∷ 40 ∷ 40 ∷ 40 ∷ 40 ∷ 40 ∷ 40 ∷ 40 ∷ 40 ∷ 40 ∷ 40 ∷ 40 ∷ 40 ∷ 40 ∷ 40 ∷ 40 ∷ 40 ∷ 40 ∷ 40 ∷ 40 ∷ 40 ∷ 40 ∷ 40 ∷ 40 ∷ 40 ∷ 40 ∷ 40 ∷ 40 ∷ 40 ∷ 40 ∷ 40 ∷ 40 ∷ 40 ∷ 40 ∷ 40 ∷ 40 ∷ 40 ∷ 40 ∷ 40 ∷ 40 ∷ 40 ∷ 40 ∷ 40 ∷ 40 ∷ 40 ∷ 40 ∷ 40 ∷ 40 ∷ 40 ∷ 40 ∷ 40 ∷ 40 ∷ 40 ∷ 40 ∷ 40 ∷ 40 ∷ 40 ∷ 40 ∷ 40 ∷ 40 ∷ 40 ∷ 40 ∷ 40 ∷ 40 ∷ 40 ∷ 40 ∷ 40 ∷ 40 ∷ 40 ∷ 40 ∷ 40 ∷ 40 ∷ 40 ∷ 40 ∷ 40 ∷ []) 0 1000000 ≡ gives (answer 21 0 0 0 601 0 0) (written 12288 [] (replicate 12288 7)) (written 256 [] (replicate 256 7))
-  -- open 33
-  v33 : call 12288 256 (0 ∷ 0 ∷ 1 ∷ 1 ∷ 2 ∷ 2 ∷ 255 ∷ 3 ∷ 1 ∷ 2 ∷ 255 ∷ 3 ∷ 1 ∷ 1 ∷ 3 ∷ 0 ∷ 40 ∷ 0 ∷ 0 ∷ 8 ∷ 0 ∷ 0 ∷ 0 ∷ 0 ∷ 120 ∷ 0 ∷ 0 ∷ []) (40 ∷ 40 ∷ 40 ∷ 40 ∷ 40 ∷ 40 ∷ 40 ∷ 40 ∷ 40 ∷ 40 ∷ 40 ∷ 40 ∷ 40 ∷ 40 ∷ 40 ∷ 40 ∷ 40 ∷ 40 ∷ 40 ∷ 40 ∷ 40 ∷ 40 ∷ 40 ∷ 40 ∷ 40 ∷ 40 ∷ 40 ∷ 40 ∷ 40 ∷ 40 ∷ 40 ∷ 40 ∷ 40 ∷ 40 ∷ 40 ∷ 40 ∷ 40 ∷ 40 ∷ 40 ∷ 40 ∷ 40 ∷ 40 ∷ 40 ∷ 40 ∷ 40 ∷ 40 ∷ 40 ∷ 40 ∷ 40 ∷ 40 ∷ 40 ∷ 40 ∷ 40 ∷ 40 ∷ 40 ∷ 40 ∷ 40 ∷ 40 ∷ 40 ∷ 40 ∷ 40 ∷ 40 ∷ 40 ∷ 40 ∷ 40 ∷ 40 ∷ 40 ∷ 40 ∷ 40 ∷ 40 ∷ 40 ∷ 40 ∷ 40 ∷ 40 ∷ 40 ∷ 40 ∷ 40 ∷ 40 ∷ 40 ∷ 40 ∷ 40 ∷ 40 ∷ 40 ∷ 40 ∷ 40 ∷ 40 ∷ 40 ∷ 40 ∷ 40 ∷ 40 ∷ 40 ∷ 40 ∷ 40 ∷ 40 ∷ 40 ∷ 40 ∷ 40 ∷ 40 ∷ 40 ∷ 40 ∷ 40 ∷ 40 ∷ 40 ∷ 40 ∷ 40 ∷ 40 ∷ 40 ∷ 40 ∷ 40 ∷ 40 ∷ 40 ∷ 40 ∷ 40 ∷ 40 ∷ 40 ∷ 40 ∷ 40 ∷ 40 ∷ 40 ∷ 40 ∷ 40 ∷ 40 ∷ 40 ∷ 40 ∷ 40 ∷ 40 ∷ 40 ∷ 40 ∷ 40 ∷ 40 ∷ 40 ∷ 40 ∷ 40 ∷ 40 ∷ 40 ∷ 40 ∷ 40 ∷ 40 ∷ 40 ∷ 40 ∷ 40 ∷ 40 ∷ 40 ∷ 40 ∷ 40 ∷ 40 ∷ 40 ∷ 40 ∷ 40 ∷ 40 ∷ 40 ∷ 40 ∷ 40 ∷ 40 ∷ 40 ∷ 40 ∷ 40 ∷ 40 ∷ 40 ∷ 40 ∷ 40 ∷ 40 ∷ 40 ∷ 40 ∷ 40 ∷ 40 ∷ 40 ∷ 40 ∷ 40 ∷ 40 ∷ 40 ∷ 40 ∷ 40 ∷ 40 ∷ 40 ∷ 40 ∷ 40 ∷ 40 ∷ 40 ∷ 40 ∷ 40 ∷ 40 ∷ 40 ∷ 40 ∷ 40 ∷ 40 ∷ 40 ∷ 40 ∷ 40 ∷ 40 ∷ 40 ∷ 40 ∷ 40 ∷ 40 ∷ 40 ∷ 40 ∷ 40 ∷ 40 ∷ 40 ∷ 120 ∷ []) 0 1000000 ≡ gives (answer 0 0 0 0 799 1 400) (written 12288 (1 ∷ 0 ∷ 0 ∷ 3 ∷ 1 ∷ 1 ∷ 2 ∷ 1 ∷ 2 ∷ 3 ∷ 0 ∷ 3 ∷ 2 ∷ 1 ∷ 4 ∷ 3 ∷ 0 ∷ 5 ∷ 2 ∷ 1 ∷ 6 ∷ 3 ∷ 0 ∷ 7 ∷ 2 ∷ 1 ∷ 8 ∷ 3 ∷ 0 ∷ 9 ∷ 2 ∷ 1 ∷ 10 ∷ 3 ∷ 0 ∷ 11 ∷ 2 ∷ 1 ∷ 12 ∷ 3 ∷ 0 ∷ 13 ∷ 2 ∷ 1 ∷ 14 ∷ 3 ∷ 0 ∷ 15 ∷ 2 ∷ 1 ∷ 16 ∷ 3 ∷ 0 ∷ 17 ∷ 2 ∷ 1 ∷ 18 ∷ 3 ∷ 0 ∷ 19 ∷ 2 ∷ 1 ∷ 20 ∷ 3 ∷ 0 ∷ 21 ∷ 2 ∷ 1 ∷ 22 ∷ 3 ∷ 0 ∷ 23 ∷ 2 ∷ 1 ∷ 24 ∷ 3 ∷ 0 ∷ 25 ∷ 2 ∷ 1 ∷ 26 ∷ 3 ∷ 0 ∷ 27 ∷ 2 ∷ 1 ∷ 28 ∷ 3 ∷ 0 ∷ 29 ∷ 2 ∷ 1 ∷ 30 ∷ 3 ∷ 0 ∷ 31 ∷ 2 ∷ 1 ∷ 32 ∷ 3 ∷ 0 ∷ 33 ∷ 2 ∷ 1 ∷ 34 ∷ 3 ∷ 0 ∷ 35 ∷ 2 ∷ 1 ∷ 36 ∷ 3 ∷ 0 ∷ 37 ∷ 2 ∷ 1 ∷ 38 ∷ 3 ∷ 0 ∷ 39 ∷ 2 ∷ 1 ∷ 40 ∷ 3 ∷ 0 ∷ 41 ∷ 2 ∷ 1 ∷ 42 ∷ 3 ∷ 0 ∷ 43 ∷ 2 ∷ 1 ∷ 44 ∷ 3 ∷ 0 ∷ 45 ∷ 2 ∷ 1 ∷ 46 ∷ 3 ∷ 0 ∷ 47 ∷ 2 ∷ 1 ∷ 48 ∷ 3 ∷ 0 ∷ 49 ∷ 2 ∷ 1 ∷ 50 ∷ 3 ∷ 0 ∷ 51 ∷ 2 ∷ 1 ∷ 52 ∷ 3 ∷ 0 ∷ 53 ∷ 2 ∷ 1 ∷ 54 ∷ 3 ∷ 0 ∷ 55 ∷ 2 ∷ 1 ∷ 56 ∷ 3 ∷ 0 ∷ 57 ∷ 2 ∷ 1 ∷ 58 ∷ 3 ∷ 0 ∷ 59 ∷ 2 ∷ 1 ∷ 60 ∷ 3 ∷ 0 ∷ 61 ∷ 2 ∷ 1 ∷ 62 ∷ 3 ∷ 0 ∷ 63 ∷ 2 ∷ 1 ∷ 64 ∷ 3 ∷ 0 ∷ 65 ∷ 2 ∷ 1 ∷ 66 ∷ 3 ∷ 0 ∷ 67 ∷ 2 ∷ 1 ∷ 68 ∷ 3 ∷ 0 ∷ 69 ∷ 2 ∷ 1 ∷ 70 ∷ 3 ∷ 0 ∷ 71 ∷ 2 ∷ 1 ∷ 72 ∷ 3 ∷ 0 ∷ 73 ∷ 2 ∷ 1 ∷ 74 ∷ 3 ∷ 0 ∷ 75 ∷ 2 ∷ 1 ∷ 76 ∷ 3 ∷ 0 ∷ 77 ∷ 2 ∷ 1 ∷ 78 ∷ 3 ∷ 0 ∷ 79 ∷ 2 ∷ 1 ∷ 80 ∷ 3 ∷ 0 ∷ 81 ∷ 2 ∷ 1 ∷ 82 ∷ 3 ∷ 0 ∷ 83 ∷ 2 ∷ 1 ∷ 84 ∷ 3 ∷ 0 ∷ 85 ∷ 2 ∷ 1 ∷ 86 ∷ 3 ∷ 0 ∷ 87 ∷ 2 ∷ 1 ∷ 88 ∷ 3 ∷ 0 ∷ 89 ∷ 2 ∷ 1 ∷ 90 ∷ 3 ∷ 0 ∷ 91 ∷ 2 ∷ 1 ∷ 92 ∷ 3 ∷ 0 ∷ 93 ∷ 2 ∷ 1 ∷ 94 ∷ 3 ∷ 0 ∷ 95 ∷ 2 ∷ 1 ∷ 96 ∷ 3 ∷ 0 ∷ 97 ∷ 2 ∷ 1 ∷ 98 ∷ 3 ∷ 0 ∷ 99 ∷ 2 ∷ 1 ∷ 100 ∷ 3 ∷ 0 ∷ 101 ∷ 2 ∷ 1 ∷ 102 ∷ 3 ∷ 0 ∷ 103 ∷ 2 ∷ 1 ∷ 104 ∷ 3 ∷ 0 ∷ 105 ∷ 2 ∷ 1 ∷ 106 ∷ 3 ∷ 0 ∷ 107 ∷ 2 ∷ 1 ∷ 108 ∷ 3 ∷ 0 ∷ 109 ∷ 2 ∷ 1 ∷ 110 ∷ 3 ∷ 0 ∷ 111 ∷ 2 ∷ 1 ∷ 112 ∷ 3 ∷ 0 ∷ 113 ∷ 2 ∷ 1 ∷ 114 ∷ 3 ∷ 0 ∷ 115 ∷ 2 ∷ 1 ∷ 116 ∷ 3 ∷ 0 ∷ 117 ∷ 2 ∷ 1 ∷ 118 ∷ 3 ∷ 0 ∷ 119 ∷ 2 ∷ 1 ∷ 120 ∷ 3 ∷ 0 ∷ 121 ∷ 2 ∷ 1 ∷ 122 ∷ 3 ∷ 0 ∷ 123 ∷ 2 ∷ 1 ∷ 124 ∷ 3 ∷ 0 ∷ 125 ∷ 2 ∷ 1 ∷ 126 ∷ 3 ∷ 0 ∷ 127 ∷ 2 ∷ 1 ∷ 128 ∷ 3 ∷ 0 ∷ 129 ∷ 2 ∷ 1 ∷ 130 ∷ 3 ∷ 0 ∷ 131 ∷ 2 ∷ 1 ∷ 132 ∷ 3 ∷ 0 ∷ 133 ∷ 2 ∷ 1 ∷ 134 ∷ 3 ∷ 0 ∷ 135 ∷ 2 ∷ 1 ∷ 136 ∷ 3 ∷ 0 ∷ 137 ∷ 2 ∷ 1 ∷ 138 ∷ 3 ∷ 0 ∷ 139 ∷ 2 ∷ 1 ∷ 140 ∷ 3 ∷ 0 ∷ 141 ∷ 2 ∷ 1 ∷ 142 ∷ 3 ∷ 0 ∷ 143 ∷ 2 ∷ 1 ∷ 144 ∷ 3 ∷ 0 ∷ 145 ∷ 2 ∷ 1 ∷ 146 ∷ 3 ∷ 0 ∷ 147 ∷ 2 ∷ 1 ∷ 148 ∷ 3 ∷ 0 ∷ 149 ∷ 2 ∷ 1 ∷ 150 ∷ 3 ∷ 0 ∷ 151 ∷ 2 ∷ 1 ∷ 152 ∷ 3 ∷ 0 ∷ 153 ∷ 2 ∷ 1 ∷ 154 ∷ 3 ∷ 0 ∷ 155 ∷ 2 ∷ 1 ∷ 156 ∷ 3 ∷ 0 ∷ 157 ∷ 2 ∷ 1 ∷ 158 ∷ 3 ∷ 0 ∷ 159 ∷ 2 ∷ 1 ∷ 160 ∷ 3 ∷ 0 ∷ 161 ∷ 2 ∷ 1 ∷ 162 ∷ 3 ∷ 0 ∷ 163 ∷ 2 ∷ 1 ∷ 164 ∷ 3 ∷ 0 ∷ 165 ∷ 2 ∷ 1 ∷ 166 ∷ 3 ∷ 0 ∷ 167 ∷ 2 ∷ 1 ∷ 168 ∷ 3 ∷ 0 ∷ 169 ∷ 2 ∷ 1 ∷ 170 ∷ 3 ∷ 0 ∷ 171 ∷ 2 ∷ 1 ∷ 172 ∷ 3 ∷ 0 ∷ 173 ∷ 2 ∷ 1 ∷ 174 ∷ 3 ∷ 0 ∷ 175 ∷ 2 ∷ 1 ∷ 176 ∷ 3 ∷ 0 ∷ 177 ∷ 2 ∷ 1 ∷ 178 ∷ 3 ∷ 0 ∷ 179 ∷ 2 ∷ 1 ∷ 180 ∷ 3 ∷ 0 ∷ 181 ∷ 2 ∷ 1 ∷ 182 ∷ 3 ∷ 0 ∷ 183 ∷ 2 ∷ 1 ∷ 184 ∷ 3 ∷ 0 ∷ 185 ∷ 2 ∷ 1 ∷ 186 ∷ 3 ∷ 0 ∷ 187 ∷ 2 ∷ 1 ∷ 188 ∷ 3 ∷ 0 ∷ 189 ∷ 2 ∷ 1 ∷ 190 ∷ 3 ∷ 0 ∷ 191 ∷ 2 ∷ 1 ∷ 192 ∷ 3 ∷ 0 ∷ 193 ∷ 2 ∷ 1 ∷ 194 ∷ 3 ∷ 0 ∷ 195 ∷ 2 ∷ 1 ∷ 196 ∷ 3 ∷ 0 ∷ 197 ∷ 2 ∷ 1 ∷ 198 ∷ 3 ∷ 0 ∷ 199 ∷ 2 ∷ 1 ∷ 200 ∷ 3 ∷ 0 ∷ 201 ∷ 2 ∷ 1 ∷ 202 ∷ 3 ∷ 0 ∷ 203 ∷ 2 ∷ 1 ∷ 204 ∷ 3 ∷ 0 ∷ 205 ∷ 2 ∷ 1 ∷ 206 ∷ 3 ∷ 0 ∷ 207 ∷ 2 ∷ 1 ∷ 208 ∷ 3 ∷ 0 ∷ 209 ∷ 2 ∷ 1 ∷ 210 ∷ 3 ∷ 0 ∷ 211 ∷ 2 ∷ 1 ∷ 212 ∷ 3 ∷ 0 ∷ 213 ∷ 2 ∷ 1 ∷ 214 ∷ 3 ∷ 0 ∷ 215 ∷ 2 ∷ 1 ∷ 216 ∷ 3 ∷ 0 ∷ 217 ∷ 2 ∷ 1 ∷ 218 ∷ 3 ∷ 0 ∷ 219 ∷ 2 ∷ 1 ∷ 220 ∷ 3 ∷ 0 ∷ 221 ∷ 2 ∷ 1 ∷ 222 ∷ 3 ∷ 0 ∷ 223 ∷ 2 ∷ 1 ∷ 224 ∷ 3 ∷ 0 ∷ 225 ∷ 2 ∷ 1 ∷ 226 ∷ 3 ∷ 0 ∷ 227 ∷ 2 ∷ 1 ∷ 228 ∷ 3 ∷ 0 ∷ 229 ∷ 2 ∷ 1 ∷ 230 ∷ 3 ∷ 0 ∷ 231 ∷ 2 ∷ 1 ∷ 232 ∷ 3 ∷ 0 ∷ 233 ∷ 2 ∷ 1 ∷ 234 ∷ 3 ∷ 0 ∷ 235 ∷ 2 ∷ 1 ∷ 236 ∷ 3 ∷ 0 ∷ 237 ∷ 2 ∷ 1 ∷ 238 ∷ 3 ∷ 0 ∷ 239 ∷ 2 ∷ 1 ∷ 240 ∷ 3 ∷ 0 ∷ 241 ∷ 2 ∷ 1 ∷ 242 ∷ 3 ∷ 0 ∷ 243 ∷ 2 ∷ 1 ∷ 244 ∷ 3 ∷ 0 ∷ 245 ∷ 2 ∷ 1 ∷ 246 ∷ 3 ∷ 0 ∷ 247 ∷ 2 ∷ 1 ∷ 248 ∷ 3 ∷ 0 ∷ 249 ∷ 2 ∷ 1 ∷ 250 ∷ 3 ∷ 0 ∷ 251 ∷ 2 ∷ 1 ∷ 252 ∷ 3 ∷ 0 ∷ 253 ∷ 2 ∷ 1 ∷ 254 ∷ 3 ∷ 0 ∷ 255 ∷ 2 ∷ 1 ∷ 256 ∷ 3 ∷ 0 ∷ 257 ∷ 2 ∷ 1 ∷ 258 ∷ 3 ∷ 0 ∷ 259 ∷ 2 ∷ 1 ∷ 260 ∷ 3 ∷ 0 ∷ 261 ∷ 2 ∷ 1 ∷ 262 ∷ 3 ∷ 0 ∷ 263 ∷ 2 ∷ 1 ∷ 264 ∷ 3 ∷ 0 ∷ 265 ∷ 2 ∷ 1 ∷ 266 ∷ 3 ∷ 0 ∷ 267 ∷ 2 ∷ 1 ∷ 268 ∷ 3 ∷ 0 ∷ 269 ∷ 2 ∷ 1 ∷ 270 ∷ 3 ∷ 0 ∷ 271 ∷ 2 ∷ 1 ∷ 272 ∷ 3 ∷ 0 ∷ 273 ∷ 2 ∷ 1 ∷ 274 ∷ 3 ∷ 0 ∷ 275 ∷ 2 ∷ 1 ∷ 276 ∷ 3 ∷ 0 ∷ 277 ∷ 2 ∷ 1 ∷ 278 ∷ 3 ∷ 0 ∷ 279 ∷ 2 ∷ 1 ∷ 280 ∷ 3 ∷ 0 ∷ 281 ∷ 2 ∷ 1 ∷ 282 ∷ 3 ∷ 0 ∷ 283 ∷ 2 ∷ 1 ∷ 284 ∷ 3 ∷ 0 ∷ 285 ∷ 2 ∷ 1 ∷ 286 ∷ 3 ∷ 0 ∷ 287 ∷ 2 ∷ 1 ∷ 288 ∷ 3 ∷ 0 ∷ 289 ∷ 2 ∷ 1 ∷ 290 ∷ 3 ∷ 0 ∷ 291 ∷ 2 ∷ 1 ∷ 292 ∷ 3 ∷ 0 ∷ 293 ∷ 2 ∷ 1 ∷ 294 ∷ 3 ∷ 0 ∷ 295 ∷ 2 ∷ 1 ∷ 296 ∷ 3 ∷ 0 ∷ 297 ∷ 2 ∷ 1 ∷ 298 ∷ 3 ∷ 0 ∷ 299 ∷ 2 ∷ 1 ∷ 300 ∷ 3 ∷ 0 ∷ 301 ∷ 2 ∷ 1 ∷ 302 ∷ 3 ∷ 0 ∷ 303 ∷ 2 ∷ 1 ∷ 304 ∷ 3 ∷ 0 ∷ 305 ∷ 2 ∷ 1 ∷ 306 ∷ 3 ∷ 0 ∷ 307 ∷ 2 ∷ 1 ∷ 308 ∷ 3 ∷ 0 ∷ 309 ∷ 2 ∷ 1 ∷ 310 ∷ 3 ∷ 0 ∷ 311 ∷ 2 ∷ 1 ∷ 312 ∷ 3 ∷ 0 ∷ 313 ∷ 2 ∷ 1 ∷ 314 ∷ 3 ∷ 0 ∷ 315 ∷ 2 ∷ 1 ∷ 316 ∷ 3 ∷ 0 ∷ 317 ∷ 2 ∷ 1 ∷ 318 ∷ 3 ∷ 0 ∷ 319 ∷ 2 ∷ 1 ∷ 320 ∷ 3 ∷ 0 ∷ 321 ∷ 2 ∷ 1 ∷ 322 ∷ 3 ∷ 0 ∷ 323 ∷ 2 ∷ 1 ∷ 324 ∷ 3 ∷ 0 ∷ 325 ∷ 2 ∷ 1 ∷ 326 ∷ 3 ∷ 0 ∷ 327 ∷ 2 ∷ 1 ∷ 328 ∷ 3 ∷ 0 ∷ 329 ∷ 2 ∷ 1 ∷ 330 ∷ 3 ∷ 0 ∷ 331 ∷ 2 ∷ 1 ∷ 332 ∷ 3 ∷ 0 ∷ 333 ∷ 2 ∷ 1 ∷ 334 ∷ 3 ∷ 0 ∷ 335 ∷ 2 ∷ 1 ∷ 336 ∷ 3 ∷ 0 ∷ 337 ∷ 2 ∷ 1 ∷ 338 ∷ 3 ∷ 0 ∷ 339 ∷ 2 ∷ 1 ∷ 340 ∷ 3 ∷ 0 ∷ 341 ∷ 2 ∷ 1 ∷ 342 ∷ 3 ∷ 0 ∷ 343 ∷ 2 ∷ 1 ∷ 344 ∷ 3 ∷ 0 ∷ 345 ∷ 2 ∷ 1 ∷ 346 ∷ 3 ∷ 0 ∷ 347 ∷ 2 ∷ 1 ∷ 348 ∷ 3 ∷ 0 ∷ 349 ∷ 2 ∷ 1 ∷ 350 ∷ 3 ∷ 0 ∷ 351 ∷ 2 ∷ 1 ∷ 352 ∷ 3 ∷ 0 ∷ 353 ∷ 2 ∷ 1 ∷ 354 ∷ 3 ∷ 0 ∷ 355 ∷ 2 ∷ 1 ∷ 356 ∷ 3 ∷ 0 ∷ 357 ∷ 2 ∷ 1 ∷ 358 ∷ 3 ∷ 0 ∷ 359 ∷ 2 ∷ 1 ∷ 360 ∷ 3 ∷ 0 ∷ 361 ∷ 2 ∷ 1 ∷ 362 ∷ 3 ∷ 0 ∷ 363 ∷ 2 ∷ 1 ∷ 364 ∷ 3 ∷ 0 ∷ 365 ∷ 2 ∷ 1 ∷ 366 ∷ 3 ∷ 0 ∷ 367 ∷ 2 ∷ 1 ∷ 368 ∷ 3 ∷ 0 ∷ 369 ∷ 2 ∷ 1 ∷ 370 ∷ 3 ∷ 0 ∷ 371 ∷ 2 ∷ 1 ∷ 372 ∷ 3 ∷ 0 ∷ 373 ∷ 2 ∷ 1 ∷ 374 ∷ 3 ∷ 0 ∷ 375 ∷ 2 ∷ 1 ∷ 376 ∷ 3 ∷ 0 ∷ 377 ∷ 2 ∷ 1 ∷ 378 ∷ 3 ∷ 0 ∷ 379 ∷ 2 ∷ 1 ∷ 380 ∷ 3 ∷ 0 ∷ 381 ∷ 2 ∷ 1 ∷ 382 ∷ 3 ∷ 0 ∷ 383 ∷ 2 ∷ 1 ∷ 384 ∷ 3 ∷ 0 ∷ 385 ∷ 2 ∷ 1 ∷ 386 ∷ 3 ∷ 0 ∷ 387 ∷ 2 ∷ 1 ∷ 388 ∷ 3 ∷ 0 ∷ 389 ∷ 2 ∷ 1 ∷ 390 ∷ 3 ∷ 0 ∷ 391 ∷ 2 ∷ 1 ∷ 392 ∷ 3 ∷ 0 ∷ 393 ∷ 2 ∷ 1 ∷ 394 ∷ 3 ∷ 0 ∷ 395 ∷ 2 ∷ 1 ∷ 396 ∷ 3 ∷ 0 ∷ 397 ∷ 2 ∷ 1 ∷ 398 ∷ 3 ∷ 0 ∷ 399 ∷ []) (replicate 12288 7)) (written 256 (200 ∷ 255 ∷ 3 ∷ 400 ∷ []) (replicate 256 7))
-  -- damaged 1
-  v34 : call 12288 256 (2 ∷ 0 ∷ 2 ∷ 105 ∷ 102 ∷ 0 ∷ 1 ∷ 120 ∷ 2 ∷ 0 ∷ 1 ∷ 120 ∷ 2 ∷ 1 ∷ 120 ∷ 4 ∷ 0 ∷ 3 ∷ 1 ∷ 4 ∷ 1 ∷ 3 ∷ 2 ∷ 0 ∷ 10 ∷ 255 ∷ 3 ∷ 1 ∷ 1 ∷ 2 ∷ 1 ∷ 0 ∷ 2 ∷ 255 ∷ 3 ∷ 2 ∷ 1 ∷ 1 ∷ 2 ∷ 1 ∷ 1 ∷ 1 ∷ 0 ∷ 1 ∷ 2 ∷ 255 ∷ 3 ∷ 3 ∷ 1 ∷ 3 ∷ 1 ∷ 3 ∷ 1 ∷ 255 ∷ 3 ∷ 1 ∷ 1 ∷ 0 ∷ 1 ∷ 2 ∷ 1 ∷ 0 ∷ 1 ∷ 1 ∷ 3 ∷ 14 ∷ 8 ∷ 3 ∷ 0 ∷ 0 ∷ 9 ∷ 2 ∷ 0 ∷ 0 ∷ 8 ∷ 3 ∷ 0 ∷ 0 ∷ 8 ∷ 3 ∷ 0 ∷ 0 ∷ 10 ∷ 2 ∷ 0 ∷ 0 ∷ 7 ∷ 0 ∷ 0 ∷ 0 ∷ 8 ∷ 3 ∷ 0 ∷ 0 ∷ 8 ∷ 3 ∷ 0 ∷ 0 ∷ 8 ∷ 3 ∷ 0 ∷ 0 ∷ 8 ∷ 3 ∷ 0 ∷ 0 ∷ 8 ∷ 3 ∷ 0 ∷ 0 ∷ 8 ∷ 2 ∷ 0 ∷ 0 ∷ 38 ∷ 0 ∷ 0 ∷ 8 ∷ 2 ∷ 0 ∷ 0 ∷ []) (120 ∷ []) 0 1000000 ≡ gives (answer 6 114 0 0 0 0 0) (replicate 12288 7) (replicate 256 7)
-  -- damaged 2
-  v35 : call 12288 256 (0 ∷ 0 ∷ 1 ∷ 0 ∷ 1 ∷ 142 ∷ 255 ∷ 3 ∷ 1 ∷ 1 ∷ 1 ∷ 14 ∷ 0 ∷ 0 ∷ 0 ∷ []) (49 ∷ 45 ∷ 50 ∷ []) 0 1000000 ≡ gives (answer 4 5 0 0 0 0 0) (replicate 12288 7) (replicate 256 7)
-  -- damaged 8
-  v36 : call 12288 256 (0 ∷ 2 ∷ 0 ∷ 1 ∷ 97 ∷ 7 ∷ 1 ∷ 120 ∷ 3 ∷ 0 ∷ 3 ∷ 0 ∷ 2 ∷ 2 ∷ 0 ∷ 5 ∷ 255 ∷ 3 ∷ 1 ∷ 0 ∷ 1 ∷ 1 ∷ 0 ∷ 1 ∷ 255 ∷ 3 ∷ 1 ∷ 2 ∷ 2 ∷ 3 ∷ 1 ∷ 2 ∷ 255 ∷ 3 ∷ 1 ∷ 2 ∷ 7 ∷ 3 ∷ 0 ∷ 0 ∷ 0 ∷ 0 ∷ 59 ∷ 0 ∷ 0 ∷ 8 ∷ 0 ∷ 0 ∷ 0 ∷ 9 ∷ 1 ∷ 0 ∷ 0 ∷ 8 ∷ 1 ∷ 0 ∷ 0 ∷ 6 ∷ 0 ∷ 0 ∷ 0 ∷ 2 ∷ 0 ∷ 0 ∷ 0 ∷ 0 ∷ []) (49 ∷ 45 ∷ 50 ∷ []) 0 1000000 ≡ gives (answer 8 65 0 0 0 0 0) (replicate 12288 7) (replicate 256 7)
-  -- damaged 15
-  v37 : call 12288 256 [] (32 ∷ 49 ∷ 32 ∷ 47 ∷ 47 ∷ 32 ∷ 99 ∷ []) 0 1000000 ≡ gives (answer 3 0 0 0 0 0 0) (replicate 12288 7) (replicate 256 7)
-  -- damaged 23
-  v38 : call 12288 256 (1 ∷ 0 ∷ 1 ∷ 186 ∷ 2 ∷ 0 ∷ 1 ∷ 120 ∷ 3 ∷ 1 ∷ 120 ∷ 1 ∷ 0 ∷ 4 ∷ 4 ∷ 1 ∷ 1 ∷ 1 ∷ 1 ∷ 1 ∷ 2 ∷ 1 ∷ 3 ∷ 1 ∷ 2 ∷ 0 ∷ 3 ∷ 0 ∷ 0 ∷ 0 ∷ 2 ∷ 9 ∷ 4 ∷ 17 ∷ 254 ∷ 0 ∷ 8 ∷ 0 ∷ 0 ∷ 0 ∷ 0 ∷ 45 ∷ 0 ∷ 0 ∷ 8 ∷ 0 ∷ 0 ∷ 0 ∷ 8 ∷ 0 ∷ 0 ∷ 0 ∷ 0 ∷ 33 ∷ 0 ∷ 0 ∷ 8 ∷ 0 ∷ 0 ∷ 0 ∷ 8 ∷ 0 ∷ 0 ∷ 0 ∷ 0 ∷ 45 ∷ 0 ∷ 0 ∷ []) (49 ∷ 45 ∷ 50 ∷ []) 0 1000000 ≡ gives (answer 5 2 0 0 0 0 0) (replicate 12288 7) (replicate 256 7)
-  -- damaged 33
-  v39 : call 12288 256 (0 ∷ 4 ∷ 0 ∷ 2 ∷ 105 ∷ 102 ∷ 2 ∷ 1 ∷ 95 ∷ 0 ∷ 2 ∷ 105 ∷ 110 ∷ 2 ∷ 2 ∷ 105 ∷ 110 ∷ 4 ∷ 1 ∷ 3 ∷ 1 ∷ 3 ∷ 1 ∷ 3 ∷ 2 ∷ 0 ∷ 9 ∷ 0 ∷ 1 ∷ 3 ∷ 1 ∷ 1 ∷ 3 ∷ 0 ∷ 3 ∷ 255 ∷ 3 ∷ 1 ∷ 1 ∷ 3 ∷ 3 ∷ 0 ∷ 1 ∷ 0 ∷ 1 ∷ 0 ∷ 3 ∷ 2 ∷ 2 ∷ 1 ∷ 3 ∷ 255 ∷ 3 ∷ 1 ∷ 1 ∷ 0 ∷ 1 ∷ 1 ∷ 2 ∷ 1 ∷ 1 ∷ 1 ∷ 1 ∷ 16 ∷ 8 ∷ 3 ∷ 0 ∷ 0 ∷ 8 ∷ 0 ∷ 0 ∷ 0 ∷ 0 ∷ 33 ∷ 0 ∷ 0 ∷ 8 ∷ 2 ∷ 0 ∷ 0 ∷ 4 ∷ 0 ∷ 0 ∷ 0 ∷ 10 ∷ 2 ∷ 0 ∷ 0 ∷ 8 ∷ 1 ∷ 0 ∷ 0 ∷ 0 ∷ 47 ∷ 0 ∷ 0 ∷ 8 ∷ 2 ∷ 0 ∷ 0 ∷ 8 ∷ 1 ∷ 0 ∷ 0 ∷ 0 ∷ 42 ∷ 0 ∷ 0 ∷ 8 ∷ 3 ∷ 0 ∷ 0 ∷ 5 ∷ 0 ∷ 0 ∷ 0 ∷ 2 ∷ 0 ∷ 0 ∷ 0 ∷ 6 ∷ 0 ∷ 0 ∷ 0 ∷ 12 ∷ 1 ∷ 40 ∷ 41 ∷ []) (32 ∷ 32 ∷ 128 ∷ []) 0 1000000 ≡ gives (answer 11 2 0 0 0 0 0) (replicate 12288 7) (replicate 256 7)
-  -- damaged 35
-  v40 : call 12288 256 (0 ∷ 0 ∷ 1 ∷ 0 ∷ 1 ∷ 255 ∷ 2 ∷ 3 ∷ 1 ∷ 1 ∷ 8 ∷ 0 ∷ 0 ∷ 0 ∷ []) (32 ∷ 49 ∷ 32 ∷ 47 ∷ 47 ∷ 32 ∷ 99 ∷ []) 0 4294967295 ≡ gives (answer 2 0 0 0 0 0 0) (replicate 12288 7) (replicate 256 7)
+  v40 : call 12288 256 (0 ∷ 0 ∷ 1 ∷ 0 ∷ 3 ∷ 3 ∷ 255 ∷ 3 ∷ 1 ∷ 2 ∷ 1 ∷ 0 ∷ 3 ∷ 1 ∷ 255 ∷ 3 ∷ 1 ∷ 1 ∷ 4 ∷ 0 ∷ 40 ∷ 0 ∷ 0 ∷ 8 ∷ 0 ∷ 0 ∷ 0 ∷ 8 ∷ 0 ∷ 0 ∷ 0 ∷ 0 ∷ 120 ∷ 0 ∷ 0 ∷ []) (replicate 199 40 ++ (120 ∷ [])) 0 2000 ≡ gives (answer 21 0 0 0 605 0 0) (zeros 12288 0) (zeros 256 0)
 
 vectors21 : Vectors21
-unfolding classOf leading spanEnd commentAt commentEnd roundEnd rounds skipFrom identifierAt decimal numberOf numberAt same isReserved lookupFrom checked row spelling entry nonterminal variant stepOf step allPass ended whole checkBook outwards govern governor isSome isKind ofKind characterEnd identifierEnd reservedAt freeEnd variableAt tokenAt claimed afterElement closed numbersOf cellsIn identityOf findCell treeIn treesIn meaningOf meanings join beyond joinWith choiceError identifierError tokenError _>>=_ sameParse has allIn kept add addAll ask newest others spend make itemCell withCell withToken nested begin counted variants oneRun roundsRun failedCall runCall runIdentifier stored enter child either follow followed plainNext listNext chosen stops choice listing steps runner run cellNumbers parseNumbers written wholeValues allAre firstHigh byValues ending onBook answerOf
+unfolding classOf leading spanEnd commentAt commentEnd roundEnd rounds skipFrom identifierAt decimal numberOf numberAt same isReserved lookupFrom checked row spelling entry nonterminal variant stepOf step allPass ended whole checkBook outwards govern governor isSome isKind ofKind characterEnd identifierEnd reservedAt freeEnd variableAt tokenAt claimant afterElement closed numbersOf cellsIn identityOf findCell treeIn treesIn meaningOf meanings join beyond joinWith choiceError identifierError tokenError _>>=_ sameParse has allIn kept add addAll ask newest others spend make itemCell failedCall either chosen begin withCell withToken complete counted variants oneRun roundsRun runCall runIdentifier plainNext listNext stops nested reentry enter enterChild follow followed choice listing steps runner run cellNumbers parseNumbers written wholeValues allAre firstHigh byValues atEnd onBook answerOf
 vectors21 = record { v21 = refl; v22 = refl; v23 = refl; v24 = refl; v25 = refl; v26 = refl; v27 = refl; v28 = refl; v29 = refl; v30 = refl; v31 = refl; v32 = refl; v33 = refl; v34 = refl; v35 = refl; v36 = refl; v37 = refl; v38 = refl; v39 = refl; v40 = refl }
 
 record Vectors41 : Type 0 where
+  -- open 30
+  v41 : call 12288 256 (0 ∷ 0 ∷ 1 ∷ 0 ∷ 3 ∷ 3 ∷ 255 ∷ 3 ∷ 1 ∷ 2 ∷ 1 ∷ 0 ∷ 1 ∷ 2 ∷ 255 ∷ 3 ∷ 1 ∷ 1 ∷ 5 ∷ 0 ∷ 40 ∷ 0 ∷ 0 ∷ 8 ∷ 0 ∷ 0 ∷ 0 ∷ 8 ∷ 0 ∷ 0 ∷ 0 ∷ 0 ∷ 43 ∷ 0 ∷ 0 ∷ 0 ∷ 120 ∷ 0 ∷ 0 ∷ []) (replicate 199 40 ++ (120 ∷ [])) 0 2000 ≡ gives (answer 21 0 0 0 605 0 0) (zeros 12288 0) (zeros 256 0)
+  -- open 31
+  v42 : call 12288 256 (0 ∷ 0 ∷ 2 ∷ 0 ∷ 1 ∷ 0 ∷ 1 ∷ 2 ∷ 255 ∷ 3 ∷ 1 ∷ 2 ∷ 255 ∷ 3 ∷ 1 ∷ 0 ∷ 2 ∷ 10 ∷ 1 ∷ 0 ∷ 0 ∷ 0 ∷ 33 ∷ 0 ∷ 0 ∷ []) [] 0 1000000 ≡ gives (answer 21 0 0 0 601 0 0) (zeros 12288 0) (zeros 256 0)
+  -- open 32
+  v43 : call 12288 256 (0 ∷ 0 ∷ 2 ∷ 0 ∷ 2 ∷ 2 ∷ 0 ∷ 2 ∷ 255 ∷ 3 ∷ 1 ∷ 2 ∷ 255 ∷ 3 ∷ 1 ∷ 1 ∷ 3 ∷ 0 ∷ 40 ∷ 0 ∷ 0 ∷ 8 ∷ 0 ∷ 0 ∷ 0 ∷ 8 ∷ 1 ∷ 0 ∷ 0 ∷ []) (replicate 199 40 ++ ([])) 0 1000000 ≡ gives (answer 21 0 0 0 601 0 0) (zeros 12288 0) (zeros 256 0)
+  -- open 33
+  v44 : call 12288 256 (0 ∷ 0 ∷ 1 ∷ 1 ∷ 2 ∷ 2 ∷ 255 ∷ 3 ∷ 1 ∷ 2 ∷ 255 ∷ 3 ∷ 1 ∷ 1 ∷ 3 ∷ 0 ∷ 40 ∷ 0 ∷ 0 ∷ 8 ∷ 0 ∷ 0 ∷ 0 ∷ 0 ∷ 120 ∷ 0 ∷ 0 ∷ []) (replicate 199 40 ++ (120 ∷ [])) 0 1000000 ≡ gives (answer 0 0 0 0 799 1 400) (1 ∷ 0 ∷ 0 ∷ 3 ∷ 1 ∷ 1 ∷ 2 ∷ 1 ∷ 2 ∷ 3 ∷ 0 ∷ 3 ∷ 2 ∷ 1 ∷ 4 ∷ 3 ∷ 0 ∷ 5 ∷ 2 ∷ 1 ∷ 6 ∷ 3 ∷ 0 ∷ 7 ∷ 2 ∷ 1 ∷ 8 ∷ 3 ∷ 0 ∷ 9 ∷ 2 ∷ 1 ∷ 10 ∷ 3 ∷ 0 ∷ 11 ∷ 2 ∷ 1 ∷ 12 ∷ 3 ∷ 0 ∷ 13 ∷ 2 ∷ 1 ∷ 14 ∷ 3 ∷ 0 ∷ 15 ∷ 2 ∷ 1 ∷ 16 ∷ 3 ∷ 0 ∷ 17 ∷ 2 ∷ 1 ∷ 18 ∷ 3 ∷ 0 ∷ 19 ∷ 2 ∷ 1 ∷ 20 ∷ 3 ∷ 0 ∷ 21 ∷ 2 ∷ 1 ∷ 22 ∷ 3 ∷ 0 ∷ 23 ∷ 2 ∷ 1 ∷ 24 ∷ 3 ∷ 0 ∷ 25 ∷ 2 ∷ 1 ∷ 26 ∷ 3 ∷ 0 ∷ 27 ∷ 2 ∷ 1 ∷ 28 ∷ 3 ∷ 0 ∷ 29 ∷ 2 ∷ 1 ∷ 30 ∷ 3 ∷ 0 ∷ 31 ∷ 2 ∷ 1 ∷ 32 ∷ 3 ∷ 0 ∷ 33 ∷ 2 ∷ 1 ∷ 34 ∷ 3 ∷ 0 ∷ 35 ∷ 2 ∷ 1 ∷ 36 ∷ 3 ∷ 0 ∷ 37 ∷ 2 ∷ 1 ∷ 38 ∷ 3 ∷ 0 ∷ 39 ∷ 2 ∷ 1 ∷ 40 ∷ 3 ∷ 0 ∷ 41 ∷ 2 ∷ 1 ∷ 42 ∷ 3 ∷ 0 ∷ 43 ∷ 2 ∷ 1 ∷ 44 ∷ 3 ∷ 0 ∷ 45 ∷ 2 ∷ 1 ∷ 46 ∷ 3 ∷ 0 ∷ 47 ∷ 2 ∷ 1 ∷ 48 ∷ 3 ∷ 0 ∷ 49 ∷ 2 ∷ 1 ∷ 50 ∷ 3 ∷ 0 ∷ 51 ∷ 2 ∷ 1 ∷ 52 ∷ 3 ∷ 0 ∷ 53 ∷ 2 ∷ 1 ∷ 54 ∷ 3 ∷ 0 ∷ 55 ∷ 2 ∷ 1 ∷ 56 ∷ 3 ∷ 0 ∷ 57 ∷ 2 ∷ 1 ∷ 58 ∷ 3 ∷ 0 ∷ 59 ∷ 2 ∷ 1 ∷ 60 ∷ 3 ∷ 0 ∷ 61 ∷ 2 ∷ 1 ∷ 62 ∷ 3 ∷ 0 ∷ 63 ∷ 2 ∷ 1 ∷ 64 ∷ 3 ∷ 0 ∷ 65 ∷ 2 ∷ 1 ∷ 66 ∷ 3 ∷ 0 ∷ 67 ∷ 2 ∷ 1 ∷ 68 ∷ 3 ∷ 0 ∷ 69 ∷ 2 ∷ 1 ∷ 70 ∷ 3 ∷ 0 ∷ 71 ∷ 2 ∷ 1 ∷ 72 ∷ 3 ∷ 0 ∷ 73 ∷ 2 ∷ 1 ∷ 74 ∷ 3 ∷ 0 ∷ 75 ∷ 2 ∷ 1 ∷ 76 ∷ 3 ∷ 0 ∷ 77 ∷ 2 ∷ 1 ∷ 78 ∷ 3 ∷ 0 ∷ 79 ∷ 2 ∷ 1 ∷ 80 ∷ 3 ∷ 0 ∷ 81 ∷ 2 ∷ 1 ∷ 82 ∷ 3 ∷ 0 ∷ 83 ∷ 2 ∷ 1 ∷ 84 ∷ 3 ∷ 0 ∷ 85 ∷ 2 ∷ 1 ∷ 86 ∷ 3 ∷ 0 ∷ 87 ∷ 2 ∷ 1 ∷ 88 ∷ 3 ∷ 0 ∷ 89 ∷ 2 ∷ 1 ∷ 90 ∷ 3 ∷ 0 ∷ 91 ∷ 2 ∷ 1 ∷ 92 ∷ 3 ∷ 0 ∷ 93 ∷ 2 ∷ 1 ∷ 94 ∷ 3 ∷ 0 ∷ 95 ∷ 2 ∷ 1 ∷ 96 ∷ 3 ∷ 0 ∷ 97 ∷ 2 ∷ 1 ∷ 98 ∷ 3 ∷ 0 ∷ 99 ∷ 2 ∷ 1 ∷ 100 ∷ 3 ∷ 0 ∷ 101 ∷ 2 ∷ 1 ∷ 102 ∷ 3 ∷ 0 ∷ 103 ∷ 2 ∷ 1 ∷ 104 ∷ 3 ∷ 0 ∷ 105 ∷ 2 ∷ 1 ∷ 106 ∷ 3 ∷ 0 ∷ 107 ∷ 2 ∷ 1 ∷ 108 ∷ 3 ∷ 0 ∷ 109 ∷ 2 ∷ 1 ∷ 110 ∷ 3 ∷ 0 ∷ 111 ∷ 2 ∷ 1 ∷ 112 ∷ 3 ∷ 0 ∷ 113 ∷ 2 ∷ 1 ∷ 114 ∷ 3 ∷ 0 ∷ 115 ∷ 2 ∷ 1 ∷ 116 ∷ 3 ∷ 0 ∷ 117 ∷ 2 ∷ 1 ∷ 118 ∷ 3 ∷ 0 ∷ 119 ∷ 2 ∷ 1 ∷ 120 ∷ 3 ∷ 0 ∷ 121 ∷ 2 ∷ 1 ∷ 122 ∷ 3 ∷ 0 ∷ 123 ∷ 2 ∷ 1 ∷ 124 ∷ 3 ∷ 0 ∷ 125 ∷ 2 ∷ 1 ∷ 126 ∷ 3 ∷ 0 ∷ 127 ∷ 2 ∷ 1 ∷ 128 ∷ 3 ∷ 0 ∷ 129 ∷ 2 ∷ 1 ∷ 130 ∷ 3 ∷ 0 ∷ 131 ∷ 2 ∷ 1 ∷ 132 ∷ 3 ∷ 0 ∷ 133 ∷ 2 ∷ 1 ∷ 134 ∷ 3 ∷ 0 ∷ 135 ∷ 2 ∷ 1 ∷ 136 ∷ 3 ∷ 0 ∷ 137 ∷ 2 ∷ 1 ∷ 138 ∷ 3 ∷ 0 ∷ 139 ∷ 2 ∷ 1 ∷ 140 ∷ 3 ∷ 0 ∷ 141 ∷ 2 ∷ 1 ∷ 142 ∷ 3 ∷ 0 ∷ 143 ∷ 2 ∷ 1 ∷ 144 ∷ 3 ∷ 0 ∷ 145 ∷ 2 ∷ 1 ∷ 146 ∷ 3 ∷ 0 ∷ 147 ∷ 2 ∷ 1 ∷ 148 ∷ 3 ∷ 0 ∷ 149 ∷ 2 ∷ 1 ∷ 150 ∷ 3 ∷ 0 ∷ 151 ∷ 2 ∷ 1 ∷ 152 ∷ 3 ∷ 0 ∷ 153 ∷ 2 ∷ 1 ∷ 154 ∷ 3 ∷ 0 ∷ 155 ∷ 2 ∷ 1 ∷ 156 ∷ 3 ∷ 0 ∷ 157 ∷ 2 ∷ 1 ∷ 158 ∷ 3 ∷ 0 ∷ 159 ∷ 2 ∷ 1 ∷ 160 ∷ 3 ∷ 0 ∷ 161 ∷ 2 ∷ 1 ∷ 162 ∷ 3 ∷ 0 ∷ 163 ∷ 2 ∷ 1 ∷ 164 ∷ 3 ∷ 0 ∷ 165 ∷ 2 ∷ 1 ∷ 166 ∷ 3 ∷ 0 ∷ 167 ∷ 2 ∷ 1 ∷ 168 ∷ 3 ∷ 0 ∷ 169 ∷ 2 ∷ 1 ∷ 170 ∷ 3 ∷ 0 ∷ 171 ∷ 2 ∷ 1 ∷ 172 ∷ 3 ∷ 0 ∷ 173 ∷ 2 ∷ 1 ∷ 174 ∷ 3 ∷ 0 ∷ 175 ∷ 2 ∷ 1 ∷ 176 ∷ 3 ∷ 0 ∷ 177 ∷ 2 ∷ 1 ∷ 178 ∷ 3 ∷ 0 ∷ 179 ∷ 2 ∷ 1 ∷ 180 ∷ 3 ∷ 0 ∷ 181 ∷ 2 ∷ 1 ∷ 182 ∷ 3 ∷ 0 ∷ 183 ∷ 2 ∷ 1 ∷ 184 ∷ 3 ∷ 0 ∷ 185 ∷ 2 ∷ 1 ∷ 186 ∷ 3 ∷ 0 ∷ 187 ∷ 2 ∷ 1 ∷ 188 ∷ 3 ∷ 0 ∷ 189 ∷ 2 ∷ 1 ∷ 190 ∷ 3 ∷ 0 ∷ 191 ∷ 2 ∷ 1 ∷ 192 ∷ 3 ∷ 0 ∷ 193 ∷ 2 ∷ 1 ∷ 194 ∷ 3 ∷ 0 ∷ 195 ∷ 2 ∷ 1 ∷ 196 ∷ 3 ∷ 0 ∷ 197 ∷ 2 ∷ 1 ∷ 198 ∷ 3 ∷ 0 ∷ 199 ∷ 2 ∷ 1 ∷ 200 ∷ 3 ∷ 0 ∷ 201 ∷ 2 ∷ 1 ∷ 202 ∷ 3 ∷ 0 ∷ 203 ∷ 2 ∷ 1 ∷ 204 ∷ 3 ∷ 0 ∷ 205 ∷ 2 ∷ 1 ∷ 206 ∷ 3 ∷ 0 ∷ 207 ∷ 2 ∷ 1 ∷ 208 ∷ 3 ∷ 0 ∷ 209 ∷ 2 ∷ 1 ∷ 210 ∷ 3 ∷ 0 ∷ 211 ∷ 2 ∷ 1 ∷ 212 ∷ 3 ∷ 0 ∷ 213 ∷ 2 ∷ 1 ∷ 214 ∷ 3 ∷ 0 ∷ 215 ∷ 2 ∷ 1 ∷ 216 ∷ 3 ∷ 0 ∷ 217 ∷ 2 ∷ 1 ∷ 218 ∷ 3 ∷ 0 ∷ 219 ∷ 2 ∷ 1 ∷ 220 ∷ 3 ∷ 0 ∷ 221 ∷ 2 ∷ 1 ∷ 222 ∷ 3 ∷ 0 ∷ 223 ∷ 2 ∷ 1 ∷ 224 ∷ 3 ∷ 0 ∷ 225 ∷ 2 ∷ 1 ∷ 226 ∷ 3 ∷ 0 ∷ 227 ∷ 2 ∷ 1 ∷ 228 ∷ 3 ∷ 0 ∷ 229 ∷ 2 ∷ 1 ∷ 230 ∷ 3 ∷ 0 ∷ 231 ∷ 2 ∷ 1 ∷ 232 ∷ 3 ∷ 0 ∷ 233 ∷ 2 ∷ 1 ∷ 234 ∷ 3 ∷ 0 ∷ 235 ∷ 2 ∷ 1 ∷ 236 ∷ 3 ∷ 0 ∷ 237 ∷ 2 ∷ 1 ∷ 238 ∷ 3 ∷ 0 ∷ 239 ∷ 2 ∷ 1 ∷ 240 ∷ 3 ∷ 0 ∷ 241 ∷ 2 ∷ 1 ∷ 242 ∷ 3 ∷ 0 ∷ 243 ∷ 2 ∷ 1 ∷ 244 ∷ 3 ∷ 0 ∷ 245 ∷ 2 ∷ 1 ∷ 246 ∷ 3 ∷ 0 ∷ 247 ∷ 2 ∷ 1 ∷ 248 ∷ 3 ∷ 0 ∷ 249 ∷ 2 ∷ 1 ∷ 250 ∷ 3 ∷ 0 ∷ 251 ∷ 2 ∷ 1 ∷ 252 ∷ 3 ∷ 0 ∷ 253 ∷ 2 ∷ 1 ∷ 254 ∷ 3 ∷ 0 ∷ 255 ∷ 2 ∷ 1 ∷ 256 ∷ 3 ∷ 0 ∷ 257 ∷ 2 ∷ 1 ∷ 258 ∷ 3 ∷ 0 ∷ 259 ∷ 2 ∷ 1 ∷ 260 ∷ 3 ∷ 0 ∷ 261 ∷ 2 ∷ 1 ∷ 262 ∷ 3 ∷ 0 ∷ 263 ∷ 2 ∷ 1 ∷ 264 ∷ 3 ∷ 0 ∷ 265 ∷ 2 ∷ 1 ∷ 266 ∷ 3 ∷ 0 ∷ 267 ∷ 2 ∷ 1 ∷ 268 ∷ 3 ∷ 0 ∷ 269 ∷ 2 ∷ 1 ∷ 270 ∷ 3 ∷ 0 ∷ 271 ∷ 2 ∷ 1 ∷ 272 ∷ 3 ∷ 0 ∷ 273 ∷ 2 ∷ 1 ∷ 274 ∷ 3 ∷ 0 ∷ 275 ∷ 2 ∷ 1 ∷ 276 ∷ 3 ∷ 0 ∷ 277 ∷ 2 ∷ 1 ∷ 278 ∷ 3 ∷ 0 ∷ 279 ∷ 2 ∷ 1 ∷ 280 ∷ 3 ∷ 0 ∷ 281 ∷ 2 ∷ 1 ∷ 282 ∷ 3 ∷ 0 ∷ 283 ∷ 2 ∷ 1 ∷ 284 ∷ 3 ∷ 0 ∷ 285 ∷ 2 ∷ 1 ∷ 286 ∷ 3 ∷ 0 ∷ 287 ∷ 2 ∷ 1 ∷ 288 ∷ 3 ∷ 0 ∷ 289 ∷ 2 ∷ 1 ∷ 290 ∷ 3 ∷ 0 ∷ 291 ∷ 2 ∷ 1 ∷ 292 ∷ 3 ∷ 0 ∷ 293 ∷ 2 ∷ 1 ∷ 294 ∷ 3 ∷ 0 ∷ 295 ∷ 2 ∷ 1 ∷ 296 ∷ 3 ∷ 0 ∷ 297 ∷ 2 ∷ 1 ∷ 298 ∷ 3 ∷ 0 ∷ 299 ∷ 2 ∷ 1 ∷ 300 ∷ 3 ∷ 0 ∷ 301 ∷ 2 ∷ 1 ∷ 302 ∷ 3 ∷ 0 ∷ 303 ∷ 2 ∷ 1 ∷ 304 ∷ 3 ∷ 0 ∷ 305 ∷ 2 ∷ 1 ∷ 306 ∷ 3 ∷ 0 ∷ 307 ∷ 2 ∷ 1 ∷ 308 ∷ 3 ∷ 0 ∷ 309 ∷ 2 ∷ 1 ∷ 310 ∷ 3 ∷ 0 ∷ 311 ∷ 2 ∷ 1 ∷ 312 ∷ 3 ∷ 0 ∷ 313 ∷ 2 ∷ 1 ∷ 314 ∷ 3 ∷ 0 ∷ 315 ∷ 2 ∷ 1 ∷ 316 ∷ 3 ∷ 0 ∷ 317 ∷ 2 ∷ 1 ∷ 318 ∷ 3 ∷ 0 ∷ 319 ∷ 2 ∷ 1 ∷ 320 ∷ 3 ∷ 0 ∷ 321 ∷ 2 ∷ 1 ∷ 322 ∷ 3 ∷ 0 ∷ 323 ∷ 2 ∷ 1 ∷ 324 ∷ 3 ∷ 0 ∷ 325 ∷ 2 ∷ 1 ∷ 326 ∷ 3 ∷ 0 ∷ 327 ∷ 2 ∷ 1 ∷ 328 ∷ 3 ∷ 0 ∷ 329 ∷ 2 ∷ 1 ∷ 330 ∷ 3 ∷ 0 ∷ 331 ∷ 2 ∷ 1 ∷ 332 ∷ 3 ∷ 0 ∷ 333 ∷ 2 ∷ 1 ∷ 334 ∷ 3 ∷ 0 ∷ 335 ∷ 2 ∷ 1 ∷ 336 ∷ 3 ∷ 0 ∷ 337 ∷ 2 ∷ 1 ∷ 338 ∷ 3 ∷ 0 ∷ 339 ∷ 2 ∷ 1 ∷ 340 ∷ 3 ∷ 0 ∷ 341 ∷ 2 ∷ 1 ∷ 342 ∷ 3 ∷ 0 ∷ 343 ∷ 2 ∷ 1 ∷ 344 ∷ 3 ∷ 0 ∷ 345 ∷ 2 ∷ 1 ∷ 346 ∷ 3 ∷ 0 ∷ 347 ∷ 2 ∷ 1 ∷ 348 ∷ 3 ∷ 0 ∷ 349 ∷ 2 ∷ 1 ∷ 350 ∷ 3 ∷ 0 ∷ 351 ∷ 2 ∷ 1 ∷ 352 ∷ 3 ∷ 0 ∷ 353 ∷ 2 ∷ 1 ∷ 354 ∷ 3 ∷ 0 ∷ 355 ∷ 2 ∷ 1 ∷ 356 ∷ 3 ∷ 0 ∷ 357 ∷ 2 ∷ 1 ∷ 358 ∷ 3 ∷ 0 ∷ 359 ∷ 2 ∷ 1 ∷ 360 ∷ 3 ∷ 0 ∷ 361 ∷ 2 ∷ 1 ∷ 362 ∷ 3 ∷ 0 ∷ 363 ∷ 2 ∷ 1 ∷ 364 ∷ 3 ∷ 0 ∷ 365 ∷ 2 ∷ 1 ∷ 366 ∷ 3 ∷ 0 ∷ 367 ∷ 2 ∷ 1 ∷ 368 ∷ 3 ∷ 0 ∷ 369 ∷ 2 ∷ 1 ∷ 370 ∷ 3 ∷ 0 ∷ 371 ∷ 2 ∷ 1 ∷ 372 ∷ 3 ∷ 0 ∷ 373 ∷ 2 ∷ 1 ∷ 374 ∷ 3 ∷ 0 ∷ 375 ∷ 2 ∷ 1 ∷ 376 ∷ 3 ∷ 0 ∷ 377 ∷ 2 ∷ 1 ∷ 378 ∷ 3 ∷ 0 ∷ 379 ∷ 2 ∷ 1 ∷ 380 ∷ 3 ∷ 0 ∷ 381 ∷ 2 ∷ 1 ∷ 382 ∷ 3 ∷ 0 ∷ 383 ∷ 2 ∷ 1 ∷ 384 ∷ 3 ∷ 0 ∷ 385 ∷ 2 ∷ 1 ∷ 386 ∷ 3 ∷ 0 ∷ 387 ∷ 2 ∷ 1 ∷ 388 ∷ 3 ∷ 0 ∷ 389 ∷ 2 ∷ 1 ∷ 390 ∷ 3 ∷ 0 ∷ 391 ∷ 2 ∷ 1 ∷ 392 ∷ 3 ∷ 0 ∷ 393 ∷ 2 ∷ 1 ∷ 394 ∷ 3 ∷ 0 ∷ 395 ∷ 2 ∷ 1 ∷ 396 ∷ 3 ∷ 0 ∷ 397 ∷ 2 ∷ 1 ∷ 398 ∷ 3 ∷ 0 ∷ 399 ∷ zeros 11088 0) (200 ∷ 255 ∷ 3 ∷ 400 ∷ zeros 252 0)
+  -- damaged 1
+  v45 : call 12288 256 (2 ∷ 0 ∷ 2 ∷ 105 ∷ 102 ∷ 0 ∷ 1 ∷ 120 ∷ 2 ∷ 0 ∷ 1 ∷ 120 ∷ 2 ∷ 1 ∷ 120 ∷ 4 ∷ 0 ∷ 3 ∷ 1 ∷ 4 ∷ 1 ∷ 3 ∷ 2 ∷ 0 ∷ 10 ∷ 255 ∷ 3 ∷ 1 ∷ 1 ∷ 2 ∷ 1 ∷ 0 ∷ 2 ∷ 255 ∷ 3 ∷ 2 ∷ 1 ∷ 1 ∷ 2 ∷ 1 ∷ 1 ∷ 1 ∷ 0 ∷ 1 ∷ 2 ∷ 255 ∷ 3 ∷ 3 ∷ 1 ∷ 3 ∷ 1 ∷ 3 ∷ 1 ∷ 255 ∷ 3 ∷ 1 ∷ 1 ∷ 0 ∷ 1 ∷ 2 ∷ 1 ∷ 0 ∷ 1 ∷ 1 ∷ 3 ∷ 14 ∷ 8 ∷ 3 ∷ 0 ∷ 0 ∷ 9 ∷ 2 ∷ 0 ∷ 0 ∷ 8 ∷ 3 ∷ 0 ∷ 0 ∷ 8 ∷ 3 ∷ 0 ∷ 0 ∷ 10 ∷ 2 ∷ 0 ∷ 0 ∷ 7 ∷ 0 ∷ 0 ∷ 0 ∷ 8 ∷ 3 ∷ 0 ∷ 0 ∷ 8 ∷ 3 ∷ 0 ∷ 0 ∷ 8 ∷ 3 ∷ 0 ∷ 0 ∷ 8 ∷ 3 ∷ 0 ∷ 0 ∷ 8 ∷ 3 ∷ 0 ∷ 0 ∷ 8 ∷ 2 ∷ 0 ∷ 0 ∷ 38 ∷ 0 ∷ 0 ∷ 8 ∷ 2 ∷ 0 ∷ 0 ∷ []) (120 ∷ []) 0 1000000 ≡ gives (answer 6 114 0 0 0 0 0) (replicate 12288 7) (replicate 256 7)
+  -- damaged 2
+  v46 : call 12288 256 (0 ∷ 0 ∷ 1 ∷ 0 ∷ 1 ∷ 142 ∷ 255 ∷ 3 ∷ 1 ∷ 1 ∷ 1 ∷ 14 ∷ 0 ∷ 0 ∷ 0 ∷ []) (49 ∷ 45 ∷ 50 ∷ []) 0 1000000 ≡ gives (answer 4 5 0 0 0 0 0) (replicate 12288 7) (replicate 256 7)
+  -- damaged 8
+  v47 : call 12288 256 (0 ∷ 2 ∷ 0 ∷ 1 ∷ 97 ∷ 7 ∷ 1 ∷ 120 ∷ 3 ∷ 0 ∷ 3 ∷ 0 ∷ 2 ∷ 2 ∷ 0 ∷ 5 ∷ 255 ∷ 3 ∷ 1 ∷ 0 ∷ 1 ∷ 1 ∷ 0 ∷ 1 ∷ 255 ∷ 3 ∷ 1 ∷ 2 ∷ 2 ∷ 3 ∷ 1 ∷ 2 ∷ 255 ∷ 3 ∷ 1 ∷ 2 ∷ 7 ∷ 3 ∷ 0 ∷ 0 ∷ 0 ∷ 0 ∷ 59 ∷ 0 ∷ 0 ∷ 8 ∷ 0 ∷ 0 ∷ 0 ∷ 9 ∷ 1 ∷ 0 ∷ 0 ∷ 8 ∷ 1 ∷ 0 ∷ 0 ∷ 6 ∷ 0 ∷ 0 ∷ 0 ∷ 2 ∷ 0 ∷ 0 ∷ 0 ∷ 0 ∷ []) (49 ∷ 45 ∷ 50 ∷ []) 0 1000000 ≡ gives (answer 8 65 0 0 0 0 0) (replicate 12288 7) (replicate 256 7)
+  -- damaged 15
+  v48 : call 12288 256 [] (32 ∷ 49 ∷ 32 ∷ 47 ∷ 47 ∷ 32 ∷ 99 ∷ []) 0 1000000 ≡ gives (answer 3 0 0 0 0 0 0) (replicate 12288 7) (replicate 256 7)
+  -- damaged 23
+  v49 : call 12288 256 (1 ∷ 0 ∷ 1 ∷ 186 ∷ 2 ∷ 0 ∷ 1 ∷ 120 ∷ 3 ∷ 1 ∷ 120 ∷ 1 ∷ 0 ∷ 4 ∷ 4 ∷ 1 ∷ 1 ∷ 1 ∷ 1 ∷ 1 ∷ 2 ∷ 1 ∷ 3 ∷ 1 ∷ 2 ∷ 0 ∷ 3 ∷ 0 ∷ 0 ∷ 0 ∷ 2 ∷ 9 ∷ 4 ∷ 17 ∷ 254 ∷ 0 ∷ 8 ∷ 0 ∷ 0 ∷ 0 ∷ 0 ∷ 45 ∷ 0 ∷ 0 ∷ 8 ∷ 0 ∷ 0 ∷ 0 ∷ 8 ∷ 0 ∷ 0 ∷ 0 ∷ 0 ∷ 33 ∷ 0 ∷ 0 ∷ 8 ∷ 0 ∷ 0 ∷ 0 ∷ 8 ∷ 0 ∷ 0 ∷ 0 ∷ 0 ∷ 45 ∷ 0 ∷ 0 ∷ []) (49 ∷ 45 ∷ 50 ∷ []) 0 1000000 ≡ gives (answer 5 2 0 0 0 0 0) (replicate 12288 7) (replicate 256 7)
+  -- damaged 33
+  v50 : call 12288 256 (0 ∷ 4 ∷ 0 ∷ 2 ∷ 105 ∷ 102 ∷ 2 ∷ 1 ∷ 95 ∷ 0 ∷ 2 ∷ 105 ∷ 110 ∷ 2 ∷ 2 ∷ 105 ∷ 110 ∷ 4 ∷ 1 ∷ 3 ∷ 1 ∷ 3 ∷ 1 ∷ 3 ∷ 2 ∷ 0 ∷ 9 ∷ 0 ∷ 1 ∷ 3 ∷ 1 ∷ 1 ∷ 3 ∷ 0 ∷ 3 ∷ 255 ∷ 3 ∷ 1 ∷ 1 ∷ 3 ∷ 3 ∷ 0 ∷ 1 ∷ 0 ∷ 1 ∷ 0 ∷ 3 ∷ 2 ∷ 2 ∷ 1 ∷ 3 ∷ 255 ∷ 3 ∷ 1 ∷ 1 ∷ 0 ∷ 1 ∷ 1 ∷ 2 ∷ 1 ∷ 1 ∷ 1 ∷ 1 ∷ 16 ∷ 8 ∷ 3 ∷ 0 ∷ 0 ∷ 8 ∷ 0 ∷ 0 ∷ 0 ∷ 0 ∷ 33 ∷ 0 ∷ 0 ∷ 8 ∷ 2 ∷ 0 ∷ 0 ∷ 4 ∷ 0 ∷ 0 ∷ 0 ∷ 10 ∷ 2 ∷ 0 ∷ 0 ∷ 8 ∷ 1 ∷ 0 ∷ 0 ∷ 0 ∷ 47 ∷ 0 ∷ 0 ∷ 8 ∷ 2 ∷ 0 ∷ 0 ∷ 8 ∷ 1 ∷ 0 ∷ 0 ∷ 0 ∷ 42 ∷ 0 ∷ 0 ∷ 8 ∷ 3 ∷ 0 ∷ 0 ∷ 5 ∷ 0 ∷ 0 ∷ 0 ∷ 2 ∷ 0 ∷ 0 ∷ 0 ∷ 6 ∷ 0 ∷ 0 ∷ 0 ∷ 12 ∷ 1 ∷ 40 ∷ 41 ∷ []) (32 ∷ 32 ∷ 128 ∷ []) 0 1000000 ≡ gives (answer 11 2 0 0 0 0 0) (replicate 12288 7) (replicate 256 7)
+  -- damaged 35
+  v51 : call 12288 256 (0 ∷ 0 ∷ 1 ∷ 0 ∷ 1 ∷ 255 ∷ 2 ∷ 3 ∷ 1 ∷ 1 ∷ 8 ∷ 0 ∷ 0 ∷ 0 ∷ []) (32 ∷ 49 ∷ 32 ∷ 47 ∷ 47 ∷ 32 ∷ 99 ∷ []) 0 4294967295 ≡ gives (answer 2 0 0 0 0 0 0) (replicate 12288 7) (replicate 256 7)
   -- damaged 38
-  v41 : call 12288 256 (0 ∷ 0 ∷ 1 ∷ 0 ∷ 3 ∷ 3 ∷ 1 ∷ 0 ∷ 3 ∷ 1 ∷ 255 ∷ 3 ∷ 1 ∷ 1 ∷ 0 ∷ 1 ∷ 2 ∷ 1 ∷ 3 ∷ 3 ∷ 0 ∷ 0 ∷ 0 ∷ 3 ∷ 0 ∷ 0 ∷ 0 ∷ 3 ∷ 0 ∷ 0 ∷ 0 ∷ []) (120 ∷ []) 0 1000000 ≡ gives (answer 7 6 0 0 0 0 0) (replicate 12288 7) (replicate 256 7)
+  v52 : call 12288 256 (0 ∷ 0 ∷ 1 ∷ 0 ∷ 3 ∷ 3 ∷ 1 ∷ 0 ∷ 3 ∷ 1 ∷ 255 ∷ 3 ∷ 1 ∷ 1 ∷ 0 ∷ 1 ∷ 2 ∷ 1 ∷ 3 ∷ 3 ∷ 0 ∷ 0 ∷ 0 ∷ 3 ∷ 0 ∷ 0 ∷ 0 ∷ 3 ∷ 0 ∷ 0 ∷ 0 ∷ []) (120 ∷ []) 0 1000000 ≡ gives (answer 7 6 0 0 0 0 0) (replicate 12288 7) (replicate 256 7)
   -- damaged 195
-  v42 : call 12288 256 (0 ∷ 1 ∷ 0 ∷ 2 ∷ 105 ∷ 102 ∷ 2 ∷ 0 ∷ 2 ∷ 0 ∷ 2 ∷ 4 ∷ 2 ∷ 3 ∷ 1 ∷ 2 ∷ 255 ∷ 3 ∷ 1 ∷ 1 ∷ 188 ∷ 1 ∷ 0 ∷ 1 ∷ 1 ∷ 0 ∷ 1 ∷ 0 ∷ 4 ∷ 9 ∷ 1 ∷ 0 ∷ 0 ∷ 8 ∷ 0 ∷ 0 ∷ 0 ∷ 3 ∷ 0 ∷ 0 ∷ 0 ∷ 0 ∷ 42 ∷ 0 ∷ 0 ∷ []) (40 ∷ 49 ∷ []) 33 1000000 ≡ gives (answer 9 0 0 0 0 0 0) (replicate 12288 7) (replicate 256 7)
+  v53 : call 12288 256 (0 ∷ 1 ∷ 0 ∷ 2 ∷ 105 ∷ 102 ∷ 2 ∷ 0 ∷ 2 ∷ 0 ∷ 2 ∷ 4 ∷ 2 ∷ 3 ∷ 1 ∷ 2 ∷ 255 ∷ 3 ∷ 1 ∷ 1 ∷ 188 ∷ 1 ∷ 0 ∷ 1 ∷ 1 ∷ 0 ∷ 1 ∷ 0 ∷ 4 ∷ 9 ∷ 1 ∷ 0 ∷ 0 ∷ 8 ∷ 0 ∷ 0 ∷ 0 ∷ 3 ∷ 0 ∷ 0 ∷ 0 ∷ 0 ∷ 42 ∷ 0 ∷ 0 ∷ []) (40 ∷ 49 ∷ []) 33 1000000 ≡ gives (answer 9 0 0 0 0 0 0) (replicate 12288 7) (replicate 256 7)
   -- reading 33
-  v43 : call 12288 256 (1 ∷ 1 ∷ 1 ∷ 120 ∷ 3 ∷ 1 ∷ 1 ∷ 97 ∷ 0 ∷ 1 ∷ 98 ∷ 2 ∷ 1 ∷ 98 ∷ 2 ∷ 0 ∷ 3 ∷ 2 ∷ 0 ∷ 3 ∷ 2 ∷ 2 ∷ 1 ∷ 2 ∷ 2 ∷ 2 ∷ 0 ∷ 3 ∷ 1 ∷ 0 ∷ 3 ∷ 1 ∷ 6 ∷ 2 ∷ 0 ∷ 0 ∷ 0 ∷ 6 ∷ 0 ∷ 0 ∷ 0 ∷ 8 ∷ 0 ∷ 0 ∷ 0 ∷ 0 ∷ 42 ∷ 0 ∷ 0 ∷ 8 ∷ 1 ∷ 0 ∷ 0 ∷ 8 ∷ 1 ∷ 0 ∷ 0 ∷ []) (122 ∷ 57 ∷ 42 ∷ 98 ∷ 42 ∷ 97 ∷ 42 ∷ []) 1 1000000 ≡ gives (answer 31 0 0 0 1 1 0) (written 12288 (4 ∷ 0 ∷ 2 ∷ []) (replicate 12288 7)) (written 256 (2 ∷ 255 ∷ 3 ∷ 1 ∷ []) (replicate 256 7))
+  v54 : call 12288 256 (1 ∷ 1 ∷ 1 ∷ 120 ∷ 3 ∷ 1 ∷ 1 ∷ 97 ∷ 0 ∷ 1 ∷ 98 ∷ 2 ∷ 1 ∷ 98 ∷ 2 ∷ 0 ∷ 3 ∷ 2 ∷ 0 ∷ 3 ∷ 2 ∷ 2 ∷ 1 ∷ 2 ∷ 2 ∷ 2 ∷ 0 ∷ 3 ∷ 1 ∷ 0 ∷ 3 ∷ 1 ∷ 6 ∷ 2 ∷ 0 ∷ 0 ∷ 0 ∷ 6 ∷ 0 ∷ 0 ∷ 0 ∷ 8 ∷ 0 ∷ 0 ∷ 0 ∷ 0 ∷ 42 ∷ 0 ∷ 0 ∷ 8 ∷ 1 ∷ 0 ∷ 0 ∷ 8 ∷ 1 ∷ 0 ∷ 0 ∷ []) (122 ∷ 57 ∷ 42 ∷ 98 ∷ 42 ∷ 97 ∷ 42 ∷ []) 1 1000000 ≡ gives (answer 31 0 0 0 1 1 0) (4 ∷ 0 ∷ 2 ∷ zeros 12285 0) (2 ∷ 255 ∷ 3 ∷ 1 ∷ zeros 252 0)
   -- reading 78
-  v44 : call 12288 256 (2 ∷ 1 ∷ 1 ∷ 97 ∷ 0 ∷ 3 ∷ 110 ∷ 111 ∷ 116 ∷ 1 ∷ 0 ∷ 2 ∷ 118 ∷ 49 ∷ 3 ∷ 0 ∷ 4 ∷ 2 ∷ 0 ∷ 1 ∷ 4 ∷ 8 ∷ 1 ∷ 3 ∷ 0 ∷ 3 ∷ 2 ∷ 1 ∷ 0 ∷ 1 ∷ 2 ∷ 0 ∷ 1 ∷ 1 ∷ 1 ∷ 0 ∷ 1 ∷ 1 ∷ 1 ∷ 0 ∷ 1 ∷ 4 ∷ 255 ∷ 3 ∷ 1 ∷ 1 ∷ 0 ∷ 0 ∷ 0 ∷ 3 ∷ 255 ∷ 3 ∷ 1 ∷ 0 ∷ 14 ∷ 10 ∷ 0 ∷ 0 ∷ 0 ∷ 8 ∷ 0 ∷ 0 ∷ 0 ∷ 0 ∷ 59 ∷ 0 ∷ 0 ∷ 11 ∷ 0 ∷ 0 ∷ 0 ∷ 8 ∷ 1 ∷ 0 ∷ 0 ∷ 0 ∷ 47 ∷ 0 ∷ 0 ∷ 8 ∷ 2 ∷ 0 ∷ 0 ∷ 0 ∷ 59 ∷ 0 ∷ 0 ∷ 8 ∷ 2 ∷ 0 ∷ 0 ∷ 0 ∷ 63 ∷ 0 ∷ 0 ∷ 10 ∷ 2 ∷ 0 ∷ 0 ∷ 9 ∷ 2 ∷ 0 ∷ 0 ∷ 0 ∷ 59 ∷ 0 ∷ 0 ∷ 8 ∷ 2 ∷ 0 ∷ 0 ∷ []) (9 ∷ 40 ∷ 47 ∷ 47 ∷ 10 ∷ 59 ∷ []) 1 1000000 ≡ gives (answer 30 1 11 1 1 0 0) (written 12288 [] (replicate 12288 7)) (written 256 [] (replicate 256 7))
+  v55 : call 12288 256 (2 ∷ 1 ∷ 1 ∷ 97 ∷ 0 ∷ 3 ∷ 110 ∷ 111 ∷ 116 ∷ 1 ∷ 0 ∷ 2 ∷ 118 ∷ 49 ∷ 3 ∷ 0 ∷ 4 ∷ 2 ∷ 0 ∷ 1 ∷ 4 ∷ 8 ∷ 1 ∷ 3 ∷ 0 ∷ 3 ∷ 2 ∷ 1 ∷ 0 ∷ 1 ∷ 2 ∷ 0 ∷ 1 ∷ 1 ∷ 1 ∷ 0 ∷ 1 ∷ 1 ∷ 1 ∷ 0 ∷ 1 ∷ 4 ∷ 255 ∷ 3 ∷ 1 ∷ 1 ∷ 0 ∷ 0 ∷ 0 ∷ 3 ∷ 255 ∷ 3 ∷ 1 ∷ 0 ∷ 14 ∷ 10 ∷ 0 ∷ 0 ∷ 0 ∷ 8 ∷ 0 ∷ 0 ∷ 0 ∷ 0 ∷ 59 ∷ 0 ∷ 0 ∷ 11 ∷ 0 ∷ 0 ∷ 0 ∷ 8 ∷ 1 ∷ 0 ∷ 0 ∷ 0 ∷ 47 ∷ 0 ∷ 0 ∷ 8 ∷ 2 ∷ 0 ∷ 0 ∷ 0 ∷ 59 ∷ 0 ∷ 0 ∷ 8 ∷ 2 ∷ 0 ∷ 0 ∷ 0 ∷ 63 ∷ 0 ∷ 0 ∷ 10 ∷ 2 ∷ 0 ∷ 0 ∷ 9 ∷ 2 ∷ 0 ∷ 0 ∷ 0 ∷ 59 ∷ 0 ∷ 0 ∷ 8 ∷ 2 ∷ 0 ∷ 0 ∷ []) (9 ∷ 40 ∷ 47 ∷ 47 ∷ 10 ∷ 59 ∷ []) 1 1000000 ≡ gives (answer 30 1 11 1 1 0 0) (zeros 12288 0) (zeros 256 0)
   -- reading 332
-  v45 : call 12288 256 (0 ∷ 2 ∷ 1 ∷ 1 ∷ 95 ∷ 7 ∷ 2 ∷ 105 ∷ 110 ∷ 2 ∷ 2 ∷ 0 ∷ 0 ∷ 2 ∷ 2 ∷ 255 ∷ 3 ∷ 1 ∷ 1 ∷ 1 ∷ 1 ∷ 1 ∷ 3 ∷ 4 ∷ 4 ∷ 0 ∷ 0 ∷ 0 ∷ 8 ∷ 1 ∷ 0 ∷ 0 ∷ 0 ∷ 38 ∷ 0 ∷ 0 ∷ 8 ∷ 1 ∷ 0 ∷ 0 ∷ []) (95 ∷ 32 ∷ 95 ∷ 47 ∷ 47 ∷ 10 ∷ []) 0 1000000 ≡ gives (answer 31 0 0 0 1 1 0) (written 12288 (4 ∷ 0 ∷ 1 ∷ []) (replicate 12288 7)) (written 256 (1 ∷ 255 ∷ 3 ∷ 1 ∷ []) (replicate 256 7))
+  v56 : call 12288 256 (0 ∷ 2 ∷ 1 ∷ 1 ∷ 95 ∷ 7 ∷ 2 ∷ 105 ∷ 110 ∷ 2 ∷ 2 ∷ 0 ∷ 0 ∷ 2 ∷ 2 ∷ 255 ∷ 3 ∷ 1 ∷ 1 ∷ 1 ∷ 1 ∷ 1 ∷ 3 ∷ 4 ∷ 4 ∷ 0 ∷ 0 ∷ 0 ∷ 8 ∷ 1 ∷ 0 ∷ 0 ∷ 0 ∷ 38 ∷ 0 ∷ 0 ∷ 8 ∷ 1 ∷ 0 ∷ 0 ∷ []) (95 ∷ 32 ∷ 95 ∷ 47 ∷ 47 ∷ 10 ∷ []) 0 1000000 ≡ gives (answer 31 0 0 0 1 1 0) (4 ∷ 0 ∷ 1 ∷ zeros 12285 0) (1 ∷ 255 ∷ 3 ∷ 1 ∷ zeros 252 0)
   -- reading 353
-  v46 : call 12288 256 (4 ∷ 0 ∷ 2 ∷ 87 ∷ 49 ∷ 0 ∷ 1 ∷ 97 ∷ 1 ∷ 2 ∷ 105 ∷ 102 ∷ 1 ∷ 1 ∷ 120 ∷ 3 ∷ 0 ∷ 2 ∷ 105 ∷ 102 ∷ 2 ∷ 1 ∷ 120 ∷ 1 ∷ 2 ∷ 105 ∷ 102 ∷ 2 ∷ 1 ∷ 2 ∷ 2 ∷ 0 ∷ 2 ∷ 3 ∷ 1 ∷ 0 ∷ 3 ∷ 255 ∷ 3 ∷ 2 ∷ 1 ∷ 4 ∷ 0 ∷ 91 ∷ 0 ∷ 0 ∷ 8 ∷ 0 ∷ 0 ∷ 0 ∷ 0 ∷ 93 ∷ 0 ∷ 0 ∷ 8 ∷ 0 ∷ 0 ∷ 0 ∷ []) (87 ∷ 49 ∷ []) 1 19817 ≡ gives (answer 0 0 0 0 1 1 1) (written 12288 (4 ∷ 0 ∷ 2 ∷ []) (replicate 12288 7)) (written 256 (2 ∷ 255 ∷ 3 ∷ 1 ∷ []) (replicate 256 7))
-  -- reading 715
-  v47 : call 12288 256 (2 ∷ 1 ∷ 2 ∷ 100 ∷ 111 ∷ 0 ∷ 2 ∷ 105 ∷ 110 ∷ 0 ∷ 2 ∷ 0 ∷ 3 ∷ 2 ∷ 0 ∷ 3 ∷ 3 ∷ 1 ∷ 0 ∷ 3 ∷ 2 ∷ 3 ∷ 0 ∷ 1 ∷ 1 ∷ 2 ∷ 1 ∷ 1 ∷ 5 ∷ 8 ∷ 0 ∷ 0 ∷ 0 ∷ 0 ∷ 38 ∷ 0 ∷ 0 ∷ 8 ∷ 0 ∷ 0 ∷ 0 ∷ 3 ∷ 0 ∷ 0 ∷ 0 ∷ 1 ∷ 1 ∷ 0 ∷ 0 ∷ []) (32 ∷ 47 ∷ 47 ∷ 32 ∷ 99 ∷ 10 ∷ 100 ∷ 111 ∷ []) 1 154 ≡ gives (answer 30 6 11 1 1 0 0) (written 12288 [] (replicate 12288 7)) (written 256 [] (replicate 256 7))
-  -- reading 1024
-  v48 : call 12288 256 (1 ∷ 1 ∷ 1 ∷ 120 ∷ 3 ∷ 2 ∷ 1 ∷ 98 ∷ 0 ∷ 1 ∷ 121 ∷ 1 ∷ 2 ∷ 105 ∷ 102 ∷ 4 ∷ 0 ∷ 4 ∷ 2 ∷ 0 ∷ 0 ∷ 1 ∷ 0 ∷ 4 ∷ 9 ∷ 255 ∷ 3 ∷ 1 ∷ 2 ∷ 255 ∷ 3 ∷ 1 ∷ 4 ∷ 1 ∷ 1 ∷ 0 ∷ 2 ∷ 1 ∷ 1 ∷ 1 ∷ 2 ∷ 2 ∷ 0 ∷ 1 ∷ 2 ∷ 0 ∷ 2 ∷ 1 ∷ 3 ∷ 0 ∷ 0 ∷ 0 ∷ 2 ∷ 0 ∷ 1 ∷ 1 ∷ 3 ∷ 255 ∷ 3 ∷ 1 ∷ 1 ∷ 21 ∷ 10 ∷ 0 ∷ 0 ∷ 0 ∷ 2 ∷ 0 ∷ 0 ∷ 0 ∷ 8 ∷ 0 ∷ 0 ∷ 0 ∷ 0 ∷ 47 ∷ 0 ∷ 0 ∷ 8 ∷ 0 ∷ 0 ∷ 0 ∷ 0 ∷ 47 ∷ 0 ∷ 0 ∷ 0 ∷ 60 ∷ 0 ∷ 0 ∷ 8 ∷ 0 ∷ 0 ∷ 0 ∷ 8 ∷ 0 ∷ 0 ∷ 0 ∷ 8 ∷ 0 ∷ 0 ∷ 0 ∷ 6 ∷ 0 ∷ 0 ∷ 0 ∷ 2 ∷ 0 ∷ 0 ∷ 0 ∷ 8 ∷ 3 ∷ 0 ∷ 0 ∷ 0 ∷ 35 ∷ 0 ∷ 0 ∷ 8 ∷ 3 ∷ 0 ∷ 0 ∷ 3 ∷ 0 ∷ 0 ∷ 0 ∷ 1 ∷ 0 ∷ 0 ∷ 0 ∷ 9 ∷ 3 ∷ 0 ∷ 0 ∷ 0 ∷ 35 ∷ 0 ∷ 0 ∷ 8 ∷ 3 ∷ 0 ∷ 0 ∷ 12 ∷ 3 ∷ 40 ∷ 41 ∷ []) (9 ∷ 120 ∷ []) 1 1000000 ≡ gives (answer 30 1 11 1 1 0 0) (written 12288 [] (replicate 12288 7)) (written 256 [] (replicate 256 7))
+  v57 : call 12288 256 (4 ∷ 0 ∷ 2 ∷ 87 ∷ 49 ∷ 0 ∷ 1 ∷ 97 ∷ 1 ∷ 2 ∷ 105 ∷ 102 ∷ 1 ∷ 1 ∷ 120 ∷ 3 ∷ 0 ∷ 2 ∷ 105 ∷ 102 ∷ 2 ∷ 1 ∷ 120 ∷ 1 ∷ 2 ∷ 105 ∷ 102 ∷ 2 ∷ 1 ∷ 2 ∷ 2 ∷ 0 ∷ 2 ∷ 3 ∷ 1 ∷ 0 ∷ 3 ∷ 255 ∷ 3 ∷ 2 ∷ 1 ∷ 4 ∷ 0 ∷ 91 ∷ 0 ∷ 0 ∷ 8 ∷ 0 ∷ 0 ∷ 0 ∷ 0 ∷ 93 ∷ 0 ∷ 0 ∷ 8 ∷ 0 ∷ 0 ∷ 0 ∷ []) (87 ∷ 49 ∷ []) 1 19817 ≡ gives (answer 0 0 0 0 1 1 1) (4 ∷ 0 ∷ 2 ∷ zeros 12285 0) (2 ∷ 255 ∷ 3 ∷ 1 ∷ zeros 252 0)
   -- reading 1069
-  v49 : call 12288 256 (0 ∷ 0 ∷ 3 ∷ 2 ∷ 0 ∷ 1 ∷ 3 ∷ 2 ∷ 0 ∷ 3 ∷ 1 ∷ 0 ∷ 1 ∷ 3 ∷ 255 ∷ 3 ∷ 1 ∷ 3 ∷ 2 ∷ 0 ∷ 0 ∷ 2 ∷ 8 ∷ 9 ∷ 2 ∷ 0 ∷ 0 ∷ 8 ∷ 1 ∷ 0 ∷ 0 ∷ 0 ∷ 61 ∷ 0 ∷ 0 ∷ 8 ∷ 1 ∷ 0 ∷ 0 ∷ 0 ∷ 64 ∷ 0 ∷ 0 ∷ 8 ∷ 1 ∷ 0 ∷ 0 ∷ 7 ∷ 0 ∷ 0 ∷ 0 ∷ 2 ∷ 0 ∷ 0 ∷ 0 ∷ []) (65 ∷ 95 ∷ 98 ∷ []) 0 1000000 ≡ gives (answer 0 0 0 0 1 1 1) (written 12288 (4 ∷ 0 ∷ 3 ∷ []) (replicate 12288 7)) (written 256 (3 ∷ 255 ∷ 3 ∷ 1 ∷ []) (replicate 256 7))
+  v58 : call 12288 256 (0 ∷ 0 ∷ 3 ∷ 2 ∷ 0 ∷ 1 ∷ 3 ∷ 2 ∷ 0 ∷ 3 ∷ 1 ∷ 0 ∷ 1 ∷ 3 ∷ 255 ∷ 3 ∷ 1 ∷ 3 ∷ 2 ∷ 0 ∷ 0 ∷ 2 ∷ 8 ∷ 9 ∷ 2 ∷ 0 ∷ 0 ∷ 8 ∷ 1 ∷ 0 ∷ 0 ∷ 0 ∷ 61 ∷ 0 ∷ 0 ∷ 8 ∷ 1 ∷ 0 ∷ 0 ∷ 0 ∷ 64 ∷ 0 ∷ 0 ∷ 8 ∷ 1 ∷ 0 ∷ 0 ∷ 7 ∷ 0 ∷ 0 ∷ 0 ∷ 2 ∷ 0 ∷ 0 ∷ 0 ∷ []) (65 ∷ 95 ∷ 98 ∷ []) 0 1000000 ≡ gives (answer 0 0 0 0 1 1 1) (4 ∷ 0 ∷ 3 ∷ zeros 12285 0) (3 ∷ 255 ∷ 3 ∷ 1 ∷ zeros 252 0)
   -- damaged 3
-  v50 : call 12288 256 (0 ∷ 0 ∷ 3 ∷ 0 ∷ 16 ∷ 0 ∷ 15 ∷ 0 ∷ 1 ∷ 32 ∷ 1 ∷ 0 ∷ 1 ∷ 8 ∷ 1 ∷ 0 ∷ 1 ∷ 8 ∷ 1 ∷ 0 ∷ 1 ∷ 8 ∷ 1 ∷ 0 ∷ 1 ∷ 8 ∷ 1 ∷ 0 ∷ 1 ∷ 8 ∷ 1 ∷ 0 ∷ 1 ∷ 8 ∷ 1 ∷ 0 ∷ 1 ∷ 8 ∷ 1 ∷ 0 ∷ 1 ∷ 8 ∷ 1 ∷ 0 ∷ 1 ∷ 8 ∷ 1 ∷ 0 ∷ 1 ∷ 8 ∷ 1 ∷ 0 ∷ 1 ∷ 8 ∷ 1 ∷ 0 ∷ 1 ∷ 8 ∷ 1 ∷ 0 ∷ 1 ∷ 8 ∷ 1 ∷ 0 ∷ 1 ∷ 8 ∷ 1 ∷ 0 ∷ 1 ∷ 8 ∷ 1 ∷ 0 ∷ 1 ∷ 8 ∷ 1 ∷ 0 ∷ 1 ∷ 8 ∷ 1 ∷ 0 ∷ 1 ∷ 8 ∷ 1 ∷ 0 ∷ 1 ∷ 8 ∷ 1 ∷ 0 ∷ 1 ∷ 8 ∷ 1 ∷ 0 ∷ 1 ∷ 8 ∷ 1 ∷ 0 ∷ 1 ∷ 8 ∷ 1 ∷ 0 ∷ 1 ∷ 8 ∷ 1 ∷ 0 ∷ 1 ∷ 8 ∷ 1 ∷ 0 ∷ 1 ∷ 8 ∷ 1 ∷ 0 ∷ 1 ∷ 8 ∷ 1 ∷ 0 ∷ 1 ∷ 8 ∷ 1 ∷ 0 ∷ 1 ∷ 8 ∷ 1 ∷ 0 ∷ 1 ∷ 8 ∷ 1 ∷ 0 ∷ 1 ∷ 8 ∷ 1 ∷ 0 ∷ 1 ∷ 8 ∷ 1 ∷ 0 ∷ 1 ∷ 7 ∷ 255 ∷ 3 ∷ 0 ∷ 0 ∷ 0 ∷ 3 ∷ 0 ∷ 0 ∷ 0 ∷ 3 ∷ 0 ∷ 0 ∷ 0 ∷ 3 ∷ 0 ∷ 0 ∷ 0 ∷ 3 ∷ 0 ∷ 0 ∷ 0 ∷ 3 ∷ 0 ∷ 0 ∷ 0 ∷ 3 ∷ 0 ∷ 0 ∷ 0 ∷ 3 ∷ 0 ∷ 0 ∷ 0 ∷ 3 ∷ 0 ∷ 0 ∷ 0 ∷ 3 ∷ 0 ∷ 0 ∷ 0 ∷ 3 ∷ 0 ∷ 0 ∷ 0 ∷ 3 ∷ 0 ∷ 0 ∷ 0 ∷ 3 ∷ 0 ∷ 0 ∷ 0 ∷ 3 ∷ 0 ∷ 0 ∷ 0 ∷ 3 ∷ 0 ∷ 0 ∷ 0 ∷ 3 ∷ 0 ∷ 0 ∷ 0 ∷ 3 ∷ 0 ∷ 0 ∷ 0 ∷ 3 ∷ 0 ∷ 0 ∷ 0 ∷ 3 ∷ 0 ∷ 0 ∷ 0 ∷ 3 ∷ 0 ∷ 0 ∷ 0 ∷ 3 ∷ 0 ∷ 0 ∷ 0 ∷ 3 ∷ 0 ∷ 0 ∷ 0 ∷ 3 ∷ 0 ∷ 0 ∷ 0 ∷ 3 ∷ 0 ∷ 0 ∷ 0 ∷ 3 ∷ 0 ∷ 0 ∷ 0 ∷ 3 ∷ 0 ∷ 0 ∷ 0 ∷ 3 ∷ 0 ∷ 0 ∷ 0 ∷ 3 ∷ 0 ∷ 0 ∷ 0 ∷ 3 ∷ 0 ∷ 0 ∷ 0 ∷ 3 ∷ 0 ∷ 0 ∷ 0 ∷ 3 ∷ 0 ∷ 0 ∷ 0 ∷ 3 ∷ 0 ∷ 0 ∷ 0 ∷ 3 ∷ 0 ∷ 0 ∷ 0 ∷ 3 ∷ 0 ∷ 0 ∷ 0 ∷ 3 ∷ 0 ∷ 0 ∷ 0 ∷ 3 ∷ 0 ∷ 0 ∷ 0 ∷ 3 ∷ 0 ∷ 0 ∷ 0 ∷ 3 ∷ 0 ∷ 0 ∷ 0 ∷ 3 ∷ 0 ∷ 0 ∷ 0 ∷ 3 ∷ 0 ∷ 0 ∷ 0 ∷ 3 ∷ 0 ∷ 0 ∷ 0 ∷ 3 ∷ 0 ∷ 0 ∷ 0 ∷ 3 ∷ 0 ∷ 0 ∷ 0 ∷ 3 ∷ 0 ∷ 0 ∷ 0 ∷ 3 ∷ 0 ∷ 0 ∷ 0 ∷ 3 ∷ 0 ∷ 0 ∷ 0 ∷ 3 ∷ 0 ∷ 0 ∷ 0 ∷ 3 ∷ 0 ∷ 0 ∷ 0 ∷ 3 ∷ 0 ∷ 0 ∷ 0 ∷ 3 ∷ 0 ∷ 0 ∷ 0 ∷ 3 ∷ 0 ∷ 0 ∷ 0 ∷ 3 ∷ 0 ∷ 0 ∷ 0 ∷ 3 ∷ 0 ∷ 0 ∷ 0 ∷ 3 ∷ 0 ∷ 0 ∷ 0 ∷ 3 ∷ 0 ∷ 0 ∷ 0 ∷ 3 ∷ 0 ∷ 0 ∷ 0 ∷ 3 ∷ 0 ∷ 0 ∷ 0 ∷ 3 ∷ 0 ∷ 0 ∷ 0 ∷ 3 ∷ 0 ∷ 0 ∷ 0 ∷ 3 ∷ 0 ∷ 0 ∷ 0 ∷ 3 ∷ 0 ∷ 0 ∷ 0 ∷ 3 ∷ 0 ∷ 0 ∷ 0 ∷ 3 ∷ 0 ∷ 0 ∷ 0 ∷ 3 ∷ 0 ∷ 0 ∷ 0 ∷ 3 ∷ 0 ∷ 0 ∷ 0 ∷ 3 ∷ 0 ∷ 0 ∷ 0 ∷ 3 ∷ 0 ∷ 0 ∷ 0 ∷ 3 ∷ 0 ∷ 0 ∷ 0 ∷ 3 ∷ 0 ∷ 0 ∷ 0 ∷ 3 ∷ 0 ∷ 0 ∷ 0 ∷ 3 ∷ 0 ∷ 0 ∷ 0 ∷ 3 ∷ 0 ∷ 0 ∷ 0 ∷ 3 ∷ 0 ∷ 0 ∷ 0 ∷ 3 ∷ 0 ∷ 0 ∷ 0 ∷ 3 ∷ 0 ∷ 0 ∷ 0 ∷ 3 ∷ 0 ∷ 0 ∷ 0 ∷ 3 ∷ 0 ∷ 0 ∷ 0 ∷ 3 ∷ 0 ∷ 0 ∷ 0 ∷ 3 ∷ 0 ∷ 0 ∷ 0 ∷ 3 ∷ 0 ∷ 0 ∷ 0 ∷ 3 ∷ 0 ∷ 0 ∷ 0 ∷ 3 ∷ 0 ∷ 0 ∷ 0 ∷ 3 ∷ 0 ∷ 0 ∷ 0 ∷ 3 ∷ 0 ∷ 0 ∷ 0 ∷ 3 ∷ 0 ∷ 0 ∷ 0 ∷ 3 ∷ 0 ∷ 0 ∷ 0 ∷ 3 ∷ 0 ∷ 0 ∷ 0 ∷ 3 ∷ 0 ∷ 0 ∷ 0 ∷ 3 ∷ 0 ∷ 0 ∷ 0 ∷ 3 ∷ 0 ∷ 0 ∷ 0 ∷ 3 ∷ 0 ∷ 0 ∷ 0 ∷ 3 ∷ 0 ∷ 0 ∷ 0 ∷ 3 ∷ 0 ∷ 0 ∷ 0 ∷ 3 ∷ 0 ∷ 0 ∷ 0 ∷ 3 ∷ 0 ∷ 0 ∷ 0 ∷ 3 ∷ 0 ∷ 0 ∷ 0 ∷ 3 ∷ 0 ∷ 0 ∷ 0 ∷ 3 ∷ 0 ∷ 0 ∷ 0 ∷ 3 ∷ 0 ∷ 0 ∷ 0 ∷ 3 ∷ 0 ∷ 0 ∷ 0 ∷ 3 ∷ 0 ∷ 0 ∷ 0 ∷ 3 ∷ 0 ∷ 0 ∷ 0 ∷ 3 ∷ 0 ∷ 0 ∷ 0 ∷ 3 ∷ 0 ∷ 0 ∷ 0 ∷ 3 ∷ 0 ∷ 0 ∷ 0 ∷ 3 ∷ 0 ∷ 0 ∷ 0 ∷ 3 ∷ 0 ∷ 0 ∷ 0 ∷ 3 ∷ 0 ∷ 0 ∷ 0 ∷ 3 ∷ 0 ∷ 0 ∷ 0 ∷ 3 ∷ 0 ∷ 0 ∷ 0 ∷ 3 ∷ 0 ∷ 0 ∷ 0 ∷ 3 ∷ 0 ∷ 0 ∷ 0 ∷ 3 ∷ 0 ∷ 0 ∷ 0 ∷ 3 ∷ 0 ∷ 0 ∷ 0 ∷ 3 ∷ 0 ∷ 0 ∷ 0 ∷ 3 ∷ 0 ∷ 0 ∷ 0 ∷ 3 ∷ 0 ∷ 0 ∷ 0 ∷ 3 ∷ 0 ∷ 0 ∷ 0 ∷ 3 ∷ 0 ∷ 0 ∷ 0 ∷ 3 ∷ 0 ∷ 0 ∷ 0 ∷ 3 ∷ 0 ∷ 0 ∷ 0 ∷ 3 ∷ 0 ∷ 0 ∷ 0 ∷ 3 ∷ 0 ∷ 0 ∷ 0 ∷ 3 ∷ 0 ∷ 0 ∷ 0 ∷ 3 ∷ 0 ∷ 0 ∷ 0 ∷ 3 ∷ 0 ∷ 0 ∷ 0 ∷ 3 ∷ 0 ∷ 0 ∷ 0 ∷ 3 ∷ 0 ∷ 0 ∷ 0 ∷ 3 ∷ 0 ∷ 0 ∷ 0 ∷ 3 ∷ 0 ∷ 0 ∷ 0 ∷ 3 ∷ 0 ∷ 0 ∷ 0 ∷ 3 ∷ 0 ∷ 0 ∷ 0 ∷ 3 ∷ 0 ∷ 0 ∷ 0 ∷ 3 ∷ 0 ∷ 0 ∷ 0 ∷ 3 ∷ 0 ∷ 0 ∷ 0 ∷ 3 ∷ 0 ∷ 0 ∷ 0 ∷ 3 ∷ 0 ∷ 0 ∷ 0 ∷ 3 ∷ 0 ∷ 0 ∷ 0 ∷ 3 ∷ 0 ∷ 0 ∷ 0 ∷ 3 ∷ 0 ∷ 0 ∷ 0 ∷ 3 ∷ 0 ∷ 0 ∷ 0 ∷ 3 ∷ 0 ∷ 0 ∷ 0 ∷ 3 ∷ 0 ∷ 0 ∷ 0 ∷ 3 ∷ 0 ∷ 0 ∷ 0 ∷ 3 ∷ 0 ∷ 0 ∷ 0 ∷ 3 ∷ 0 ∷ 0 ∷ 0 ∷ 3 ∷ 0 ∷ 0 ∷ 0 ∷ 3 ∷ 0 ∷ 0 ∷ 0 ∷ 3 ∷ 0 ∷ 0 ∷ 0 ∷ 3 ∷ 0 ∷ 0 ∷ 0 ∷ 3 ∷ 0 ∷ 0 ∷ 0 ∷ 3 ∷ 0 ∷ 0 ∷ 0 ∷ 3 ∷ 0 ∷ 0 ∷ 0 ∷ 3 ∷ 0 ∷ 0 ∷ 0 ∷ 3 ∷ 0 ∷ 0 ∷ 0 ∷ 3 ∷ 0 ∷ 0 ∷ 0 ∷ 3 ∷ 0 ∷ 0 ∷ 0 ∷ 3 ∷ 0 ∷ 0 ∷ 0 ∷ 3 ∷ 0 ∷ 0 ∷ 0 ∷ 3 ∷ 0 ∷ 0 ∷ 0 ∷ 3 ∷ 0 ∷ 0 ∷ 0 ∷ 3 ∷ 0 ∷ 0 ∷ 0 ∷ 3 ∷ 0 ∷ 0 ∷ 0 ∷ 3 ∷ 0 ∷ 0 ∷ 0 ∷ 3 ∷ 0 ∷ 0 ∷ 0 ∷ 3 ∷ 0 ∷ 0 ∷ 0 ∷ 3 ∷ 0 ∷ 0 ∷ 0 ∷ 3 ∷ 0 ∷ 0 ∷ 0 ∷ 3 ∷ 0 ∷ 0 ∷ 0 ∷ 3 ∷ 0 ∷ 0 ∷ 0 ∷ 3 ∷ 0 ∷ 0 ∷ 0 ∷ 3 ∷ 0 ∷ 0 ∷ 0 ∷ 3 ∷ 0 ∷ 0 ∷ 0 ∷ 3 ∷ 0 ∷ 0 ∷ 0 ∷ 3 ∷ 0 ∷ 0 ∷ 0 ∷ 3 ∷ 0 ∷ 0 ∷ 0 ∷ 3 ∷ 0 ∷ 0 ∷ 0 ∷ 3 ∷ 0 ∷ 0 ∷ 0 ∷ 3 ∷ 0 ∷ 0 ∷ 0 ∷ 3 ∷ 0 ∷ 0 ∷ 0 ∷ 3 ∷ 0 ∷ 0 ∷ 0 ∷ 3 ∷ 0 ∷ 0 ∷ 0 ∷ 3 ∷ 0 ∷ 0 ∷ 0 ∷ 3 ∷ 0 ∷ 0 ∷ 0 ∷ 3 ∷ 0 ∷ 0 ∷ 0 ∷ 3 ∷ 0 ∷ 0 ∷ 0 ∷ 3 ∷ 0 ∷ 0 ∷ 0 ∷ 3 ∷ 0 ∷ 0 ∷ 0 ∷ 3 ∷ 0 ∷ 0 ∷ 0 ∷ 3 ∷ 0 ∷ 0 ∷ 0 ∷ 3 ∷ 0 ∷ 0 ∷ 0 ∷ 3 ∷ 0 ∷ 0 ∷ 0 ∷ 3 ∷ 0 ∷ 0 ∷ 0 ∷ 3 ∷ 0 ∷ 0 ∷ 0 ∷ 3 ∷ 0 ∷ 0 ∷ 0 ∷ 3 ∷ 0 ∷ 0 ∷ 0 ∷ 3 ∷ 0 ∷ 0 ∷ 0 ∷ 3 ∷ 0 ∷ 0 ∷ 0 ∷ 3 ∷ 0 ∷ 0 ∷ 0 ∷ 3 ∷ 0 ∷ 0 ∷ 0 ∷ 3 ∷ 0 ∷ 0 ∷ 0 ∷ 3 ∷ 0 ∷ 0 ∷ 0 ∷ 3 ∷ 0 ∷ 0 ∷ 0 ∷ 3 ∷ 0 ∷ 0 ∷ 0 ∷ 3 ∷ 0 ∷ 0 ∷ 0 ∷ 3 ∷ 0 ∷ 0 ∷ 0 ∷ 3 ∷ 0 ∷ 0 ∷ 0 ∷ 3 ∷ 0 ∷ 0 ∷ 0 ∷ 3 ∷ 0 ∷ 0 ∷ 0 ∷ 3 ∷ 0 ∷ 0 ∷ 0 ∷ 3 ∷ 0 ∷ 0 ∷ 0 ∷ 3 ∷ 0 ∷ 0 ∷ 0 ∷ 3 ∷ 0 ∷ 0 ∷ 0 ∷ 3 ∷ 0 ∷ 0 ∷ 0 ∷ 3 ∷ 0 ∷ 0 ∷ 0 ∷ 3 ∷ 0 ∷ 0 ∷ 0 ∷ 3 ∷ 0 ∷ 0 ∷ 0 ∷ 3 ∷ 0 ∷ 0 ∷ 0 ∷ 3 ∷ 0 ∷ 0 ∷ 0 ∷ 3 ∷ 0 ∷ 0 ∷ 0 ∷ 3 ∷ 0 ∷ 0 ∷ 0 ∷ 3 ∷ 0 ∷ 0 ∷ 0 ∷ 3 ∷ 0 ∷ 0 ∷ 0 ∷ 3 ∷ 0 ∷ 0 ∷ 0 ∷ 3 ∷ 0 ∷ 0 ∷ 0 ∷ 3 ∷ 0 ∷ 0 ∷ 0 ∷ 3 ∷ 0 ∷ 0 ∷ 0 ∷ 3 ∷ 0 ∷ 0 ∷ 0 ∷ 3 ∷ 0 ∷ 0 ∷ 0 ∷ 3 ∷ 0 ∷ 0 ∷ 0 ∷ 3 ∷ 0 ∷ 0 ∷ 0 ∷ 3 ∷ 0 ∷ 0 ∷ 0 ∷ 3 ∷ 0 ∷ 0 ∷ 0 ∷ 3 ∷ 0 ∷ 0 ∷ 0 ∷ 3 ∷ 0 ∷ 0 ∷ 0 ∷ 3 ∷ 0 ∷ 0 ∷ 0 ∷ 3 ∷ 0 ∷ 0 ∷ 0 ∷ 3 ∷ 0 ∷ 0 ∷ 0 ∷ 3 ∷ 0 ∷ 0 ∷ 0 ∷ 3 ∷ 0 ∷ 0 ∷ 0 ∷ 3 ∷ 0 ∷ 0 ∷ 0 ∷ 3 ∷ 0 ∷ 0 ∷ 0 ∷ 3 ∷ 0 ∷ 0 ∷ 0 ∷ 3 ∷ 0 ∷ 0 ∷ 0 ∷ 3 ∷ 0 ∷ 0 ∷ 0 ∷ 3 ∷ 0 ∷ 0 ∷ 0 ∷ 3 ∷ 0 ∷ 0 ∷ 0 ∷ 3 ∷ 0 ∷ 0 ∷ 0 ∷ 3 ∷ 0 ∷ 0 ∷ 0 ∷ 3 ∷ 0 ∷ 0 ∷ 0 ∷ 3 ∷ 0 ∷ 0 ∷ 0 ∷ 3 ∷ 0 ∷ 0 ∷ 0 ∷ 3 ∷ 0 ∷ 0 ∷ 0 ∷ 3 ∷ 0 ∷ 0 ∷ 0 ∷ 3 ∷ 0 ∷ 0 ∷ 0 ∷ []) (49 ∷ 45 ∷ 50 ∷ []) 0 1 ≡ gives (answer 20 0 0 0 1 0 0) (written 12288 [] (replicate 12288 7)) (written 256 [] (replicate 256 7))
+  v59 : call 12288 256 (0 ∷ 0 ∷ 3 ∷ 0 ∷ 16 ∷ 0 ∷ 15 ∷ 0 ∷ 1 ∷ 32 ∷ 1 ∷ 0 ∷ 1 ∷ 8 ∷ 1 ∷ 0 ∷ 1 ∷ 8 ∷ 1 ∷ 0 ∷ 1 ∷ 8 ∷ 1 ∷ 0 ∷ 1 ∷ 8 ∷ 1 ∷ 0 ∷ 1 ∷ 8 ∷ 1 ∷ 0 ∷ 1 ∷ 8 ∷ 1 ∷ 0 ∷ 1 ∷ 8 ∷ 1 ∷ 0 ∷ 1 ∷ 8 ∷ 1 ∷ 0 ∷ 1 ∷ 8 ∷ 1 ∷ 0 ∷ 1 ∷ 8 ∷ 1 ∷ 0 ∷ 1 ∷ 8 ∷ 1 ∷ 0 ∷ 1 ∷ 8 ∷ 1 ∷ 0 ∷ 1 ∷ 8 ∷ 1 ∷ 0 ∷ 1 ∷ 8 ∷ 1 ∷ 0 ∷ 1 ∷ 8 ∷ 1 ∷ 0 ∷ 1 ∷ 8 ∷ 1 ∷ 0 ∷ 1 ∷ 8 ∷ 1 ∷ 0 ∷ 1 ∷ 8 ∷ 1 ∷ 0 ∷ 1 ∷ 8 ∷ 1 ∷ 0 ∷ 1 ∷ 8 ∷ 1 ∷ 0 ∷ 1 ∷ 8 ∷ 1 ∷ 0 ∷ 1 ∷ 8 ∷ 1 ∷ 0 ∷ 1 ∷ 8 ∷ 1 ∷ 0 ∷ 1 ∷ 8 ∷ 1 ∷ 0 ∷ 1 ∷ 8 ∷ 1 ∷ 0 ∷ 1 ∷ 8 ∷ 1 ∷ 0 ∷ 1 ∷ 8 ∷ 1 ∷ 0 ∷ 1 ∷ 8 ∷ 1 ∷ 0 ∷ 1 ∷ 8 ∷ 1 ∷ 0 ∷ 1 ∷ 8 ∷ 1 ∷ 0 ∷ 1 ∷ 8 ∷ 1 ∷ 0 ∷ 1 ∷ 7 ∷ 255 ∷ 3 ∷ 0 ∷ 0 ∷ 0 ∷ 3 ∷ 0 ∷ 0 ∷ 0 ∷ 3 ∷ 0 ∷ 0 ∷ 0 ∷ 3 ∷ 0 ∷ 0 ∷ 0 ∷ 3 ∷ 0 ∷ 0 ∷ 0 ∷ 3 ∷ 0 ∷ 0 ∷ 0 ∷ 3 ∷ 0 ∷ 0 ∷ 0 ∷ 3 ∷ 0 ∷ 0 ∷ 0 ∷ 3 ∷ 0 ∷ 0 ∷ 0 ∷ 3 ∷ 0 ∷ 0 ∷ 0 ∷ 3 ∷ 0 ∷ 0 ∷ 0 ∷ 3 ∷ 0 ∷ 0 ∷ 0 ∷ 3 ∷ 0 ∷ 0 ∷ 0 ∷ 3 ∷ 0 ∷ 0 ∷ 0 ∷ 3 ∷ 0 ∷ 0 ∷ 0 ∷ 3 ∷ 0 ∷ 0 ∷ 0 ∷ 3 ∷ 0 ∷ 0 ∷ 0 ∷ 3 ∷ 0 ∷ 0 ∷ 0 ∷ 3 ∷ 0 ∷ 0 ∷ 0 ∷ 3 ∷ 0 ∷ 0 ∷ 0 ∷ 3 ∷ 0 ∷ 0 ∷ 0 ∷ 3 ∷ 0 ∷ 0 ∷ 0 ∷ 3 ∷ 0 ∷ 0 ∷ 0 ∷ 3 ∷ 0 ∷ 0 ∷ 0 ∷ 3 ∷ 0 ∷ 0 ∷ 0 ∷ 3 ∷ 0 ∷ 0 ∷ 0 ∷ 3 ∷ 0 ∷ 0 ∷ 0 ∷ 3 ∷ 0 ∷ 0 ∷ 0 ∷ 3 ∷ 0 ∷ 0 ∷ 0 ∷ 3 ∷ 0 ∷ 0 ∷ 0 ∷ 3 ∷ 0 ∷ 0 ∷ 0 ∷ 3 ∷ 0 ∷ 0 ∷ 0 ∷ 3 ∷ 0 ∷ 0 ∷ 0 ∷ 3 ∷ 0 ∷ 0 ∷ 0 ∷ 3 ∷ 0 ∷ 0 ∷ 0 ∷ 3 ∷ 0 ∷ 0 ∷ 0 ∷ 3 ∷ 0 ∷ 0 ∷ 0 ∷ 3 ∷ 0 ∷ 0 ∷ 0 ∷ 3 ∷ 0 ∷ 0 ∷ 0 ∷ 3 ∷ 0 ∷ 0 ∷ 0 ∷ 3 ∷ 0 ∷ 0 ∷ 0 ∷ 3 ∷ 0 ∷ 0 ∷ 0 ∷ 3 ∷ 0 ∷ 0 ∷ 0 ∷ 3 ∷ 0 ∷ 0 ∷ 0 ∷ 3 ∷ 0 ∷ 0 ∷ 0 ∷ 3 ∷ 0 ∷ 0 ∷ 0 ∷ 3 ∷ 0 ∷ 0 ∷ 0 ∷ 3 ∷ 0 ∷ 0 ∷ 0 ∷ 3 ∷ 0 ∷ 0 ∷ 0 ∷ 3 ∷ 0 ∷ 0 ∷ 0 ∷ 3 ∷ 0 ∷ 0 ∷ 0 ∷ 3 ∷ 0 ∷ 0 ∷ 0 ∷ 3 ∷ 0 ∷ 0 ∷ 0 ∷ 3 ∷ 0 ∷ 0 ∷ 0 ∷ 3 ∷ 0 ∷ 0 ∷ 0 ∷ 3 ∷ 0 ∷ 0 ∷ 0 ∷ 3 ∷ 0 ∷ 0 ∷ 0 ∷ 3 ∷ 0 ∷ 0 ∷ 0 ∷ 3 ∷ 0 ∷ 0 ∷ 0 ∷ 3 ∷ 0 ∷ 0 ∷ 0 ∷ 3 ∷ 0 ∷ 0 ∷ 0 ∷ 3 ∷ 0 ∷ 0 ∷ 0 ∷ 3 ∷ 0 ∷ 0 ∷ 0 ∷ 3 ∷ 0 ∷ 0 ∷ 0 ∷ 3 ∷ 0 ∷ 0 ∷ 0 ∷ 3 ∷ 0 ∷ 0 ∷ 0 ∷ 3 ∷ 0 ∷ 0 ∷ 0 ∷ 3 ∷ 0 ∷ 0 ∷ 0 ∷ 3 ∷ 0 ∷ 0 ∷ 0 ∷ 3 ∷ 0 ∷ 0 ∷ 0 ∷ 3 ∷ 0 ∷ 0 ∷ 0 ∷ 3 ∷ 0 ∷ 0 ∷ 0 ∷ 3 ∷ 0 ∷ 0 ∷ 0 ∷ 3 ∷ 0 ∷ 0 ∷ 0 ∷ 3 ∷ 0 ∷ 0 ∷ 0 ∷ 3 ∷ 0 ∷ 0 ∷ 0 ∷ 3 ∷ 0 ∷ 0 ∷ 0 ∷ 3 ∷ 0 ∷ 0 ∷ 0 ∷ 3 ∷ 0 ∷ 0 ∷ 0 ∷ 3 ∷ 0 ∷ 0 ∷ 0 ∷ 3 ∷ 0 ∷ 0 ∷ 0 ∷ 3 ∷ 0 ∷ 0 ∷ 0 ∷ 3 ∷ 0 ∷ 0 ∷ 0 ∷ 3 ∷ 0 ∷ 0 ∷ 0 ∷ 3 ∷ 0 ∷ 0 ∷ 0 ∷ 3 ∷ 0 ∷ 0 ∷ 0 ∷ 3 ∷ 0 ∷ 0 ∷ 0 ∷ 3 ∷ 0 ∷ 0 ∷ 0 ∷ 3 ∷ 0 ∷ 0 ∷ 0 ∷ 3 ∷ 0 ∷ 0 ∷ 0 ∷ 3 ∷ 0 ∷ 0 ∷ 0 ∷ 3 ∷ 0 ∷ 0 ∷ 0 ∷ 3 ∷ 0 ∷ 0 ∷ 0 ∷ 3 ∷ 0 ∷ 0 ∷ 0 ∷ 3 ∷ 0 ∷ 0 ∷ 0 ∷ 3 ∷ 0 ∷ 0 ∷ 0 ∷ 3 ∷ 0 ∷ 0 ∷ 0 ∷ 3 ∷ 0 ∷ 0 ∷ 0 ∷ 3 ∷ 0 ∷ 0 ∷ 0 ∷ 3 ∷ 0 ∷ 0 ∷ 0 ∷ 3 ∷ 0 ∷ 0 ∷ 0 ∷ 3 ∷ 0 ∷ 0 ∷ 0 ∷ 3 ∷ 0 ∷ 0 ∷ 0 ∷ 3 ∷ 0 ∷ 0 ∷ 0 ∷ 3 ∷ 0 ∷ 0 ∷ 0 ∷ 3 ∷ 0 ∷ 0 ∷ 0 ∷ 3 ∷ 0 ∷ 0 ∷ 0 ∷ 3 ∷ 0 ∷ 0 ∷ 0 ∷ 3 ∷ 0 ∷ 0 ∷ 0 ∷ 3 ∷ 0 ∷ 0 ∷ 0 ∷ 3 ∷ 0 ∷ 0 ∷ 0 ∷ 3 ∷ 0 ∷ 0 ∷ 0 ∷ 3 ∷ 0 ∷ 0 ∷ 0 ∷ 3 ∷ 0 ∷ 0 ∷ 0 ∷ 3 ∷ 0 ∷ 0 ∷ 0 ∷ 3 ∷ 0 ∷ 0 ∷ 0 ∷ 3 ∷ 0 ∷ 0 ∷ 0 ∷ 3 ∷ 0 ∷ 0 ∷ 0 ∷ 3 ∷ 0 ∷ 0 ∷ 0 ∷ 3 ∷ 0 ∷ 0 ∷ 0 ∷ 3 ∷ 0 ∷ 0 ∷ 0 ∷ 3 ∷ 0 ∷ 0 ∷ 0 ∷ 3 ∷ 0 ∷ 0 ∷ 0 ∷ 3 ∷ 0 ∷ 0 ∷ 0 ∷ 3 ∷ 0 ∷ 0 ∷ 0 ∷ 3 ∷ 0 ∷ 0 ∷ 0 ∷ 3 ∷ 0 ∷ 0 ∷ 0 ∷ 3 ∷ 0 ∷ 0 ∷ 0 ∷ 3 ∷ 0 ∷ 0 ∷ 0 ∷ 3 ∷ 0 ∷ 0 ∷ 0 ∷ 3 ∷ 0 ∷ 0 ∷ 0 ∷ 3 ∷ 0 ∷ 0 ∷ 0 ∷ 3 ∷ 0 ∷ 0 ∷ 0 ∷ 3 ∷ 0 ∷ 0 ∷ 0 ∷ 3 ∷ 0 ∷ 0 ∷ 0 ∷ 3 ∷ 0 ∷ 0 ∷ 0 ∷ 3 ∷ 0 ∷ 0 ∷ 0 ∷ 3 ∷ 0 ∷ 0 ∷ 0 ∷ 3 ∷ 0 ∷ 0 ∷ 0 ∷ 3 ∷ 0 ∷ 0 ∷ 0 ∷ 3 ∷ 0 ∷ 0 ∷ 0 ∷ 3 ∷ 0 ∷ 0 ∷ 0 ∷ 3 ∷ 0 ∷ 0 ∷ 0 ∷ 3 ∷ 0 ∷ 0 ∷ 0 ∷ 3 ∷ 0 ∷ 0 ∷ 0 ∷ 3 ∷ 0 ∷ 0 ∷ 0 ∷ 3 ∷ 0 ∷ 0 ∷ 0 ∷ 3 ∷ 0 ∷ 0 ∷ 0 ∷ 3 ∷ 0 ∷ 0 ∷ 0 ∷ 3 ∷ 0 ∷ 0 ∷ 0 ∷ 3 ∷ 0 ∷ 0 ∷ 0 ∷ 3 ∷ 0 ∷ 0 ∷ 0 ∷ 3 ∷ 0 ∷ 0 ∷ 0 ∷ 3 ∷ 0 ∷ 0 ∷ 0 ∷ 3 ∷ 0 ∷ 0 ∷ 0 ∷ 3 ∷ 0 ∷ 0 ∷ 0 ∷ 3 ∷ 0 ∷ 0 ∷ 0 ∷ 3 ∷ 0 ∷ 0 ∷ 0 ∷ 3 ∷ 0 ∷ 0 ∷ 0 ∷ 3 ∷ 0 ∷ 0 ∷ 0 ∷ 3 ∷ 0 ∷ 0 ∷ 0 ∷ 3 ∷ 0 ∷ 0 ∷ 0 ∷ 3 ∷ 0 ∷ 0 ∷ 0 ∷ 3 ∷ 0 ∷ 0 ∷ 0 ∷ 3 ∷ 0 ∷ 0 ∷ 0 ∷ 3 ∷ 0 ∷ 0 ∷ 0 ∷ 3 ∷ 0 ∷ 0 ∷ 0 ∷ 3 ∷ 0 ∷ 0 ∷ 0 ∷ 3 ∷ 0 ∷ 0 ∷ 0 ∷ 3 ∷ 0 ∷ 0 ∷ 0 ∷ 3 ∷ 0 ∷ 0 ∷ 0 ∷ 3 ∷ 0 ∷ 0 ∷ 0 ∷ 3 ∷ 0 ∷ 0 ∷ 0 ∷ 3 ∷ 0 ∷ 0 ∷ 0 ∷ 3 ∷ 0 ∷ 0 ∷ 0 ∷ 3 ∷ 0 ∷ 0 ∷ 0 ∷ 3 ∷ 0 ∷ 0 ∷ 0 ∷ 3 ∷ 0 ∷ 0 ∷ 0 ∷ 3 ∷ 0 ∷ 0 ∷ 0 ∷ 3 ∷ 0 ∷ 0 ∷ 0 ∷ 3 ∷ 0 ∷ 0 ∷ 0 ∷ 3 ∷ 0 ∷ 0 ∷ 0 ∷ 3 ∷ 0 ∷ 0 ∷ 0 ∷ 3 ∷ 0 ∷ 0 ∷ 0 ∷ 3 ∷ 0 ∷ 0 ∷ 0 ∷ 3 ∷ 0 ∷ 0 ∷ 0 ∷ 3 ∷ 0 ∷ 0 ∷ 0 ∷ 3 ∷ 0 ∷ 0 ∷ 0 ∷ 3 ∷ 0 ∷ 0 ∷ 0 ∷ 3 ∷ 0 ∷ 0 ∷ 0 ∷ 3 ∷ 0 ∷ 0 ∷ 0 ∷ 3 ∷ 0 ∷ 0 ∷ 0 ∷ 3 ∷ 0 ∷ 0 ∷ 0 ∷ 3 ∷ 0 ∷ 0 ∷ 0 ∷ 3 ∷ 0 ∷ 0 ∷ 0 ∷ 3 ∷ 0 ∷ 0 ∷ 0 ∷ 3 ∷ 0 ∷ 0 ∷ 0 ∷ 3 ∷ 0 ∷ 0 ∷ 0 ∷ 3 ∷ 0 ∷ 0 ∷ 0 ∷ 3 ∷ 0 ∷ 0 ∷ 0 ∷ 3 ∷ 0 ∷ 0 ∷ 0 ∷ 3 ∷ 0 ∷ 0 ∷ 0 ∷ 3 ∷ 0 ∷ 0 ∷ 0 ∷ 3 ∷ 0 ∷ 0 ∷ 0 ∷ 3 ∷ 0 ∷ 0 ∷ 0 ∷ 3 ∷ 0 ∷ 0 ∷ 0 ∷ 3 ∷ 0 ∷ 0 ∷ 0 ∷ 3 ∷ 0 ∷ 0 ∷ 0 ∷ 3 ∷ 0 ∷ 0 ∷ 0 ∷ 3 ∷ 0 ∷ 0 ∷ 0 ∷ 3 ∷ 0 ∷ 0 ∷ 0 ∷ 3 ∷ 0 ∷ 0 ∷ 0 ∷ 3 ∷ 0 ∷ 0 ∷ 0 ∷ 3 ∷ 0 ∷ 0 ∷ 0 ∷ 3 ∷ 0 ∷ 0 ∷ 0 ∷ 3 ∷ 0 ∷ 0 ∷ 0 ∷ 3 ∷ 0 ∷ 0 ∷ 0 ∷ 3 ∷ 0 ∷ 0 ∷ 0 ∷ 3 ∷ 0 ∷ 0 ∷ 0 ∷ 3 ∷ 0 ∷ 0 ∷ 0 ∷ 3 ∷ 0 ∷ 0 ∷ 0 ∷ 3 ∷ 0 ∷ 0 ∷ 0 ∷ 3 ∷ 0 ∷ 0 ∷ 0 ∷ 3 ∷ 0 ∷ 0 ∷ 0 ∷ 3 ∷ 0 ∷ 0 ∷ 0 ∷ 3 ∷ 0 ∷ 0 ∷ 0 ∷ 3 ∷ 0 ∷ 0 ∷ 0 ∷ 3 ∷ 0 ∷ 0 ∷ 0 ∷ 3 ∷ 0 ∷ 0 ∷ 0 ∷ 3 ∷ 0 ∷ 0 ∷ 0 ∷ 3 ∷ 0 ∷ 0 ∷ 0 ∷ 3 ∷ 0 ∷ 0 ∷ 0 ∷ 3 ∷ 0 ∷ 0 ∷ 0 ∷ 3 ∷ 0 ∷ 0 ∷ 0 ∷ 3 ∷ 0 ∷ 0 ∷ 0 ∷ 3 ∷ 0 ∷ 0 ∷ 0 ∷ 3 ∷ 0 ∷ 0 ∷ 0 ∷ 3 ∷ 0 ∷ 0 ∷ 0 ∷ 3 ∷ 0 ∷ 0 ∷ 0 ∷ 3 ∷ 0 ∷ 0 ∷ 0 ∷ 3 ∷ 0 ∷ 0 ∷ 0 ∷ 3 ∷ 0 ∷ 0 ∷ 0 ∷ 3 ∷ 0 ∷ 0 ∷ 0 ∷ 3 ∷ 0 ∷ 0 ∷ 0 ∷ 3 ∷ 0 ∷ 0 ∷ 0 ∷ 3 ∷ 0 ∷ 0 ∷ 0 ∷ 3 ∷ 0 ∷ 0 ∷ 0 ∷ 3 ∷ 0 ∷ 0 ∷ 0 ∷ 3 ∷ 0 ∷ 0 ∷ 0 ∷ 3 ∷ 0 ∷ 0 ∷ 0 ∷ 3 ∷ 0 ∷ 0 ∷ 0 ∷ 3 ∷ 0 ∷ 0 ∷ 0 ∷ 3 ∷ 0 ∷ 0 ∷ 0 ∷ 3 ∷ 0 ∷ 0 ∷ 0 ∷ 3 ∷ 0 ∷ 0 ∷ 0 ∷ []) (49 ∷ 45 ∷ 50 ∷ []) 0 1 ≡ gives (answer 20 0 0 0 1 0 0) (zeros 12288 0) (zeros 256 0)
   -- damaged 87
-  v51 : call 12288 256 (0 ∷ 0 ∷ 9 ∷ 0 ∷ 16 ∷ 0 ∷ 16 ∷ 0 ∷ 16 ∷ 0 ∷ 16 ∷ 0 ∷ 16 ∷ 0 ∷ 16 ∷ 0 ∷ 16 ∷ 0 ∷ 16 ∷ 0 ∷ 0 ∷ 128 ∷ 1 ∷ 0 ∷ 1 ∷ 0 ∷ 1 ∷ 0 ∷ 1 ∷ 0 ∷ 1 ∷ 0 ∷ 1 ∷ 0 ∷ 1 ∷ 0 ∷ 1 ∷ 0 ∷ 1 ∷ 0 ∷ 1 ∷ 0 ∷ 1 ∷ 0 ∷ 1 ∷ 0 ∷ 1 ∷ 0 ∷ 1 ∷ 0 ∷ 1 ∷ 0 ∷ 1 ∷ 0 ∷ 1 ∷ 0 ∷ 1 ∷ 0 ∷ 1 ∷ 0 ∷ 1 ∷ 0 ∷ 1 ∷ 0 ∷ 1 ∷ 0 ∷ 1 ∷ 0 ∷ 1 ∷ 0 ∷ 1 ∷ 0 ∷ 1 ∷ 0 ∷ 1 ∷ 0 ∷ 1 ∷ 0 ∷ 1 ∷ 0 ∷ 1 ∷ 0 ∷ 1 ∷ 0 ∷ 1 ∷ 0 ∷ 1 ∷ 0 ∷ 1 ∷ 0 ∷ 1 ∷ 0 ∷ 1 ∷ 0 ∷ 1 ∷ 0 ∷ 1 ∷ 0 ∷ 1 ∷ 0 ∷ 1 ∷ 0 ∷ 1 ∷ 0 ∷ 1 ∷ 0 ∷ 1 ∷ 0 ∷ 1 ∷ 0 ∷ 1 ∷ 0 ∷ 1 ∷ 0 ∷ 1 ∷ 0 ∷ 1 ∷ 0 ∷ 1 ∷ 0 ∷ 1 ∷ 0 ∷ 1 ∷ 0 ∷ 1 ∷ 0 ∷ 1 ∷ 0 ∷ 1 ∷ 0 ∷ 1 ∷ 0 ∷ 1 ∷ 0 ∷ 1 ∷ 0 ∷ 1 ∷ 0 ∷ 1 ∷ 0 ∷ 1 ∷ 0 ∷ 1 ∷ 0 ∷ 1 ∷ 0 ∷ 1 ∷ 0 ∷ 1 ∷ 0 ∷ 1 ∷ 0 ∷ 1 ∷ 0 ∷ 1 ∷ 0 ∷ 1 ∷ 0 ∷ 1 ∷ 0 ∷ 1 ∷ 0 ∷ 1 ∷ 0 ∷ 1 ∷ 0 ∷ 1 ∷ 0 ∷ 1 ∷ 0 ∷ 1 ∷ 0 ∷ 1 ∷ 0 ∷ 1 ∷ 0 ∷ 1 ∷ 0 ∷ 1 ∷ 0 ∷ 1 ∷ 0 ∷ 1 ∷ 0 ∷ 1 ∷ 0 ∷ 1 ∷ 0 ∷ 1 ∷ 0 ∷ 1 ∷ 0 ∷ 1 ∷ 0 ∷ 1 ∷ 0 ∷ 1 ∷ 0 ∷ 1 ∷ 0 ∷ 1 ∷ 0 ∷ 1 ∷ 0 ∷ 1 ∷ 0 ∷ 1 ∷ 0 ∷ 1 ∷ 0 ∷ 1 ∷ 0 ∷ 1 ∷ 0 ∷ 1 ∷ 0 ∷ 1 ∷ 0 ∷ 1 ∷ 0 ∷ 1 ∷ 0 ∷ 1 ∷ 0 ∷ 1 ∷ 0 ∷ 1 ∷ 0 ∷ 1 ∷ 0 ∷ 1 ∷ 0 ∷ 1 ∷ 0 ∷ 1 ∷ 0 ∷ 1 ∷ 0 ∷ 1 ∷ 0 ∷ 1 ∷ 0 ∷ 1 ∷ 0 ∷ 1 ∷ 0 ∷ 1 ∷ 0 ∷ 1 ∷ 0 ∷ 1 ∷ 0 ∷ 1 ∷ 0 ∷ 1 ∷ 0 ∷ 1 ∷ 0 ∷ 1 ∷ 0 ∷ 1 ∷ 0 ∷ 1 ∷ 0 ∷ 1 ∷ 0 ∷ 1 ∷ 0 ∷ 1 ∷ 0 ∷ 1 ∷ 0 ∷ 1 ∷ 0 ∷ 1 ∷ 0 ∷ 1 ∷ 0 ∷ 1 ∷ 0 ∷ 1 ∷ 0 ∷ 1 ∷ 0 ∷ 1 ∷ 0 ∷ 1 ∷ 0 ∷ 1 ∷ 0 ∷ 1 ∷ 0 ∷ 1 ∷ 0 ∷ 1 ∷ 0 ∷ 1 ∷ 0 ∷ 1 ∷ 0 ∷ 1 ∷ 0 ∷ 1 ∷ 0 ∷ 1 ∷ 0 ∷ 1 ∷ 0 ∷ 1 ∷ 0 ∷ 1 ∷ 0 ∷ 1 ∷ 0 ∷ 1 ∷ 0 ∷ 1 ∷ 0 ∷ 1 ∷ 0 ∷ 1 ∷ 0 ∷ 1 ∷ 0 ∷ 1 ∷ 0 ∷ 1 ∷ 0 ∷ 1 ∷ 0 ∷ 1 ∷ 0 ∷ 1 ∷ 0 ∷ 1 ∷ 0 ∷ 1 ∷ 0 ∷ 1 ∷ 0 ∷ 1 ∷ 0 ∷ 1 ∷ 0 ∷ 1 ∷ 0 ∷ 1 ∷ 0 ∷ 1 ∷ 0 ∷ 1 ∷ 0 ∷ 1 ∷ 0 ∷ 1 ∷ 0 ∷ 1 ∷ 0 ∷ 1 ∷ 0 ∷ 1 ∷ 0 ∷ 1 ∷ 0 ∷ 1 ∷ 0 ∷ 1 ∷ 0 ∷ 1 ∷ 0 ∷ 1 ∷ 0 ∷ 1 ∷ 0 ∷ 1 ∷ 0 ∷ 1 ∷ 0 ∷ 1 ∷ 0 ∷ 1 ∷ 0 ∷ 1 ∷ 0 ∷ 1 ∷ 0 ∷ 1 ∷ 0 ∷ 1 ∷ 0 ∷ 1 ∷ 0 ∷ 1 ∷ 0 ∷ 1 ∷ 0 ∷ 1 ∷ 0 ∷ 1 ∷ 0 ∷ 1 ∷ 0 ∷ 1 ∷ 0 ∷ 1 ∷ 0 ∷ 1 ∷ 0 ∷ 1 ∷ 0 ∷ 1 ∷ 0 ∷ 1 ∷ 0 ∷ 1 ∷ 0 ∷ 1 ∷ 0 ∷ 1 ∷ 0 ∷ 1 ∷ 0 ∷ 1 ∷ 0 ∷ 1 ∷ 0 ∷ 1 ∷ 0 ∷ 1 ∷ 0 ∷ 1 ∷ 0 ∷ 1 ∷ 0 ∷ 1 ∷ 0 ∷ 1 ∷ 0 ∷ 1 ∷ 0 ∷ 1 ∷ 0 ∷ 1 ∷ 0 ∷ 1 ∷ 0 ∷ 1 ∷ 0 ∷ 1 ∷ 0 ∷ 1 ∷ 0 ∷ 1 ∷ 0 ∷ 1 ∷ 0 ∷ 1 ∷ 0 ∷ 1 ∷ 0 ∷ 1 ∷ 0 ∷ 1 ∷ 0 ∷ 1 ∷ 0 ∷ 1 ∷ 0 ∷ 1 ∷ 0 ∷ 1 ∷ 0 ∷ 1 ∷ 0 ∷ 1 ∷ 0 ∷ 1 ∷ 0 ∷ 1 ∷ 0 ∷ 1 ∷ 0 ∷ 1 ∷ 0 ∷ 1 ∷ 0 ∷ 1 ∷ 0 ∷ 1 ∷ 0 ∷ 1 ∷ 0 ∷ 1 ∷ 0 ∷ 1 ∷ 0 ∷ 1 ∷ 0 ∷ 1 ∷ 0 ∷ 1 ∷ 0 ∷ 1 ∷ 0 ∷ 1 ∷ 0 ∷ 1 ∷ 0 ∷ 1 ∷ 0 ∷ 1 ∷ 0 ∷ 1 ∷ 0 ∷ 1 ∷ 0 ∷ 1 ∷ 0 ∷ 1 ∷ 0 ∷ 1 ∷ 0 ∷ 1 ∷ 0 ∷ 1 ∷ 0 ∷ 1 ∷ 0 ∷ 1 ∷ 0 ∷ 1 ∷ 0 ∷ 1 ∷ 0 ∷ 0 ∷ []) (49 ∷ []) 0 1000000 ≡ gives (answer 31 0 0 0 1 16 0) (written 12288 (1 ∷ 0 ∷ 0 ∷ 3 ∷ 0 ∷ 1 ∷ 3 ∷ 1 ∷ 1 ∷ 3 ∷ 2 ∷ 1 ∷ 3 ∷ 3 ∷ 1 ∷ 3 ∷ 4 ∷ 1 ∷ 3 ∷ 5 ∷ 1 ∷ 3 ∷ 6 ∷ 1 ∷ 3 ∷ 7 ∷ 1 ∷ 3 ∷ 8 ∷ 1 ∷ 3 ∷ 9 ∷ 1 ∷ 3 ∷ 10 ∷ 1 ∷ 3 ∷ 11 ∷ 1 ∷ 3 ∷ 12 ∷ 1 ∷ 3 ∷ 13 ∷ 1 ∷ 3 ∷ 14 ∷ 1 ∷ 3 ∷ 15 ∷ 1 ∷ []) (replicate 12288 7)) (written 256 (0 ∷ 1 ∷ 0 ∷ 2 ∷ 0 ∷ 1 ∷ 0 ∷ 3 ∷ 0 ∷ 1 ∷ 0 ∷ 4 ∷ 0 ∷ 1 ∷ 0 ∷ 5 ∷ 0 ∷ 1 ∷ 0 ∷ 6 ∷ 0 ∷ 1 ∷ 0 ∷ 7 ∷ 0 ∷ 1 ∷ 0 ∷ 8 ∷ 0 ∷ 1 ∷ 0 ∷ 9 ∷ 0 ∷ 1 ∷ 0 ∷ 10 ∷ 0 ∷ 1 ∷ 0 ∷ 11 ∷ 0 ∷ 1 ∷ 0 ∷ 12 ∷ 0 ∷ 1 ∷ 0 ∷ 13 ∷ 0 ∷ 1 ∷ 0 ∷ 14 ∷ 0 ∷ 1 ∷ 0 ∷ 15 ∷ 0 ∷ 1 ∷ 0 ∷ 16 ∷ 0 ∷ 1 ∷ 0 ∷ 17 ∷ []) (replicate 256 7))
-  -- reading 488
-  v52 : call 12288 256 (3 ∷ 0 ∷ 2 ∷ 87 ∷ 49 ∷ 1 ∷ 3 ∷ 108 ∷ 101 ∷ 116 ∷ 1 ∷ 2 ∷ 105 ∷ 102 ∷ 2 ∷ 1 ∷ 2 ∷ 105 ∷ 102 ∷ 0 ∷ 1 ∷ 95 ∷ 2 ∷ 1 ∷ 1 ∷ 1 ∷ 2 ∷ 3 ∷ 255 ∷ 3 ∷ 1 ∷ 1 ∷ 255 ∷ 3 ∷ 1 ∷ 2 ∷ 3 ∷ 1 ∷ 0 ∷ 1 ∷ 4 ∷ 2 ∷ 0 ∷ 0 ∷ 0 ∷ 6 ∷ 0 ∷ 0 ∷ 0 ∷ 2 ∷ 0 ∷ 0 ∷ 0 ∷ 4 ∷ 0 ∷ 0 ∷ 0 ∷ []) (49 ∷ 32 ∷ 49 ∷ 50 ∷ 32 ∷ 49 ∷ 50 ∷ 45 ∷ 32 ∷ []) 0 13181 ≡ gives (answer 30 0 11 0 2 0 0) (written 12288 [] (replicate 12288 7)) (written 256 [] (replicate 256 7))
-  -- reading 146
-  v53 : call 12288 256 (2 ∷ 0 ∷ 1 ∷ 95 ∷ 0 ∷ 3 ∷ 110 ∷ 111 ∷ 116 ∷ 2 ∷ 0 ∷ 1 ∷ 97 ∷ 2 ∷ 2 ∷ 118 ∷ 49 ∷ 2 ∷ 1 ∷ 1 ∷ 1 ∷ 2 ∷ 3 ∷ 0 ∷ 3 ∷ 0 ∷ 2 ∷ 2 ∷ 1 ∷ 1 ∷ 1 ∷ 2 ∷ 0 ∷ 1 ∷ 1 ∷ 4 ∷ 0 ∷ 61 ∷ 0 ∷ 0 ∷ 5 ∷ 2 ∷ 0 ∷ 0 ∷ 3 ∷ 0 ∷ 0 ∷ 0 ∷ 5 ∷ 2 ∷ 0 ∷ 0 ∷ []) (98 ∷ 61 ∷ 118 ∷ 49 ∷ 61 ∷ 110 ∷ 111 ∷ 116 ∷ 61 ∷ []) 1 1000000 ≡ gives (answer 30 0 11 1 3 0 0) (written 12288 [] (replicate 12288 7)) (written 256 [] (replicate 256 7))
-  -- reading 636
-  v54 : call 12288 256 (1 ∷ 1 ∷ 1 ∷ 97 ∷ 3 ∷ 2 ∷ 1 ∷ 95 ∷ 0 ∷ 2 ∷ 105 ∷ 102 ∷ 7 ∷ 2 ∷ 118 ∷ 49 ∷ 2 ∷ 0 ∷ 1 ∷ 0 ∷ 2 ∷ 3 ∷ 1 ∷ 1 ∷ 1 ∷ 2 ∷ 2 ∷ 0 ∷ 0 ∷ 1 ∷ 3 ∷ 2 ∷ 1 ∷ 1 ∷ 4 ∷ 10 ∷ 1 ∷ 0 ∷ 0 ∷ 7 ∷ 0 ∷ 0 ∷ 0 ∷ 3 ∷ 0 ∷ 0 ∷ 0 ∷ 0 ∷ 37 ∷ 0 ∷ 0 ∷ []) (55 ∷ []) 1 134 ≡ gives (answer 0 0 0 0 3 1 4) (written 12288 (1 ∷ 0 ∷ 0 ∷ 5 ∷ 0 ∷ 7 ∷ 2 ∷ 1 ∷ 2 ∷ 3 ∷ 1 ∷ 3 ∷ []) (replicate 12288 7)) (written 256 (1 ∷ 2 ∷ 0 ∷ 4 ∷ []) (replicate 256 7))
-  -- reading 748
-  v55 : call 12288 256 (3 ∷ 1 ∷ 1 ∷ 97 ∷ 1 ∷ 1 ∷ 95 ∷ 1 ∷ 2 ∷ 100 ∷ 111 ∷ 0 ∷ 4 ∷ 0 ∷ 2 ∷ 1 ∷ 3 ∷ 1 ∷ 3 ∷ 1 ∷ 3 ∷ 11 ∷ 1 ∷ 1 ∷ 1 ∷ 1 ∷ 255 ∷ 3 ∷ 1 ∷ 1 ∷ 1 ∷ 0 ∷ 0 ∷ 3 ∷ 1 ∷ 0 ∷ 1 ∷ 3 ∷ 2 ∷ 3 ∷ 0 ∷ 3 ∷ 255 ∷ 3 ∷ 0 ∷ 0 ∷ 2 ∷ 0 ∷ 1 ∷ 3 ∷ 1 ∷ 1 ∷ 0 ∷ 0 ∷ 0 ∷ 3 ∷ 0 ∷ 1 ∷ 1 ∷ 0 ∷ 0 ∷ 1 ∷ 1 ∷ 0 ∷ 1 ∷ 2 ∷ 18 ∷ 3 ∷ 0 ∷ 0 ∷ 0 ∷ 3 ∷ 0 ∷ 0 ∷ 0 ∷ 3 ∷ 0 ∷ 0 ∷ 0 ∷ 6 ∷ 0 ∷ 0 ∷ 0 ∷ 2 ∷ 0 ∷ 0 ∷ 0 ∷ 0 ∷ 45 ∷ 0 ∷ 0 ∷ 12 ∷ 2 ∷ 60 ∷ 62 ∷ 9 ∷ 2 ∷ 0 ∷ 0 ∷ 9 ∷ 1 ∷ 0 ∷ 0 ∷ 10 ∷ 0 ∷ 0 ∷ 0 ∷ 0 ∷ 42 ∷ 0 ∷ 0 ∷ 9 ∷ 2 ∷ 0 ∷ 0 ∷ 0 ∷ 42 ∷ 0 ∷ 0 ∷ 8 ∷ 2 ∷ 0 ∷ 0 ∷ 0 ∷ 42 ∷ 0 ∷ 0 ∷ 3 ∷ 0 ∷ 0 ∷ 0 ∷ 8 ∷ 3 ∷ 0 ∷ 0 ∷ 8 ∷ 3 ∷ 0 ∷ 0 ∷ []) (50 ∷ 9 ∷ []) 0 1000000 ≡ gives (answer 32 0 0 0 3 2 0) (written 12288 (1 ∷ 0 ∷ 0 ∷ 5 ∷ 0 ∷ 2 ∷ 2 ∷ 1 ∷ 2 ∷ 3 ∷ 0 ∷ 3 ∷ 3 ∷ 1 ∷ 3 ∷ []) (replicate 12288 7)) (written 256 (1 ∷ 1 ∷ 1 ∷ 4 ∷ 1 ∷ 255 ∷ 3 ∷ 5 ∷ []) (replicate 256 7))
-  -- damaged 282
-  v56 : call 12288 256 (0 ∷ 0 ∷ 1 ∷ 0 ∷ 1 ∷ 1 ∷ 1 ∷ 0 ∷ 1 ∷ 7 ∷ 7 ∷ 3 ∷ 0 ∷ 0 ∷ 0 ∷ 3 ∷ 0 ∷ 0 ∷ 0 ∷ 3 ∷ 0 ∷ 0 ∷ 0 ∷ 3 ∷ 0 ∷ 0 ∷ 0 ∷ 3 ∷ 0 ∷ 0 ∷ 0 ∷ 3 ∷ 0 ∷ 0 ∷ 0 ∷ 3 ∷ 0 ∷ 0 ∷ 0 ∷ []) (32 ∷ 49 ∷ 32 ∷ 47 ∷ 47 ∷ 32 ∷ 99 ∷ []) 0 1000000 ≡ gives (answer 30 7 4 0 3 0 0) (written 12288 [] (replicate 12288 7)) (written 256 [] (replicate 256 7))
-  -- reading 997
-  v57 : call 12288 256 (1 ∷ 0 ∷ 3 ∷ 108 ∷ 101 ∷ 116 ∷ 2 ∷ 2 ∷ 2 ∷ 105 ∷ 102 ∷ 1 ∷ 1 ∷ 97 ∷ 2 ∷ 0 ∷ 3 ∷ 0 ∷ 3 ∷ 6 ∷ 1 ∷ 0 ∷ 0 ∷ 1 ∷ 255 ∷ 3 ∷ 1 ∷ 1 ∷ 255 ∷ 3 ∷ 1 ∷ 2 ∷ 1 ∷ 3 ∷ 1 ∷ 1 ∷ 255 ∷ 3 ∷ 0 ∷ 2 ∷ 2 ∷ 1 ∷ 1 ∷ 1 ∷ 8 ∷ 11 ∷ 1 ∷ 0 ∷ 0 ∷ 10 ∷ 1 ∷ 0 ∷ 0 ∷ 7 ∷ 0 ∷ 0 ∷ 0 ∷ 2 ∷ 0 ∷ 0 ∷ 0 ∷ 3 ∷ 0 ∷ 0 ∷ 0 ∷ 3 ∷ 0 ∷ 0 ∷ 0 ∷ 3 ∷ 0 ∷ 0 ∷ 0 ∷ 3 ∷ 0 ∷ 0 ∷ 0 ∷ []) (50 ∷ 32 ∷ 50 ∷ 47 ∷ 47 ∷ []) 1 1000000 ≡ gives (answer 0 0 0 0 5 3 6) (written 12288 (1 ∷ 0 ∷ 0 ∷ 5 ∷ 0 ∷ 2 ∷ 2 ∷ 1 ∷ 2 ∷ 3 ∷ 3 ∷ 3 ∷ 2 ∷ 3 ∷ 2 ∷ 3 ∷ 4 ∷ 5 ∷ 3 ∷ 5 ∷ 3 ∷ []) (replicate 12288 7)) (written 256 (1 ∷ 1 ∷ 3 ∷ 4 ∷ 3 ∷ 255 ∷ 3 ∷ 6 ∷ 1 ∷ 2 ∷ 1 ∷ 7 ∷ []) (replicate 256 7))
-  -- reading 384
-  v58 : call 12288 256 (2 ∷ 1 ∷ 2 ∷ 105 ∷ 102 ∷ 0 ∷ 2 ∷ 105 ∷ 102 ∷ 0 ∷ 2 ∷ 0 ∷ 2 ∷ 0 ∷ 2 ∷ 4 ∷ 2 ∷ 0 ∷ 1 ∷ 2 ∷ 2 ∷ 3 ∷ 0 ∷ 1 ∷ 255 ∷ 3 ∷ 1 ∷ 1 ∷ 0 ∷ 1 ∷ 1 ∷ 0 ∷ 4 ∷ 11 ∷ 1 ∷ 0 ∷ 0 ∷ 6 ∷ 0 ∷ 0 ∷ 0 ∷ 3 ∷ 0 ∷ 0 ∷ 0 ∷ 3 ∷ 0 ∷ 0 ∷ 0 ∷ []) (51 ∷ []) 0 1000000 ≡ gives (answer 32 0 0 0 8 4 0) (written 12288 (1 ∷ 0 ∷ 0 ∷ 8 ∷ 1 ∷ 0 ∷ 2 ∷ 1 ∷ 2 ∷ 3 ∷ 0 ∷ 3 ∷ 5 ∷ 0 ∷ 3 ∷ 2 ∷ 1 ∷ 5 ∷ 3 ∷ 2 ∷ 6 ∷ 3 ∷ 3 ∷ 1 ∷ 2 ∷ 1 ∷ 7 ∷ 8 ∷ 9 ∷ 0 ∷ 2 ∷ 1 ∷ 10 ∷ 3 ∷ 0 ∷ 11 ∷ 2 ∷ 1 ∷ 8 ∷ 8 ∷ 13 ∷ 0 ∷ 2 ∷ 1 ∷ 14 ∷ 3 ∷ 0 ∷ 15 ∷ 3 ∷ 1 ∷ 6 ∷ []) (replicate 12288 7)) (written 256 (0 ∷ 2 ∷ 0 ∷ 4 ∷ 1 ∷ 2 ∷ 0 ∷ 12 ∷ 0 ∷ 2 ∷ 0 ∷ 16 ∷ 1 ∷ 2 ∷ 3 ∷ 17 ∷ []) (replicate 256 7))
-  -- reading 987
-  v59 : call 12288 256 (1 ∷ 0 ∷ 2 ∷ 105 ∷ 110 ∷ 1 ∷ 2 ∷ 2 ∷ 118 ∷ 49 ∷ 1 ∷ 0 ∷ 4 ∷ 4 ∷ 1 ∷ 2 ∷ 3 ∷ 1 ∷ 2 ∷ 0 ∷ 1 ∷ 2 ∷ 1 ∷ 2 ∷ 1 ∷ 3 ∷ 1 ∷ 1 ∷ 3 ∷ 1 ∷ 7 ∷ 8 ∷ 0 ∷ 0 ∷ 0 ∷ 0 ∷ 42 ∷ 0 ∷ 0 ∷ 3 ∷ 0 ∷ 0 ∷ 0 ∷ 8 ∷ 0 ∷ 0 ∷ 0 ∷ 0 ∷ 38 ∷ 0 ∷ 0 ∷ 8 ∷ 0 ∷ 0 ∷ 0 ∷ 8 ∷ 0 ∷ 0 ∷ 0 ∷ []) (42 ∷ 32 ∷ 38 ∷ 32 ∷ 49 ∷ 50 ∷ 32 ∷ 49 ∷ 50 ∷ []) 0 1000000 ≡ gives (answer 30 2 9 0 9 0 0) (written 12288 [] (replicate 12288 7)) (written 256 [] (replicate 256 7))
-  -- reading 309
-  v60 : call 12288 256 (1 ∷ 1 ∷ 2 ∷ 102 ∷ 110 ∷ 2 ∷ 0 ∷ 2 ∷ 118 ∷ 49 ∷ 1 ∷ 1 ∷ 97 ∷ 1 ∷ 0 ∷ 4 ∷ 4 ∷ 2 ∷ 2 ∷ 3 ∷ 1 ∷ 1 ∷ 3 ∷ 1 ∷ 2 ∷ 3 ∷ 2 ∷ 0 ∷ 3 ∷ 2 ∷ 1 ∷ 1 ∷ 3 ∷ 9 ∷ 8 ∷ 0 ∷ 0 ∷ 0 ∷ 8 ∷ 0 ∷ 0 ∷ 0 ∷ 8 ∷ 0 ∷ 0 ∷ 0 ∷ 8 ∷ 0 ∷ 0 ∷ 0 ∷ 0 ∷ 126 ∷ 0 ∷ 0 ∷ 8 ∷ 0 ∷ 0 ∷ 0 ∷ 2 ∷ 0 ∷ 0 ∷ 0 ∷ 7 ∷ 0 ∷ 0 ∷ 0 ∷ 2 ∷ 0 ∷ 0 ∷ 0 ∷ []) (118 ∷ 49 ∷ 122 ∷ 57 ∷ 126 ∷ 97 ∷ 95 ∷ 126 ∷ 118 ∷ 49 ∷ 118 ∷ 49 ∷ 126 ∷ 9 ∷ []) 0 1000000 ≡ gives (answer 30 4 3 0 10 0 0) (written 12288 [] (replicate 12288 7)) (written 256 [] (replicate 256 7))
+  v60 : call 12288 256 (0 ∷ 0 ∷ 9 ∷ 0 ∷ 16 ∷ 0 ∷ 16 ∷ 0 ∷ 16 ∷ 0 ∷ 16 ∷ 0 ∷ 16 ∷ 0 ∷ 16 ∷ 0 ∷ 16 ∷ 0 ∷ 16 ∷ 0 ∷ 0 ∷ 128 ∷ 1 ∷ 0 ∷ 1 ∷ 0 ∷ 1 ∷ 0 ∷ 1 ∷ 0 ∷ 1 ∷ 0 ∷ 1 ∷ 0 ∷ 1 ∷ 0 ∷ 1 ∷ 0 ∷ 1 ∷ 0 ∷ 1 ∷ 0 ∷ 1 ∷ 0 ∷ 1 ∷ 0 ∷ 1 ∷ 0 ∷ 1 ∷ 0 ∷ 1 ∷ 0 ∷ 1 ∷ 0 ∷ 1 ∷ 0 ∷ 1 ∷ 0 ∷ 1 ∷ 0 ∷ 1 ∷ 0 ∷ 1 ∷ 0 ∷ 1 ∷ 0 ∷ 1 ∷ 0 ∷ 1 ∷ 0 ∷ 1 ∷ 0 ∷ 1 ∷ 0 ∷ 1 ∷ 0 ∷ 1 ∷ 0 ∷ 1 ∷ 0 ∷ 1 ∷ 0 ∷ 1 ∷ 0 ∷ 1 ∷ 0 ∷ 1 ∷ 0 ∷ 1 ∷ 0 ∷ 1 ∷ 0 ∷ 1 ∷ 0 ∷ 1 ∷ 0 ∷ 1 ∷ 0 ∷ 1 ∷ 0 ∷ 1 ∷ 0 ∷ 1 ∷ 0 ∷ 1 ∷ 0 ∷ 1 ∷ 0 ∷ 1 ∷ 0 ∷ 1 ∷ 0 ∷ 1 ∷ 0 ∷ 1 ∷ 0 ∷ 1 ∷ 0 ∷ 1 ∷ 0 ∷ 1 ∷ 0 ∷ 1 ∷ 0 ∷ 1 ∷ 0 ∷ 1 ∷ 0 ∷ 1 ∷ 0 ∷ 1 ∷ 0 ∷ 1 ∷ 0 ∷ 1 ∷ 0 ∷ 1 ∷ 0 ∷ 1 ∷ 0 ∷ 1 ∷ 0 ∷ 1 ∷ 0 ∷ 1 ∷ 0 ∷ 1 ∷ 0 ∷ 1 ∷ 0 ∷ 1 ∷ 0 ∷ 1 ∷ 0 ∷ 1 ∷ 0 ∷ 1 ∷ 0 ∷ 1 ∷ 0 ∷ 1 ∷ 0 ∷ 1 ∷ 0 ∷ 1 ∷ 0 ∷ 1 ∷ 0 ∷ 1 ∷ 0 ∷ 1 ∷ 0 ∷ 1 ∷ 0 ∷ 1 ∷ 0 ∷ 1 ∷ 0 ∷ 1 ∷ 0 ∷ 1 ∷ 0 ∷ 1 ∷ 0 ∷ 1 ∷ 0 ∷ 1 ∷ 0 ∷ 1 ∷ 0 ∷ 1 ∷ 0 ∷ 1 ∷ 0 ∷ 1 ∷ 0 ∷ 1 ∷ 0 ∷ 1 ∷ 0 ∷ 1 ∷ 0 ∷ 1 ∷ 0 ∷ 1 ∷ 0 ∷ 1 ∷ 0 ∷ 1 ∷ 0 ∷ 1 ∷ 0 ∷ 1 ∷ 0 ∷ 1 ∷ 0 ∷ 1 ∷ 0 ∷ 1 ∷ 0 ∷ 1 ∷ 0 ∷ 1 ∷ 0 ∷ 1 ∷ 0 ∷ 1 ∷ 0 ∷ 1 ∷ 0 ∷ 1 ∷ 0 ∷ 1 ∷ 0 ∷ 1 ∷ 0 ∷ 1 ∷ 0 ∷ 1 ∷ 0 ∷ 1 ∷ 0 ∷ 1 ∷ 0 ∷ 1 ∷ 0 ∷ 1 ∷ 0 ∷ 1 ∷ 0 ∷ 1 ∷ 0 ∷ 1 ∷ 0 ∷ 1 ∷ 0 ∷ 1 ∷ 0 ∷ 1 ∷ 0 ∷ 1 ∷ 0 ∷ 1 ∷ 0 ∷ 1 ∷ 0 ∷ 1 ∷ 0 ∷ 1 ∷ 0 ∷ 1 ∷ 0 ∷ 1 ∷ 0 ∷ 1 ∷ 0 ∷ 1 ∷ 0 ∷ 1 ∷ 0 ∷ 1 ∷ 0 ∷ 1 ∷ 0 ∷ 1 ∷ 0 ∷ 1 ∷ 0 ∷ 1 ∷ 0 ∷ 1 ∷ 0 ∷ 1 ∷ 0 ∷ 1 ∷ 0 ∷ 1 ∷ 0 ∷ 1 ∷ 0 ∷ 1 ∷ 0 ∷ 1 ∷ 0 ∷ 1 ∷ 0 ∷ 1 ∷ 0 ∷ 1 ∷ 0 ∷ 1 ∷ 0 ∷ 1 ∷ 0 ∷ 1 ∷ 0 ∷ 1 ∷ 0 ∷ 1 ∷ 0 ∷ 1 ∷ 0 ∷ 1 ∷ 0 ∷ 1 ∷ 0 ∷ 1 ∷ 0 ∷ 1 ∷ 0 ∷ 1 ∷ 0 ∷ 1 ∷ 0 ∷ 1 ∷ 0 ∷ 1 ∷ 0 ∷ 1 ∷ 0 ∷ 1 ∷ 0 ∷ 1 ∷ 0 ∷ 1 ∷ 0 ∷ 1 ∷ 0 ∷ 1 ∷ 0 ∷ 1 ∷ 0 ∷ 1 ∷ 0 ∷ 1 ∷ 0 ∷ 1 ∷ 0 ∷ 1 ∷ 0 ∷ 1 ∷ 0 ∷ 1 ∷ 0 ∷ 1 ∷ 0 ∷ 1 ∷ 0 ∷ 1 ∷ 0 ∷ 1 ∷ 0 ∷ 1 ∷ 0 ∷ 1 ∷ 0 ∷ 1 ∷ 0 ∷ 1 ∷ 0 ∷ 1 ∷ 0 ∷ 1 ∷ 0 ∷ 1 ∷ 0 ∷ 1 ∷ 0 ∷ 1 ∷ 0 ∷ 1 ∷ 0 ∷ 1 ∷ 0 ∷ 1 ∷ 0 ∷ 1 ∷ 0 ∷ 1 ∷ 0 ∷ 1 ∷ 0 ∷ 1 ∷ 0 ∷ 1 ∷ 0 ∷ 1 ∷ 0 ∷ 1 ∷ 0 ∷ 1 ∷ 0 ∷ 1 ∷ 0 ∷ 1 ∷ 0 ∷ 1 ∷ 0 ∷ 1 ∷ 0 ∷ 1 ∷ 0 ∷ 1 ∷ 0 ∷ 1 ∷ 0 ∷ 1 ∷ 0 ∷ 1 ∷ 0 ∷ 1 ∷ 0 ∷ 1 ∷ 0 ∷ 1 ∷ 0 ∷ 1 ∷ 0 ∷ 1 ∷ 0 ∷ 1 ∷ 0 ∷ 1 ∷ 0 ∷ 1 ∷ 0 ∷ 1 ∷ 0 ∷ 1 ∷ 0 ∷ 1 ∷ 0 ∷ 1 ∷ 0 ∷ 1 ∷ 0 ∷ 1 ∷ 0 ∷ 1 ∷ 0 ∷ 1 ∷ 0 ∷ 1 ∷ 0 ∷ 1 ∷ 0 ∷ 1 ∷ 0 ∷ 1 ∷ 0 ∷ 1 ∷ 0 ∷ 1 ∷ 0 ∷ 1 ∷ 0 ∷ 1 ∷ 0 ∷ 1 ∷ 0 ∷ 1 ∷ 0 ∷ 1 ∷ 0 ∷ 1 ∷ 0 ∷ 1 ∷ 0 ∷ 1 ∷ 0 ∷ 1 ∷ 0 ∷ 1 ∷ 0 ∷ 1 ∷ 0 ∷ 1 ∷ 0 ∷ 1 ∷ 0 ∷ 1 ∷ 0 ∷ 1 ∷ 0 ∷ 1 ∷ 0 ∷ 1 ∷ 0 ∷ 1 ∷ 0 ∷ 1 ∷ 0 ∷ 1 ∷ 0 ∷ 1 ∷ 0 ∷ 1 ∷ 0 ∷ 1 ∷ 0 ∷ 1 ∷ 0 ∷ 1 ∷ 0 ∷ 1 ∷ 0 ∷ 1 ∷ 0 ∷ 1 ∷ 0 ∷ 1 ∷ 0 ∷ 1 ∷ 0 ∷ 0 ∷ []) (49 ∷ []) 0 1000000 ≡ gives (answer 31 0 0 0 1 16 0) (1 ∷ 0 ∷ 0 ∷ 3 ∷ 0 ∷ 1 ∷ 3 ∷ 1 ∷ 1 ∷ 3 ∷ 2 ∷ 1 ∷ 3 ∷ 3 ∷ 1 ∷ 3 ∷ 4 ∷ 1 ∷ 3 ∷ 5 ∷ 1 ∷ 3 ∷ 6 ∷ 1 ∷ 3 ∷ 7 ∷ 1 ∷ 3 ∷ 8 ∷ 1 ∷ 3 ∷ 9 ∷ 1 ∷ 3 ∷ 10 ∷ 1 ∷ 3 ∷ 11 ∷ 1 ∷ 3 ∷ 12 ∷ 1 ∷ 3 ∷ 13 ∷ 1 ∷ 3 ∷ 14 ∷ 1 ∷ 3 ∷ 15 ∷ 1 ∷ zeros 12237 0) (0 ∷ 1 ∷ 0 ∷ 2 ∷ 0 ∷ 1 ∷ 0 ∷ 3 ∷ 0 ∷ 1 ∷ 0 ∷ 4 ∷ 0 ∷ 1 ∷ 0 ∷ 5 ∷ 0 ∷ 1 ∷ 0 ∷ 6 ∷ 0 ∷ 1 ∷ 0 ∷ 7 ∷ 0 ∷ 1 ∷ 0 ∷ 8 ∷ 0 ∷ 1 ∷ 0 ∷ 9 ∷ 0 ∷ 1 ∷ 0 ∷ 10 ∷ 0 ∷ 1 ∷ 0 ∷ 11 ∷ 0 ∷ 1 ∷ 0 ∷ 12 ∷ 0 ∷ 1 ∷ 0 ∷ 13 ∷ 0 ∷ 1 ∷ 0 ∷ 14 ∷ 0 ∷ 1 ∷ 0 ∷ 15 ∷ 0 ∷ 1 ∷ 0 ∷ 16 ∷ 0 ∷ 1 ∷ 0 ∷ 17 ∷ zeros 192 0)
 
 vectors41 : Vectors41
-unfolding classOf leading spanEnd commentAt commentEnd roundEnd rounds skipFrom identifierAt decimal numberOf numberAt same isReserved lookupFrom checked row spelling entry nonterminal variant stepOf step allPass ended whole checkBook outwards govern governor isSome isKind ofKind characterEnd identifierEnd reservedAt freeEnd variableAt tokenAt claimed afterElement closed numbersOf cellsIn identityOf findCell treeIn treesIn meaningOf meanings join beyond joinWith choiceError identifierError tokenError _>>=_ sameParse has allIn kept add addAll ask newest others spend make itemCell withCell withToken nested begin counted variants oneRun roundsRun failedCall runCall runIdentifier stored enter child either follow followed plainNext listNext chosen stops choice listing steps runner run cellNumbers parseNumbers written wholeValues allAre firstHigh byValues ending onBook answerOf
+unfolding classOf leading spanEnd commentAt commentEnd roundEnd rounds skipFrom identifierAt decimal numberOf numberAt same isReserved lookupFrom checked row spelling entry nonterminal variant stepOf step allPass ended whole checkBook outwards govern governor isSome isKind ofKind characterEnd identifierEnd reservedAt freeEnd variableAt tokenAt claimant afterElement closed numbersOf cellsIn identityOf findCell treeIn treesIn meaningOf meanings join beyond joinWith choiceError identifierError tokenError _>>=_ sameParse has allIn kept add addAll ask newest others spend make itemCell failedCall either chosen begin withCell withToken complete counted variants oneRun roundsRun runCall runIdentifier plainNext listNext stops nested reentry enter enterChild follow followed choice listing steps runner run cellNumbers parseNumbers written wholeValues allAre firstHigh byValues atEnd onBook answerOf
 vectors41 = record { v41 = refl; v42 = refl; v43 = refl; v44 = refl; v45 = refl; v46 = refl; v47 = refl; v48 = refl; v49 = refl; v50 = refl; v51 = refl; v52 = refl; v53 = refl; v54 = refl; v55 = refl; v56 = refl; v57 = refl; v58 = refl; v59 = refl; v60 = refl }
 
 record Vectors61 : Type 0 where
+  -- reading 636
+  v61 : call 12288 256 (1 ∷ 1 ∷ 1 ∷ 97 ∷ 3 ∷ 2 ∷ 1 ∷ 95 ∷ 0 ∷ 2 ∷ 105 ∷ 102 ∷ 7 ∷ 2 ∷ 118 ∷ 49 ∷ 2 ∷ 0 ∷ 1 ∷ 0 ∷ 2 ∷ 3 ∷ 1 ∷ 1 ∷ 1 ∷ 2 ∷ 2 ∷ 0 ∷ 0 ∷ 1 ∷ 3 ∷ 2 ∷ 1 ∷ 1 ∷ 4 ∷ 10 ∷ 1 ∷ 0 ∷ 0 ∷ 7 ∷ 0 ∷ 0 ∷ 0 ∷ 3 ∷ 0 ∷ 0 ∷ 0 ∷ 0 ∷ 37 ∷ 0 ∷ 0 ∷ []) (55 ∷ []) 1 134 ≡ gives (answer 0 0 0 0 3 1 4) (1 ∷ 0 ∷ 0 ∷ 5 ∷ 0 ∷ 7 ∷ 2 ∷ 1 ∷ 2 ∷ 3 ∷ 1 ∷ 3 ∷ zeros 12276 0) (1 ∷ 2 ∷ 0 ∷ 4 ∷ zeros 252 0)
+  -- reading 748
+  v62 : call 12288 256 (3 ∷ 1 ∷ 1 ∷ 97 ∷ 1 ∷ 1 ∷ 95 ∷ 1 ∷ 2 ∷ 100 ∷ 111 ∷ 0 ∷ 4 ∷ 0 ∷ 2 ∷ 1 ∷ 3 ∷ 1 ∷ 3 ∷ 1 ∷ 3 ∷ 11 ∷ 1 ∷ 1 ∷ 1 ∷ 1 ∷ 255 ∷ 3 ∷ 1 ∷ 1 ∷ 1 ∷ 0 ∷ 0 ∷ 3 ∷ 1 ∷ 0 ∷ 1 ∷ 3 ∷ 2 ∷ 3 ∷ 0 ∷ 3 ∷ 255 ∷ 3 ∷ 0 ∷ 0 ∷ 2 ∷ 0 ∷ 1 ∷ 3 ∷ 1 ∷ 1 ∷ 0 ∷ 0 ∷ 0 ∷ 3 ∷ 0 ∷ 1 ∷ 1 ∷ 0 ∷ 0 ∷ 1 ∷ 1 ∷ 0 ∷ 1 ∷ 2 ∷ 18 ∷ 3 ∷ 0 ∷ 0 ∷ 0 ∷ 3 ∷ 0 ∷ 0 ∷ 0 ∷ 3 ∷ 0 ∷ 0 ∷ 0 ∷ 6 ∷ 0 ∷ 0 ∷ 0 ∷ 2 ∷ 0 ∷ 0 ∷ 0 ∷ 0 ∷ 45 ∷ 0 ∷ 0 ∷ 12 ∷ 2 ∷ 60 ∷ 62 ∷ 9 ∷ 2 ∷ 0 ∷ 0 ∷ 9 ∷ 1 ∷ 0 ∷ 0 ∷ 10 ∷ 0 ∷ 0 ∷ 0 ∷ 0 ∷ 42 ∷ 0 ∷ 0 ∷ 9 ∷ 2 ∷ 0 ∷ 0 ∷ 0 ∷ 42 ∷ 0 ∷ 0 ∷ 8 ∷ 2 ∷ 0 ∷ 0 ∷ 0 ∷ 42 ∷ 0 ∷ 0 ∷ 3 ∷ 0 ∷ 0 ∷ 0 ∷ 8 ∷ 3 ∷ 0 ∷ 0 ∷ 8 ∷ 3 ∷ 0 ∷ 0 ∷ []) (50 ∷ 9 ∷ []) 0 1000000 ≡ gives (answer 32 0 0 0 3 2 0) (1 ∷ 0 ∷ 0 ∷ 5 ∷ 0 ∷ 2 ∷ 2 ∷ 1 ∷ 2 ∷ 3 ∷ 0 ∷ 3 ∷ 3 ∷ 1 ∷ 3 ∷ zeros 12273 0) (1 ∷ 1 ∷ 1 ∷ 4 ∷ 1 ∷ 255 ∷ 3 ∷ 5 ∷ zeros 248 0)
+  -- damaged 282
+  v63 : call 12288 256 (0 ∷ 0 ∷ 1 ∷ 0 ∷ 1 ∷ 1 ∷ 1 ∷ 0 ∷ 1 ∷ 7 ∷ 7 ∷ 3 ∷ 0 ∷ 0 ∷ 0 ∷ 3 ∷ 0 ∷ 0 ∷ 0 ∷ 3 ∷ 0 ∷ 0 ∷ 0 ∷ 3 ∷ 0 ∷ 0 ∷ 0 ∷ 3 ∷ 0 ∷ 0 ∷ 0 ∷ 3 ∷ 0 ∷ 0 ∷ 0 ∷ 3 ∷ 0 ∷ 0 ∷ 0 ∷ []) (32 ∷ 49 ∷ 32 ∷ 47 ∷ 47 ∷ 32 ∷ 99 ∷ []) 0 1000000 ≡ gives (answer 30 7 4 0 3 0 0) (zeros 12288 0) (zeros 256 0)
+  -- reading 997
+  v64 : call 12288 256 (1 ∷ 0 ∷ 3 ∷ 108 ∷ 101 ∷ 116 ∷ 2 ∷ 2 ∷ 2 ∷ 105 ∷ 102 ∷ 1 ∷ 1 ∷ 97 ∷ 2 ∷ 0 ∷ 3 ∷ 0 ∷ 3 ∷ 6 ∷ 1 ∷ 0 ∷ 0 ∷ 1 ∷ 255 ∷ 3 ∷ 1 ∷ 1 ∷ 255 ∷ 3 ∷ 1 ∷ 2 ∷ 1 ∷ 3 ∷ 1 ∷ 1 ∷ 255 ∷ 3 ∷ 0 ∷ 2 ∷ 2 ∷ 1 ∷ 1 ∷ 1 ∷ 8 ∷ 11 ∷ 1 ∷ 0 ∷ 0 ∷ 10 ∷ 1 ∷ 0 ∷ 0 ∷ 7 ∷ 0 ∷ 0 ∷ 0 ∷ 2 ∷ 0 ∷ 0 ∷ 0 ∷ 3 ∷ 0 ∷ 0 ∷ 0 ∷ 3 ∷ 0 ∷ 0 ∷ 0 ∷ 3 ∷ 0 ∷ 0 ∷ 0 ∷ 3 ∷ 0 ∷ 0 ∷ 0 ∷ []) (50 ∷ 32 ∷ 50 ∷ 47 ∷ 47 ∷ []) 1 1000000 ≡ gives (answer 0 0 0 0 5 3 6) (1 ∷ 0 ∷ 0 ∷ 5 ∷ 0 ∷ 2 ∷ 2 ∷ 1 ∷ 2 ∷ 3 ∷ 3 ∷ 3 ∷ 2 ∷ 3 ∷ 2 ∷ 3 ∷ 4 ∷ 5 ∷ 3 ∷ 5 ∷ 3 ∷ zeros 12267 0) (1 ∷ 1 ∷ 3 ∷ 4 ∷ 3 ∷ 255 ∷ 3 ∷ 6 ∷ 1 ∷ 2 ∷ 1 ∷ 7 ∷ zeros 244 0)
+  -- reading 384
+  v65 : call 12288 256 (2 ∷ 1 ∷ 2 ∷ 105 ∷ 102 ∷ 0 ∷ 2 ∷ 105 ∷ 102 ∷ 0 ∷ 2 ∷ 0 ∷ 2 ∷ 0 ∷ 2 ∷ 4 ∷ 2 ∷ 0 ∷ 1 ∷ 2 ∷ 2 ∷ 3 ∷ 0 ∷ 1 ∷ 255 ∷ 3 ∷ 1 ∷ 1 ∷ 0 ∷ 1 ∷ 1 ∷ 0 ∷ 4 ∷ 11 ∷ 1 ∷ 0 ∷ 0 ∷ 6 ∷ 0 ∷ 0 ∷ 0 ∷ 3 ∷ 0 ∷ 0 ∷ 0 ∷ 3 ∷ 0 ∷ 0 ∷ 0 ∷ []) (51 ∷ []) 0 1000000 ≡ gives (answer 32 0 0 0 8 4 0) (1 ∷ 0 ∷ 0 ∷ 8 ∷ 1 ∷ 0 ∷ 2 ∷ 1 ∷ 2 ∷ 3 ∷ 0 ∷ 3 ∷ 5 ∷ 0 ∷ 3 ∷ 2 ∷ 1 ∷ 5 ∷ 3 ∷ 2 ∷ 6 ∷ 3 ∷ 3 ∷ 1 ∷ 2 ∷ 1 ∷ 7 ∷ 8 ∷ 9 ∷ 0 ∷ 2 ∷ 1 ∷ 10 ∷ 3 ∷ 0 ∷ 11 ∷ 2 ∷ 1 ∷ 8 ∷ 8 ∷ 13 ∷ 0 ∷ 2 ∷ 1 ∷ 14 ∷ 3 ∷ 0 ∷ 15 ∷ 3 ∷ 1 ∷ 6 ∷ zeros 12237 0) (0 ∷ 2 ∷ 0 ∷ 4 ∷ 1 ∷ 2 ∷ 0 ∷ 12 ∷ 0 ∷ 2 ∷ 0 ∷ 16 ∷ 1 ∷ 2 ∷ 3 ∷ 17 ∷ zeros 240 0)
+  -- reading 987
+  v66 : call 12288 256 (1 ∷ 0 ∷ 2 ∷ 105 ∷ 110 ∷ 1 ∷ 2 ∷ 2 ∷ 118 ∷ 49 ∷ 1 ∷ 0 ∷ 4 ∷ 4 ∷ 1 ∷ 2 ∷ 3 ∷ 1 ∷ 2 ∷ 0 ∷ 1 ∷ 2 ∷ 1 ∷ 2 ∷ 1 ∷ 3 ∷ 1 ∷ 1 ∷ 3 ∷ 1 ∷ 7 ∷ 8 ∷ 0 ∷ 0 ∷ 0 ∷ 0 ∷ 42 ∷ 0 ∷ 0 ∷ 3 ∷ 0 ∷ 0 ∷ 0 ∷ 8 ∷ 0 ∷ 0 ∷ 0 ∷ 0 ∷ 38 ∷ 0 ∷ 0 ∷ 8 ∷ 0 ∷ 0 ∷ 0 ∷ 8 ∷ 0 ∷ 0 ∷ 0 ∷ []) (42 ∷ 32 ∷ 38 ∷ 32 ∷ 49 ∷ 50 ∷ 32 ∷ 49 ∷ 50 ∷ []) 0 1000000 ≡ gives (answer 30 2 9 0 9 0 0) (zeros 12288 0) (zeros 256 0)
+  -- reading 309
+  v67 : call 12288 256 (1 ∷ 1 ∷ 2 ∷ 102 ∷ 110 ∷ 2 ∷ 0 ∷ 2 ∷ 118 ∷ 49 ∷ 1 ∷ 1 ∷ 97 ∷ 1 ∷ 0 ∷ 4 ∷ 4 ∷ 2 ∷ 2 ∷ 3 ∷ 1 ∷ 1 ∷ 3 ∷ 1 ∷ 2 ∷ 3 ∷ 2 ∷ 0 ∷ 3 ∷ 2 ∷ 1 ∷ 1 ∷ 3 ∷ 9 ∷ 8 ∷ 0 ∷ 0 ∷ 0 ∷ 8 ∷ 0 ∷ 0 ∷ 0 ∷ 8 ∷ 0 ∷ 0 ∷ 0 ∷ 8 ∷ 0 ∷ 0 ∷ 0 ∷ 0 ∷ 126 ∷ 0 ∷ 0 ∷ 8 ∷ 0 ∷ 0 ∷ 0 ∷ 2 ∷ 0 ∷ 0 ∷ 0 ∷ 7 ∷ 0 ∷ 0 ∷ 0 ∷ 2 ∷ 0 ∷ 0 ∷ 0 ∷ []) (118 ∷ 49 ∷ 122 ∷ 57 ∷ 126 ∷ 97 ∷ 95 ∷ 126 ∷ 118 ∷ 49 ∷ 118 ∷ 49 ∷ 126 ∷ 9 ∷ []) 0 1000000 ≡ gives (answer 30 4 3 0 10 0 0) (zeros 12288 0) (zeros 256 0)
   -- deep 25
-  v61 : call 12288 256 (0 ∷ 0 ∷ 2 ∷ 0 ∷ 1 ∷ 0 ∷ 2 ∷ 3 ∷ 255 ∷ 3 ∷ 1 ∷ 1 ∷ 255 ∷ 3 ∷ 1 ∷ 0 ∷ 255 ∷ 3 ∷ 1 ∷ 1 ∷ 2 ∷ 11 ∷ 1 ∷ 0 ∷ 0 ∷ 3 ∷ 0 ∷ 0 ∷ 0 ∷ []) (49 ∷ 44 ∷ 44 ∷ []) 0 1000000 ≡ gives (answer 32 0 0 0 10 5 0) (written 12288 (1 ∷ 0 ∷ 0 ∷ 8 ∷ 1 ∷ 0 ∷ 2 ∷ 1 ∷ 2 ∷ 3 ∷ 0 ∷ 3 ∷ 3 ∷ 1 ∷ 1 ∷ 5 ∷ 0 ∷ 1 ∷ 2 ∷ 1 ∷ 6 ∷ 3 ∷ 2 ∷ 7 ∷ 2 ∷ 1 ∷ 5 ∷ 8 ∷ 9 ∷ 0 ∷ 2 ∷ 1 ∷ 10 ∷ 3 ∷ 0 ∷ 11 ∷ 2 ∷ 1 ∷ 8 ∷ 8 ∷ 13 ∷ 0 ∷ 2 ∷ 1 ∷ 14 ∷ 3 ∷ 0 ∷ 15 ∷ 2 ∷ 13 ∷ 5 ∷ 8 ∷ 17 ∷ 0 ∷ 2 ∷ 1 ∷ 18 ∷ 3 ∷ 0 ∷ 19 ∷ 2 ∷ 17 ∷ 5 ∷ 8 ∷ 21 ∷ 0 ∷ 2 ∷ 1 ∷ 22 ∷ 3 ∷ 0 ∷ 23 ∷ []) (replicate 12288 7)) (written 256 (0 ∷ 255 ∷ 3 ∷ 4 ∷ 0 ∷ 255 ∷ 3 ∷ 12 ∷ 2 ∷ 255 ∷ 3 ∷ 16 ∷ 3 ∷ 255 ∷ 3 ∷ 20 ∷ 3 ∷ 255 ∷ 3 ∷ 24 ∷ []) (replicate 256 7))
+  v68 : call 12288 256 (0 ∷ 0 ∷ 2 ∷ 0 ∷ 1 ∷ 0 ∷ 2 ∷ 3 ∷ 255 ∷ 3 ∷ 1 ∷ 1 ∷ 255 ∷ 3 ∷ 1 ∷ 0 ∷ 255 ∷ 3 ∷ 1 ∷ 1 ∷ 2 ∷ 11 ∷ 1 ∷ 0 ∷ 0 ∷ 3 ∷ 0 ∷ 0 ∷ 0 ∷ []) (49 ∷ 44 ∷ 44 ∷ []) 0 1000000 ≡ gives (answer 32 0 0 0 10 5 0) (1 ∷ 0 ∷ 0 ∷ 8 ∷ 1 ∷ 0 ∷ 2 ∷ 1 ∷ 2 ∷ 3 ∷ 0 ∷ 3 ∷ 3 ∷ 1 ∷ 1 ∷ 5 ∷ 0 ∷ 1 ∷ 2 ∷ 1 ∷ 6 ∷ 3 ∷ 2 ∷ 7 ∷ 2 ∷ 1 ∷ 5 ∷ 8 ∷ 9 ∷ 0 ∷ 2 ∷ 1 ∷ 10 ∷ 3 ∷ 0 ∷ 11 ∷ 2 ∷ 1 ∷ 8 ∷ 8 ∷ 13 ∷ 0 ∷ 2 ∷ 1 ∷ 14 ∷ 3 ∷ 0 ∷ 15 ∷ 2 ∷ 13 ∷ 5 ∷ 8 ∷ 17 ∷ 0 ∷ 2 ∷ 1 ∷ 18 ∷ 3 ∷ 0 ∷ 19 ∷ 2 ∷ 17 ∷ 5 ∷ 8 ∷ 21 ∷ 0 ∷ 2 ∷ 1 ∷ 22 ∷ 3 ∷ 0 ∷ 23 ∷ zeros 12216 0) (0 ∷ 255 ∷ 3 ∷ 4 ∷ 0 ∷ 255 ∷ 3 ∷ 12 ∷ 2 ∷ 255 ∷ 3 ∷ 16 ∷ 3 ∷ 255 ∷ 3 ∷ 20 ∷ 3 ∷ 255 ∷ 3 ∷ 24 ∷ zeros 236 0)
   -- damaged 112
-  v62 : call 12288 256 (0 ∷ 0 ∷ 1 ∷ 0 ∷ 15 ∷ 15 ∷ 1 ∷ 0 ∷ 1 ∷ 1 ∷ 1 ∷ 0 ∷ 1 ∷ 1 ∷ 1 ∷ 0 ∷ 1 ∷ 1 ∷ 1 ∷ 0 ∷ 1 ∷ 1 ∷ 1 ∷ 0 ∷ 1 ∷ 1 ∷ 1 ∷ 0 ∷ 1 ∷ 1 ∷ 1 ∷ 0 ∷ 1 ∷ 1 ∷ 1 ∷ 0 ∷ 1 ∷ 1 ∷ 1 ∷ 0 ∷ 1 ∷ 1 ∷ 1 ∷ 0 ∷ 1 ∷ 1 ∷ 65 ∷ 0 ∷ 1 ∷ 1 ∷ 1 ∷ 0 ∷ 1 ∷ 1 ∷ 1 ∷ 0 ∷ 1 ∷ 1 ∷ 1 ∷ 0 ∷ 1 ∷ 1 ∷ 1 ∷ 0 ∷ 1 ∷ 1 ∷ 15 ∷ 3 ∷ 0 ∷ 0 ∷ 0 ∷ 3 ∷ 0 ∷ 0 ∷ 0 ∷ 3 ∷ 0 ∷ 0 ∷ 0 ∷ 3 ∷ 0 ∷ 0 ∷ 0 ∷ 3 ∷ 0 ∷ 0 ∷ 0 ∷ 3 ∷ 0 ∷ 0 ∷ 0 ∷ 3 ∷ 0 ∷ 0 ∷ 0 ∷ 3 ∷ 0 ∷ 0 ∷ 0 ∷ 3 ∷ 0 ∷ 0 ∷ 0 ∷ 3 ∷ 0 ∷ 0 ∷ 0 ∷ 3 ∷ 0 ∷ 0 ∷ 0 ∷ 3 ∷ 0 ∷ 0 ∷ 0 ∷ 3 ∷ 0 ∷ 0 ∷ 0 ∷ 3 ∷ 0 ∷ 0 ∷ 0 ∷ 3 ∷ 0 ∷ 0 ∷ 0 ∷ []) (32 ∷ 49 ∷ 32 ∷ 47 ∷ 47 ∷ 32 ∷ 99 ∷ []) 0 1000000 ≡ gives (answer 32 0 0 0 16 15 0) (written 12288 (1 ∷ 0 ∷ 0 ∷ 5 ∷ 0 ∷ 1 ∷ 2 ∷ 1 ∷ 2 ∷ 3 ∷ 0 ∷ 3 ∷ 3 ∷ 1 ∷ 3 ∷ 3 ∷ 2 ∷ 3 ∷ 3 ∷ 3 ∷ 3 ∷ 3 ∷ 4 ∷ 3 ∷ 3 ∷ 5 ∷ 3 ∷ 3 ∷ 6 ∷ 3 ∷ 3 ∷ 7 ∷ 3 ∷ 3 ∷ 8 ∷ 3 ∷ 3 ∷ 9 ∷ 3 ∷ 3 ∷ 10 ∷ 3 ∷ 3 ∷ 11 ∷ 3 ∷ 3 ∷ 12 ∷ 3 ∷ 3 ∷ 13 ∷ 3 ∷ 3 ∷ 14 ∷ 3 ∷ []) (replicate 12288 7)) (written 256 (2 ∷ 1 ∷ 0 ∷ 4 ∷ 2 ∷ 1 ∷ 0 ∷ 5 ∷ 2 ∷ 1 ∷ 0 ∷ 6 ∷ 2 ∷ 1 ∷ 0 ∷ 7 ∷ 2 ∷ 1 ∷ 0 ∷ 8 ∷ 2 ∷ 1 ∷ 0 ∷ 9 ∷ 2 ∷ 1 ∷ 0 ∷ 10 ∷ 2 ∷ 1 ∷ 0 ∷ 11 ∷ 2 ∷ 1 ∷ 0 ∷ 12 ∷ 2 ∷ 1 ∷ 0 ∷ 13 ∷ 2 ∷ 65 ∷ 0 ∷ 14 ∷ 2 ∷ 1 ∷ 0 ∷ 15 ∷ 2 ∷ 1 ∷ 0 ∷ 16 ∷ 2 ∷ 1 ∷ 0 ∷ 17 ∷ 2 ∷ 1 ∷ 0 ∷ 18 ∷ []) (replicate 256 7))
+  v69 : call 12288 256 (0 ∷ 0 ∷ 1 ∷ 0 ∷ 15 ∷ 15 ∷ 1 ∷ 0 ∷ 1 ∷ 1 ∷ 1 ∷ 0 ∷ 1 ∷ 1 ∷ 1 ∷ 0 ∷ 1 ∷ 1 ∷ 1 ∷ 0 ∷ 1 ∷ 1 ∷ 1 ∷ 0 ∷ 1 ∷ 1 ∷ 1 ∷ 0 ∷ 1 ∷ 1 ∷ 1 ∷ 0 ∷ 1 ∷ 1 ∷ 1 ∷ 0 ∷ 1 ∷ 1 ∷ 1 ∷ 0 ∷ 1 ∷ 1 ∷ 1 ∷ 0 ∷ 1 ∷ 1 ∷ 65 ∷ 0 ∷ 1 ∷ 1 ∷ 1 ∷ 0 ∷ 1 ∷ 1 ∷ 1 ∷ 0 ∷ 1 ∷ 1 ∷ 1 ∷ 0 ∷ 1 ∷ 1 ∷ 1 ∷ 0 ∷ 1 ∷ 1 ∷ 15 ∷ 3 ∷ 0 ∷ 0 ∷ 0 ∷ 3 ∷ 0 ∷ 0 ∷ 0 ∷ 3 ∷ 0 ∷ 0 ∷ 0 ∷ 3 ∷ 0 ∷ 0 ∷ 0 ∷ 3 ∷ 0 ∷ 0 ∷ 0 ∷ 3 ∷ 0 ∷ 0 ∷ 0 ∷ 3 ∷ 0 ∷ 0 ∷ 0 ∷ 3 ∷ 0 ∷ 0 ∷ 0 ∷ 3 ∷ 0 ∷ 0 ∷ 0 ∷ 3 ∷ 0 ∷ 0 ∷ 0 ∷ 3 ∷ 0 ∷ 0 ∷ 0 ∷ 3 ∷ 0 ∷ 0 ∷ 0 ∷ 3 ∷ 0 ∷ 0 ∷ 0 ∷ 3 ∷ 0 ∷ 0 ∷ 0 ∷ 3 ∷ 0 ∷ 0 ∷ 0 ∷ []) (32 ∷ 49 ∷ 32 ∷ 47 ∷ 47 ∷ 32 ∷ 99 ∷ []) 0 1000000 ≡ gives (answer 32 0 0 0 16 15 0) (1 ∷ 0 ∷ 0 ∷ 5 ∷ 0 ∷ 1 ∷ 2 ∷ 1 ∷ 2 ∷ 3 ∷ 0 ∷ 3 ∷ 3 ∷ 1 ∷ 3 ∷ 3 ∷ 2 ∷ 3 ∷ 3 ∷ 3 ∷ 3 ∷ 3 ∷ 4 ∷ 3 ∷ 3 ∷ 5 ∷ 3 ∷ 3 ∷ 6 ∷ 3 ∷ 3 ∷ 7 ∷ 3 ∷ 3 ∷ 8 ∷ 3 ∷ 3 ∷ 9 ∷ 3 ∷ 3 ∷ 10 ∷ 3 ∷ 3 ∷ 11 ∷ 3 ∷ 3 ∷ 12 ∷ 3 ∷ 3 ∷ 13 ∷ 3 ∷ 3 ∷ 14 ∷ 3 ∷ zeros 12234 0) (2 ∷ 1 ∷ 0 ∷ 4 ∷ 2 ∷ 1 ∷ 0 ∷ 5 ∷ 2 ∷ 1 ∷ 0 ∷ 6 ∷ 2 ∷ 1 ∷ 0 ∷ 7 ∷ 2 ∷ 1 ∷ 0 ∷ 8 ∷ 2 ∷ 1 ∷ 0 ∷ 9 ∷ 2 ∷ 1 ∷ 0 ∷ 10 ∷ 2 ∷ 1 ∷ 0 ∷ 11 ∷ 2 ∷ 1 ∷ 0 ∷ 12 ∷ 2 ∷ 1 ∷ 0 ∷ 13 ∷ 2 ∷ 65 ∷ 0 ∷ 14 ∷ 2 ∷ 1 ∷ 0 ∷ 15 ∷ 2 ∷ 1 ∷ 0 ∷ 16 ∷ 2 ∷ 1 ∷ 0 ∷ 17 ∷ 2 ∷ 1 ∷ 0 ∷ 18 ∷ zeros 196 0)
   -- reading 292
-  v63 : call 12288 256 (2 ∷ 1 ∷ 3 ∷ 110 ∷ 111 ∷ 116 ∷ 0 ∷ 2 ∷ 102 ∷ 110 ∷ 1 ∷ 0 ∷ 2 ∷ 105 ∷ 102 ∷ 2 ∷ 0 ∷ 1 ∷ 0 ∷ 2 ∷ 3 ∷ 1 ∷ 1 ∷ 1 ∷ 2 ∷ 0 ∷ 2 ∷ 0 ∷ 1 ∷ 0 ∷ 1 ∷ 1 ∷ 1 ∷ 4 ∷ 11 ∷ 1 ∷ 0 ∷ 0 ∷ 11 ∷ 1 ∷ 0 ∷ 0 ∷ 3 ∷ 0 ∷ 0 ∷ 0 ∷ 0 ∷ 44 ∷ 0 ∷ 0 ∷ []) (44 ∷ 32 ∷ 44 ∷ 32 ∷ 44 ∷ []) 0 1000000 ≡ gives (answer 32 0 0 0 25 6 0) (written 12288 (1 ∷ 0 ∷ 0 ∷ 8 ∷ 1 ∷ 0 ∷ 2 ∷ 1 ∷ 2 ∷ 2 ∷ 3 ∷ 2 ∷ 3 ∷ 0 ∷ 4 ∷ 3 ∷ 2 ∷ 1 ∷ 2 ∷ 1 ∷ 6 ∷ 8 ∷ 7 ∷ 0 ∷ 2 ∷ 3 ∷ 8 ∷ 3 ∷ 0 ∷ 9 ∷ 2 ∷ 7 ∷ 6 ∷ 8 ∷ 11 ∷ 0 ∷ 2 ∷ 3 ∷ 12 ∷ 3 ∷ 0 ∷ 13 ∷ 2 ∷ 1 ∷ 8 ∷ 2 ∷ 15 ∷ 2 ∷ 3 ∷ 0 ∷ 16 ∷ 2 ∷ 15 ∷ 8 ∷ 3 ∷ 0 ∷ 18 ∷ 2 ∷ 1 ∷ 12 ∷ 2 ∷ 20 ∷ 2 ∷ 3 ∷ 0 ∷ 21 ∷ []) (replicate 12288 7)) (written 256 (0 ∷ 1 ∷ 1 ∷ 5 ∷ 3 ∷ 1 ∷ 1 ∷ 10 ∷ 5 ∷ 1 ∷ 1 ∷ 14 ∷ 3 ∷ 1 ∷ 1 ∷ 17 ∷ 5 ∷ 1 ∷ 1 ∷ 19 ∷ 5 ∷ 1 ∷ 1 ∷ 22 ∷ []) (replicate 256 7))
+  v70 : call 12288 256 (2 ∷ 1 ∷ 3 ∷ 110 ∷ 111 ∷ 116 ∷ 0 ∷ 2 ∷ 102 ∷ 110 ∷ 1 ∷ 0 ∷ 2 ∷ 105 ∷ 102 ∷ 2 ∷ 0 ∷ 1 ∷ 0 ∷ 2 ∷ 3 ∷ 1 ∷ 1 ∷ 1 ∷ 2 ∷ 0 ∷ 2 ∷ 0 ∷ 1 ∷ 0 ∷ 1 ∷ 1 ∷ 1 ∷ 4 ∷ 11 ∷ 1 ∷ 0 ∷ 0 ∷ 11 ∷ 1 ∷ 0 ∷ 0 ∷ 3 ∷ 0 ∷ 0 ∷ 0 ∷ 0 ∷ 44 ∷ 0 ∷ 0 ∷ []) (44 ∷ 32 ∷ 44 ∷ 32 ∷ 44 ∷ []) 0 1000000 ≡ gives (answer 32 0 0 0 25 6 0) (1 ∷ 0 ∷ 0 ∷ 8 ∷ 1 ∷ 0 ∷ 2 ∷ 1 ∷ 2 ∷ 2 ∷ 3 ∷ 2 ∷ 3 ∷ 0 ∷ 4 ∷ 3 ∷ 2 ∷ 1 ∷ 2 ∷ 1 ∷ 6 ∷ 8 ∷ 7 ∷ 0 ∷ 2 ∷ 3 ∷ 8 ∷ 3 ∷ 0 ∷ 9 ∷ 2 ∷ 7 ∷ 6 ∷ 8 ∷ 11 ∷ 0 ∷ 2 ∷ 3 ∷ 12 ∷ 3 ∷ 0 ∷ 13 ∷ 2 ∷ 1 ∷ 8 ∷ 2 ∷ 15 ∷ 2 ∷ 3 ∷ 0 ∷ 16 ∷ 2 ∷ 15 ∷ 8 ∷ 3 ∷ 0 ∷ 18 ∷ 2 ∷ 1 ∷ 12 ∷ 2 ∷ 20 ∷ 2 ∷ 3 ∷ 0 ∷ 21 ∷ zeros 12222 0) (0 ∷ 1 ∷ 1 ∷ 5 ∷ 3 ∷ 1 ∷ 1 ∷ 10 ∷ 5 ∷ 1 ∷ 1 ∷ 14 ∷ 3 ∷ 1 ∷ 1 ∷ 17 ∷ 5 ∷ 1 ∷ 1 ∷ 19 ∷ 5 ∷ 1 ∷ 1 ∷ 22 ∷ zeros 232 0)
   -- reading 294
-  v64 : call 12288 256 (2 ∷ 1 ∷ 3 ∷ 110 ∷ 111 ∷ 116 ∷ 0 ∷ 2 ∷ 102 ∷ 110 ∷ 1 ∷ 0 ∷ 2 ∷ 105 ∷ 102 ∷ 2 ∷ 0 ∷ 1 ∷ 0 ∷ 2 ∷ 3 ∷ 1 ∷ 1 ∷ 1 ∷ 2 ∷ 0 ∷ 2 ∷ 0 ∷ 1 ∷ 0 ∷ 1 ∷ 1 ∷ 1 ∷ 4 ∷ 11 ∷ 1 ∷ 0 ∷ 0 ∷ 11 ∷ 1 ∷ 0 ∷ 0 ∷ 3 ∷ 0 ∷ 0 ∷ 0 ∷ 0 ∷ 44 ∷ 0 ∷ 0 ∷ []) (44 ∷ 44 ∷ 44 ∷ 52 ∷ 50 ∷ []) 0 1000000 ≡ gives (answer 0 0 0 0 25 7 29) (written 12288 (1 ∷ 0 ∷ 0 ∷ 8 ∷ 1 ∷ 0 ∷ 2 ∷ 1 ∷ 2 ∷ 2 ∷ 3 ∷ 2 ∷ 3 ∷ 0 ∷ 4 ∷ 3 ∷ 2 ∷ 1 ∷ 2 ∷ 1 ∷ 6 ∷ 8 ∷ 7 ∷ 0 ∷ 2 ∷ 3 ∷ 8 ∷ 3 ∷ 0 ∷ 9 ∷ 2 ∷ 7 ∷ 6 ∷ 8 ∷ 11 ∷ 0 ∷ 2 ∷ 3 ∷ 12 ∷ 3 ∷ 0 ∷ 13 ∷ 2 ∷ 1 ∷ 8 ∷ 2 ∷ 15 ∷ 2 ∷ 3 ∷ 0 ∷ 16 ∷ 2 ∷ 15 ∷ 8 ∷ 3 ∷ 0 ∷ 18 ∷ 2 ∷ 1 ∷ 12 ∷ 2 ∷ 20 ∷ 2 ∷ 3 ∷ 0 ∷ 21 ∷ 5 ∷ 0 ∷ 42 ∷ 2 ∷ 1 ∷ 23 ∷ 3 ∷ 1 ∷ 24 ∷ 2 ∷ 1 ∷ 25 ∷ 8 ∷ 26 ∷ 0 ∷ 2 ∷ 20 ∷ 27 ∷ 3 ∷ 0 ∷ 28 ∷ []) (replicate 12288 7)) (written 256 (0 ∷ 1 ∷ 1 ∷ 5 ∷ 2 ∷ 1 ∷ 1 ∷ 10 ∷ 3 ∷ 1 ∷ 1 ∷ 14 ∷ 2 ∷ 1 ∷ 1 ∷ 17 ∷ 3 ∷ 1 ∷ 1 ∷ 19 ∷ 3 ∷ 1 ∷ 1 ∷ 22 ∷ 5 ∷ 1 ∷ 1 ∷ 29 ∷ []) (replicate 256 7))
+  v71 : call 12288 256 (2 ∷ 1 ∷ 3 ∷ 110 ∷ 111 ∷ 116 ∷ 0 ∷ 2 ∷ 102 ∷ 110 ∷ 1 ∷ 0 ∷ 2 ∷ 105 ∷ 102 ∷ 2 ∷ 0 ∷ 1 ∷ 0 ∷ 2 ∷ 3 ∷ 1 ∷ 1 ∷ 1 ∷ 2 ∷ 0 ∷ 2 ∷ 0 ∷ 1 ∷ 0 ∷ 1 ∷ 1 ∷ 1 ∷ 4 ∷ 11 ∷ 1 ∷ 0 ∷ 0 ∷ 11 ∷ 1 ∷ 0 ∷ 0 ∷ 3 ∷ 0 ∷ 0 ∷ 0 ∷ 0 ∷ 44 ∷ 0 ∷ 0 ∷ []) (44 ∷ 44 ∷ 44 ∷ 52 ∷ 50 ∷ []) 0 1000000 ≡ gives (answer 0 0 0 0 25 7 29) (1 ∷ 0 ∷ 0 ∷ 8 ∷ 1 ∷ 0 ∷ 2 ∷ 1 ∷ 2 ∷ 2 ∷ 3 ∷ 2 ∷ 3 ∷ 0 ∷ 4 ∷ 3 ∷ 2 ∷ 1 ∷ 2 ∷ 1 ∷ 6 ∷ 8 ∷ 7 ∷ 0 ∷ 2 ∷ 3 ∷ 8 ∷ 3 ∷ 0 ∷ 9 ∷ 2 ∷ 7 ∷ 6 ∷ 8 ∷ 11 ∷ 0 ∷ 2 ∷ 3 ∷ 12 ∷ 3 ∷ 0 ∷ 13 ∷ 2 ∷ 1 ∷ 8 ∷ 2 ∷ 15 ∷ 2 ∷ 3 ∷ 0 ∷ 16 ∷ 2 ∷ 15 ∷ 8 ∷ 3 ∷ 0 ∷ 18 ∷ 2 ∷ 1 ∷ 12 ∷ 2 ∷ 20 ∷ 2 ∷ 3 ∷ 0 ∷ 21 ∷ 5 ∷ 0 ∷ 42 ∷ 2 ∷ 1 ∷ 23 ∷ 3 ∷ 1 ∷ 24 ∷ 2 ∷ 1 ∷ 25 ∷ 8 ∷ 26 ∷ 0 ∷ 2 ∷ 20 ∷ 27 ∷ 3 ∷ 0 ∷ 28 ∷ zeros 12201 0) (0 ∷ 1 ∷ 1 ∷ 5 ∷ 2 ∷ 1 ∷ 1 ∷ 10 ∷ 3 ∷ 1 ∷ 1 ∷ 14 ∷ 2 ∷ 1 ∷ 1 ∷ 17 ∷ 3 ∷ 1 ∷ 1 ∷ 19 ∷ 3 ∷ 1 ∷ 1 ∷ 22 ∷ 5 ∷ 1 ∷ 1 ∷ 29 ∷ zeros 228 0)
   -- deep 79
-  v65 : call 12288 256 (0 ∷ 0 ∷ 2 ∷ 0 ∷ 1 ∷ 0 ∷ 1 ∷ 2 ∷ 255 ∷ 3 ∷ 1 ∷ 1 ∷ 255 ∷ 3 ∷ 1 ∷ 1 ∷ 2 ∷ 10 ∷ 1 ∷ 0 ∷ 0 ∷ 3 ∷ 0 ∷ 0 ∷ 0 ∷ []) (48 ∷ 32 ∷ 49 ∷ 32 ∷ 50 ∷ 32 ∷ 51 ∷ 32 ∷ 52 ∷ 32 ∷ 53 ∷ 32 ∷ 54 ∷ 59 ∷ []) 0 1000000 ≡ gives (answer 31 0 0 0 25 8 0) (written 12288 (1 ∷ 0 ∷ 0 ∷ 8 ∷ 1 ∷ 0 ∷ 2 ∷ 1 ∷ 2 ∷ 3 ∷ 0 ∷ 3 ∷ 5 ∷ 0 ∷ 0 ∷ 2 ∷ 1 ∷ 5 ∷ 3 ∷ 1 ∷ 6 ∷ 2 ∷ 1 ∷ 7 ∷ 8 ∷ 8 ∷ 0 ∷ 2 ∷ 1 ∷ 9 ∷ 3 ∷ 0 ∷ 10 ∷ 5 ∷ 0 ∷ 1 ∷ 2 ∷ 1 ∷ 12 ∷ 3 ∷ 1 ∷ 13 ∷ 2 ∷ 8 ∷ 14 ∷ 8 ∷ 15 ∷ 0 ∷ 2 ∷ 1 ∷ 16 ∷ 3 ∷ 0 ∷ 17 ∷ 5 ∷ 0 ∷ 2 ∷ 2 ∷ 1 ∷ 19 ∷ 3 ∷ 1 ∷ 20 ∷ 2 ∷ 15 ∷ 21 ∷ 8 ∷ 22 ∷ 0 ∷ 2 ∷ 1 ∷ 23 ∷ 3 ∷ 0 ∷ 24 ∷ 5 ∷ 0 ∷ 3 ∷ 2 ∷ 1 ∷ 26 ∷ 3 ∷ 1 ∷ 27 ∷ 2 ∷ 22 ∷ 28 ∷ 8 ∷ 29 ∷ 0 ∷ 2 ∷ 1 ∷ 30 ∷ 3 ∷ 0 ∷ 31 ∷ 5 ∷ 0 ∷ 4 ∷ 2 ∷ 1 ∷ 33 ∷ 3 ∷ 1 ∷ 34 ∷ 2 ∷ 29 ∷ 35 ∷ 8 ∷ 36 ∷ 0 ∷ 2 ∷ 1 ∷ 37 ∷ 3 ∷ 0 ∷ 38 ∷ 5 ∷ 0 ∷ 5 ∷ 2 ∷ 1 ∷ 40 ∷ 3 ∷ 1 ∷ 41 ∷ 2 ∷ 36 ∷ 42 ∷ 8 ∷ 43 ∷ 0 ∷ 2 ∷ 1 ∷ 44 ∷ 3 ∷ 0 ∷ 45 ∷ 5 ∷ 0 ∷ 6 ∷ 2 ∷ 1 ∷ 47 ∷ 3 ∷ 1 ∷ 48 ∷ 2 ∷ 43 ∷ 49 ∷ 8 ∷ 50 ∷ 0 ∷ 2 ∷ 1 ∷ 51 ∷ 3 ∷ 0 ∷ 52 ∷ []) (replicate 12288 7)) (written 256 (0 ∷ 255 ∷ 3 ∷ 4 ∷ 1 ∷ 255 ∷ 3 ∷ 11 ∷ 3 ∷ 255 ∷ 3 ∷ 18 ∷ 5 ∷ 255 ∷ 3 ∷ 25 ∷ 7 ∷ 255 ∷ 3 ∷ 32 ∷ 9 ∷ 255 ∷ 3 ∷ 39 ∷ 11 ∷ 255 ∷ 3 ∷ 46 ∷ 13 ∷ 255 ∷ 3 ∷ 53 ∷ []) (replicate 256 7))
+  v72 : call 12288 256 (0 ∷ 0 ∷ 2 ∷ 0 ∷ 1 ∷ 0 ∷ 1 ∷ 2 ∷ 255 ∷ 3 ∷ 1 ∷ 1 ∷ 255 ∷ 3 ∷ 1 ∷ 1 ∷ 2 ∷ 10 ∷ 1 ∷ 0 ∷ 0 ∷ 3 ∷ 0 ∷ 0 ∷ 0 ∷ []) (48 ∷ 32 ∷ 49 ∷ 32 ∷ 50 ∷ 32 ∷ 51 ∷ 32 ∷ 52 ∷ 32 ∷ 53 ∷ 32 ∷ 54 ∷ 59 ∷ []) 0 1000000 ≡ gives (answer 31 0 0 0 25 8 0) (1 ∷ 0 ∷ 0 ∷ 8 ∷ 1 ∷ 0 ∷ 2 ∷ 1 ∷ 2 ∷ 3 ∷ 0 ∷ 3 ∷ 5 ∷ 0 ∷ 0 ∷ 2 ∷ 1 ∷ 5 ∷ 3 ∷ 1 ∷ 6 ∷ 2 ∷ 1 ∷ 7 ∷ 8 ∷ 8 ∷ 0 ∷ 2 ∷ 1 ∷ 9 ∷ 3 ∷ 0 ∷ 10 ∷ 5 ∷ 0 ∷ 1 ∷ 2 ∷ 1 ∷ 12 ∷ 3 ∷ 1 ∷ 13 ∷ 2 ∷ 8 ∷ 14 ∷ 8 ∷ 15 ∷ 0 ∷ 2 ∷ 1 ∷ 16 ∷ 3 ∷ 0 ∷ 17 ∷ 5 ∷ 0 ∷ 2 ∷ 2 ∷ 1 ∷ 19 ∷ 3 ∷ 1 ∷ 20 ∷ 2 ∷ 15 ∷ 21 ∷ 8 ∷ 22 ∷ 0 ∷ 2 ∷ 1 ∷ 23 ∷ 3 ∷ 0 ∷ 24 ∷ 5 ∷ 0 ∷ 3 ∷ 2 ∷ 1 ∷ 26 ∷ 3 ∷ 1 ∷ 27 ∷ 2 ∷ 22 ∷ 28 ∷ 8 ∷ 29 ∷ 0 ∷ 2 ∷ 1 ∷ 30 ∷ 3 ∷ 0 ∷ 31 ∷ 5 ∷ 0 ∷ 4 ∷ 2 ∷ 1 ∷ 33 ∷ 3 ∷ 1 ∷ 34 ∷ 2 ∷ 29 ∷ 35 ∷ 8 ∷ 36 ∷ 0 ∷ 2 ∷ 1 ∷ 37 ∷ 3 ∷ 0 ∷ 38 ∷ 5 ∷ 0 ∷ 5 ∷ 2 ∷ 1 ∷ 40 ∷ 3 ∷ 1 ∷ 41 ∷ 2 ∷ 36 ∷ 42 ∷ 8 ∷ 43 ∷ 0 ∷ 2 ∷ 1 ∷ 44 ∷ 3 ∷ 0 ∷ 45 ∷ 5 ∷ 0 ∷ 6 ∷ 2 ∷ 1 ∷ 47 ∷ 3 ∷ 1 ∷ 48 ∷ 2 ∷ 43 ∷ 49 ∷ 8 ∷ 50 ∷ 0 ∷ 2 ∷ 1 ∷ 51 ∷ 3 ∷ 0 ∷ 52 ∷ zeros 12129 0) (0 ∷ 255 ∷ 3 ∷ 4 ∷ 1 ∷ 255 ∷ 3 ∷ 11 ∷ 3 ∷ 255 ∷ 3 ∷ 18 ∷ 5 ∷ 255 ∷ 3 ∷ 25 ∷ 7 ∷ 255 ∷ 3 ∷ 32 ∷ 9 ∷ 255 ∷ 3 ∷ 39 ∷ 11 ∷ 255 ∷ 3 ∷ 46 ∷ 13 ∷ 255 ∷ 3 ∷ 53 ∷ zeros 224 0)
   -- damaged 4
-  v66 : call 12288 256 (2 ∷ 1 ∷ 2 ∷ 100 ∷ 111 ∷ 0 ∷ 1 ∷ 95 ∷ 0 ∷ 2 ∷ 0 ∷ 2 ∷ 0 ∷ 2 ∷ 4 ∷ 1 ∷ 1 ∷ 1 ∷ 1 ∷ 0 ∷ 1 ∷ 1 ∷ 4 ∷ 2 ∷ 3 ∷ 1 ∷ 1 ∷ 2 ∷ 1 ∷ 1 ∷ 2 ∷ 8 ∷ 3 ∷ 0 ∷ 0 ∷ 0 ∷ 10 ∷ 1 ∷ 0 ∷ 0 ∷ 8 ∷ 0 ∷ 0 ∷ 0 ∷ 0 ∷ 60 ∷ 8 ∷ 0 ∷ 9 ∷ 1 ∷ 0 ∷ 0 ∷ 0 ∷ 124 ∷ 0 ∷ 0 ∷ 8 ∷ 1 ∷ 0 ∷ 0 ∷ 0 ∷ 33 ∷ 0 ∷ 0 ∷ []) (49 ∷ 45 ∷ 50 ∷ []) 0 1000000 ≡ gives (answer 6 46 0 0 0 0 0) (replicate 12288 7) (replicate 256 7)
-  -- damaged 24
-  v67 : call 12288 256 (0 ∷ 3 ∷ 0 ∷ 1 ∷ 97 ∷ 7 ∷ 1 ∷ 98 ∷ 7 ∷ 1 ∷ 97 ∷ 2 ∷ 0 ∷ 2 ∷ 0 ∷ 2 ∷ 4 ∷ 255 ∷ 3 ∷ 1 ∷ 1 ∷ 2 ∷ 1 ∷ []) (120 ∷ []) 0 1000000 ≡ gives (answer 3 23 0 0 0 0 0) (replicate 12288 7) (replicate 256 7)
-  -- damaged 44
-  v68 : call 12288 256 (3 ∷ 1 ∷ 2 ∷ 105 ∷ 110 ∷ 1 ∷ 2 ∷ 87 ∷ 49 ∷ 1 ∷ 1 ∷ 95 ∷ 4 ∷ 2 ∷ 2 ∷ 118 ∷ 49 ∷ 0 ∷ 1 ∷ 97 ∷ 7 ∷ 2 ∷ 105 ∷ 102 ∷ 11 ∷ 2 ∷ 118 ∷ 49 ∷ 1 ∷ 0 ∷ 3 ∷ 3 ∷ 255 ∷ 3 ∷ 1 ∷ 1 ∷ 2 ∷ 1 ∷ 0 ∷ 3 ∷ 2 ∷ 1 ∷ 1 ∷ 3 ∷ 7 ∷ 4 ∷ 0 ∷ 0 ∷ 0 ∷ 8 ∷ 0 ∷ 0 ∷ 0 ∷ 0 ∷ 45 ∷ 0 ∷ 0 ∷ 8 ∷ 0 ∷ 0 ∷ 0 ∷ 8 ∷ 0 ∷ 0 ∷ 0 ∷ 0 ∷ 61 ∷ 0 ∷ 0 ∷ 8 ∷ 0 ∷ 0 ∷ 0 ∷ []) (32 ∷ 49 ∷ 32 ∷ 47 ∷ 47 ∷ 32 ∷ 99 ∷ []) 0 1000000 ≡ gives (answer 6 24 0 0 0 0 0) (replicate 12288 7) (replicate 256 7)
-  -- damaged 64
-  v69 : call 12288 256 (2 ∷ 0 ∷ 3 ∷ 108 ∷ 101 ∷ 116 ∷ 0 ∷ 2 ∷ 105 ∷ 110 ∷ 3 ∷ 33 ∷ 2 ∷ 2 ∷ 105 ∷ 102 ∷ 7 ∷ 1 ∷ 121 ∷ 0 ∷ 1 ∷ 121 ∷ 3 ∷ 1 ∷ 2 ∷ 0 ∷ 2 ∷ 2 ∷ 0 ∷ 4 ∷ 0 ∷ 3 ∷ 1 ∷ 2 ∷ 3 ∷ 1 ∷ 1 ∷ 1 ∷ 0 ∷ 3 ∷ 2 ∷ 1 ∷ 0 ∷ 2 ∷ 3 ∷ 1 ∷ 5 ∷ 8 ∷ 1 ∷ 0 ∷ 0 ∷ 0 ∷ 64 ∷ 0 ∷ 0 ∷ 8 ∷ 2 ∷ 0 ∷ 0 ∷ 8 ∷ 2 ∷ 0 ∷ 0 ∷ 8 ∷ 0 ∷ 0 ∷ 0 ∷ []) (32 ∷ 49 ∷ 32 ∷ 47 ∷ 47 ∷ 32 ∷ 99 ∷ []) 0 1000000 ≡ gives (answer 6 11 0 0 0 0 0) (replicate 12288 7) (replicate 256 7)
-  -- damaged 83
-  v70 : call 12288 256 (0 ∷ 0 ∷ 1 ∷ 1 ∷ 3 ∷ 3 ∷ 246 ∷ 3 ∷ 1 ∷ 2 ∷ 0 ∷ 1 ∷ 0 ∷ 1 ∷ 2 ∷ 52 ∷ 1 ∷ 3 ∷ 6 ∷ 7 ∷ 0 ∷ 0 ∷ 0 ∷ 9 ∷ 0 ∷ 0 ∷ 0 ∷ 0 ∷ 63 ∷ 0 ∷ 0 ∷ 8 ∷ 0 ∷ 0 ∷ 0 ∷ 0 ∷ 63 ∷ 0 ∷ 255 ∷ 8 ∷ 0 ∷ 0 ∷ 0 ∷ []) (49 ∷ 45 ∷ 50 ∷ []) 0 1000000 ≡ gives (answer 6 15 0 0 0 0 0) (replicate 12288 7) (replicate 256 7)
-  -- damaged 105
-  v71 : call 12288 256 (2 ∷ 1 ∷ 2 ∷ 100 ∷ 111 ∷ 1 ∷ 2 ∷ 105 ∷ 102 ∷ 3 ∷ 0 ∷ 1 ∷ 121 ∷ 0 ∷ 1 ∷ 95 ∷ 7 ∷ 1 ∷ 98 ∷ 3 ∷ 1 ∷ 4 ∷ 0 ∷ 3 ∷ 1 ∷ 3 ∷ 10 ∷ 0 ∷ 1 ∷ 1 ∷ 2 ∷ 255 ∷ 3 ∷ 0 ∷ 1 ∷ 0 ∷ 1 ∷ 1 ∷ 3 ∷ 2 ∷ 0 ∷ 1 ∷ 1 ∷ 2 ∷ 2 ∷ 1 ∷ 1 ∷ 1 ∷ 0 ∷ 1 ∷ 1 ∷ 0 ∷ 2 ∷ 1 ∷ 3 ∷ 2 ∷ 3 ∷ 1 ∷ 1 ∷ 255 ∷ 3 ∷ 1 ∷ 1 ∷ 1 ∷ 3 ∷ 1 ∷ 3 ∷ 17 ∷ 0 ∷ 47 ∷ 0 ∷ 0 ∷ 8 ∷ 0 ∷ 0 ∷ 0 ∷ 3 ∷ 0 ∷ 0 ∷ 0 ∷ 9 ∷ 0 ∷ 0 ∷ 0 ∷ 0 ∷ 126 ∷ 0 ∷ 0 ∷ 8 ∷ 0 ∷ 0 ∷ 0 ∷ 3 ∷ 0 ∷ 0 ∷ 0 ∷ 3 ∷ 0 ∷ 0 ∷ 0 ∷ 3 ∷ 0 ∷ 0 ∷ 0 ∷ 8 ∷ 1 ∷ 0 ∷ 0 ∷ 0 ∷ 38 ∷ 0 ∷ 0 ∷ 8 ∷ 255 ∷ 1 ∷ 0 ∷ 0 ∷ 13 ∷ 0 ∷ 91 ∷ 93 ∷ 2 ∷ 0 ∷ 0 ∷ 0 ∷ 8 ∷ 2 ∷ 0 ∷ 0 ∷ 0 ∷ 126 ∷ 0 ∷ 0 ∷ 8 ∷ 2 ∷ 0 ∷ 0 ∷ []) (49 ∷ []) 0 1000000 ≡ gives (answer 6 113 0 0 0 0 0) (replicate 12288 7) (replicate 256 7)
-  -- damaged 126
-  v72 : call 12288 256 (1 ∷ 1 ∷ 2 ∷ 100 ∷ 111 ∷ 1 ∷ 0 ∷ 1 ∷ 120 ∷ 2 ∷ 0 ∷ 4 ∷ 1 ∷ 1 ∷ 5 ∷ 255 ∷ 3 ∷ 1 ∷ 3 ∷ 3 ∷ 0 ∷ 1 ∷ 3 ∷ 255 ∷ 3 ∷ 1 ∷ 2 ∷ 2 ∷ 1 ∷ 3 ∷ 1 ∷ 2 ∷ 0 ∷ 1 ∷ 1 ∷ 10 ∷ 8 ∷ 0 ∷ 0 ∷ 0 ∷ 0 ∷ 33 ∷ 0 ∷ 0 ∷ 8 ∷ 17 ∷ 0 ∷ 0 ∷ 0 ∷ 40 ∷ 0 ∷ 0 ∷ 8 ∷ 0 ∷ 0 ∷ 0 ∷ 0 ∷ 41 ∷ 0 ∷ 0 ∷ 9 ∷ 1 ∷ 0 ∷ 0 ∷ 8 ∷ 0 ∷ 0 ∷ 0 ∷ 8 ∷ 1 ∷ 0 ∷ 0 ∷ 3 ∷ 0 ∷ 0 ∷ 0 ∷ []) (49 ∷ 45 ∷ 50 ∷ []) 0 1000000 ≡ gives (answer 6 45 0 0 0 0 0) (replicate 12288 7) (replicate 256 7)
-  -- damaged 145
-  v73 : call 12288 256 (1 ∷ 0 ∷ 2 ∷ 87 ∷ 49 ∷ 0 ∷ 2 ∷ 0 ∷ 3 ∷ 0 ∷ 2 ∷ 5 ∷ 0 ∷ 0 ∷ 0 ∷ 3 ∷ 0 ∷ 2 ∷ 1 ∷ 1 ∷ 2 ∷ 0 ∷ 1 ∷ 3 ∷ 0 ∷ 3 ∷ 3 ∷ 1 ∷ 0 ∷ 0 ∷ 1 ∷ 2 ∷ 10 ∷ 8 ∷ 1 ∷ 0 ∷ 0 ∷ 0 ∷ 61 ∷ 0 ∷ 0 ∷ 8 ∷ 0 ∷ 0 ∷ 0 ∷ 3 ∷ 0 ∷ 0 ∷ 0 ∷ 8 ∷ 0 ∷ 0 ∷ 0 ∷ 254 ∷ 61 ∷ 0 ∷ 0 ∷ 8 ∷ 0 ∷ 0 ∷ 0 ∷ 8 ∷ 1 ∷ 0 ∷ 0 ∷ 8 ∷ 0 ∷ 0 ∷ 0 ∷ 0 ∷ 42 ∷ 0 ∷ 0 ∷ []) (120 ∷ []) 0 1 ≡ gives (answer 6 53 0 0 0 0 0) (replicate 12288 7) (replicate 256 7)
-  -- damaged 164
-  v74 : call 12288 256 (2 ∷ 1 ∷ 2 ∷ 100 ∷ 213 ∷ 0 ∷ 2 ∷ 87 ∷ 49 ∷ 2 ∷ 0 ∷ 105 ∷ 102 ∷ 7 ∷ 1 ∷ 97 ∷ 2 ∷ 0 ∷ 2 ∷ 1 ∷ 3 ∷ 5 ∷ 255 ∷ 3 ∷ 0 ∷ 1 ∷ 2 ∷ 2 ∷ 1 ∷ 3 ∷ 2 ∷ 0 ∷ 1 ∷ 1 ∷ 2 ∷ 2 ∷ 1 ∷ 0 ∷ 0 ∷ 1 ∷ 1 ∷ 1 ∷ 6 ∷ 3 ∷ 0 ∷ 0 ∷ 0 ∷ 13 ∷ 126 ∷ 60 ∷ 62 ∷ 9 ∷ 1 ∷ 0 ∷ 0 ∷ 8 ∷ 0 ∷ 0 ∷ 0 ∷ 0 ∷ 33 ∷ 0 ∷ 0 ∷ 9 ∷ 0 ∷ 0 ∷ 0 ∷ []) (40 ∷ 49 ∷ []) 0 1000000 ≡ gives (answer 5 2 0 0 0 0 0) (replicate 12288 7) (replicate 256 7)
-  -- damaged 186
-  v75 : call 12288 256 (0 ∷ 0 ∷ 1 ∷ 0 ∷ 3 ∷ 3 ∷ 1 ∷ 0 ∷ 3 ∷ 1 ∷ 255 ∷ 3 ∷ 1 ∷ 1 ∷ 0 ∷ 1 ∷ 2 ∷ 1 ∷ 3 ∷ 3 ∷ 0 ∷ 0 ∷ 0 ∷ 3 ∷ 0 ∷ 0 ∷ 0 ∷ 3 ∷ 0 ∷ 0 ∷ 0 ∷ []) (49 ∷ []) 0 4294967295 ≡ gives (answer 2 0 0 0 0 0 0) (replicate 12288 7) (replicate 256 7)
-  -- damaged 210
-  v76 : call 12288 256 (2 ∷ 1 ∷ 1 ∷ 120 ∷ 0 ∷ 2 ∷ 87 ∷ 49 ∷ 3 ∷ 0 ∷ 1 ∷ 121 ∷ 2 ∷ 2 ∷ 105 ∷ 102 ∷ 6 ∷ 1 ∷ 121 ∷ 2 ∷ 0 ∷ 1 ∷ 1 ∷ 2 ∷ 3 ∷ 255 ∷ 3 ∷ 0 ∷ 1 ∷ 3 ∷ 0 ∷ 1 ∷ 1 ∷ 3 ∷ 3 ∷ 1 ∷ 2 ∷ 4 ∷ 13 ∷ 1 ∷ 91 ∷ 93 ∷ 3 ∷ 0 ∷ 0 ∷ 191 ∷ 128 ∷ 0 ∷ 0 ∷ 0 ∷ 3 ∷ 0 ∷ 0 ∷ 0 ∷ []) (32 ∷ 49 ∷ 32 ∷ 47 ∷ 47 ∷ 32 ∷ 99 ∷ []) 0 1000000 ≡ gives (answer 6 45 0 0 0 0 0) (replicate 12288 7) (replicate 256 7)
-  -- damaged 226
-  v77 : call 12288 256 (0 ∷ 0 ∷ 1 ∷ 0 ∷ 1 ∷ 1 ∷ 128 ∷ 3 ∷ 1 ∷ 1 ∷ 1 ∷ 12 ∷ 1 ∷ 40 ∷ 41 ∷ []) (120 ∷ []) 0 1000000 ≡ gives (answer 6 12 0 0 0 0 0) (replicate 12288 7) (replicate 256 7)
-  -- damaged 245
-  v78 : call 12288 256 (3 ∷ 0 ∷ 1 ∷ 95 ∷ 1 ∷ 3 ∷ 108 ∷ 101 ∷ 116 ∷ 1 ∷ 1 ∷ 95 ∷ 0 ∷ 1 ∷ 0 ∷ 3 ∷ 3 ∷ 255 ∷ 3 ∷ 1 ∷ 3 ∷ 2 ∷ 3 ∷ 1 ∷ 1 ∷ 255 ∷ 3 ∷ 3 ∷ 1 ∷ 1 ∷ 5 ∷ 9 ∷ 0 ∷ 3 ∷ 0 ∷ 8 ∷ 0 ∷ 0 ∷ 0 ∷ 0 ∷ 43 ∷ 0 ∷ 0 ∷ 3 ∷ 0 ∷ 0 ∷ 0 ∷ 1 ∷ 0 ∷ 0 ∷ 0 ∷ 0 ∷ []) (49 ∷ []) 0 1000000 ≡ gives (answer 4 29 0 0 0 0 0) (replicate 12288 7) (replicate 256 7)
-  -- damaged 263
-  v79 : call 12288 256 (0 ∷ 3 ∷ 7 ∷ 1 ∷ 98 ∷ 2 ∷ 2 ∷ 118 ∷ 49 ∷ 1 ∷ 2 ∷ 118 ∷ 49 ∷ 2 ∷ 0 ∷ 1 ∷ 0 ∷ 2 ∷ 3 ∷ 255 ∷ 3 ∷ 1 ∷ 1 ∷ 3 ∷ 3 ∷ 2 ∷ 222 ∷ 0 ∷ 1 ∷ 1 ∷ 1 ∷ 3 ∷ 3 ∷ 0 ∷ 0 ∷ 0 ∷ 8 ∷ 0 ∷ 0 ∷ 0 ∷ 3 ∷ 0 ∷ 0 ∷ 33 ∷ []) (120 ∷ []) 0 1000000 ≡ gives (answer 6 26 0 0 0 0 0) (replicate 12288 7) (replicate 256 7)
-  -- damaged 287
-  v80 : call 12288 256 (3 ∷ 0 ∷ 1 ∷ 120 ∷ 1 ∷ 2 ∷ 87 ∷ 49 ∷ 1 ∷ 3 ∷ 108 ∷ 101 ∷ 116 ∷ 3 ∷ 1 ∷ 1 ∷ 84 ∷ 1 ∷ 2 ∷ 118 ∷ 49 ∷ 1 ∷ 2 ∷ 118 ∷ 49 ∷ 3 ∷ 0 ∷ 2 ∷ 1 ∷ 4 ∷ 2 ∷ 0 ∷ 6 ∷ 2 ∷ 1 ∷ 0 ∷ 0 ∷ 0 ∷ 2 ∷ 1 ∷ 3 ∷ 1 ∷ 1 ∷ 1 ∷ 2 ∷ 255 ∷ 3 ∷ 1 ∷ 2 ∷ 2 ∷ 2 ∷ 1 ∷ 1 ∷ 255 ∷ 3 ∷ 1 ∷ 1 ∷ 9 ∷ 1 ∷ 1 ∷ 0 ∷ 0 ∷ 0 ∷ 126 ∷ 0 ∷ 0 ∷ 8 ∷ 0 ∷ 0 ∷ 69 ∷ 8 ∷ 2 ∷ 0 ∷ 0 ∷ 8 ∷ 1 ∷ 0 ∷ 0 ∷ 0 ∷ 64 ∷ 0 ∷ 0 ∷ 3 ∷ 0 ∷ 0 ∷ 0 ∷ 1 ∷ 0 ∷ 0 ∷ 0 ∷ 3 ∷ 0 ∷ 0 ∷ 0 ∷ []) (120 ∷ []) 0 1000000 ≡ gives (answer 6 69 0 0 0 0 0) (replicate 12288 7) (replicate 256 7)
+  v73 : call 12288 256 (2 ∷ 1 ∷ 2 ∷ 100 ∷ 111 ∷ 0 ∷ 1 ∷ 95 ∷ 0 ∷ 2 ∷ 0 ∷ 2 ∷ 0 ∷ 2 ∷ 4 ∷ 1 ∷ 1 ∷ 1 ∷ 1 ∷ 0 ∷ 1 ∷ 1 ∷ 4 ∷ 2 ∷ 3 ∷ 1 ∷ 1 ∷ 2 ∷ 1 ∷ 1 ∷ 2 ∷ 8 ∷ 3 ∷ 0 ∷ 0 ∷ 0 ∷ 10 ∷ 1 ∷ 0 ∷ 0 ∷ 8 ∷ 0 ∷ 0 ∷ 0 ∷ 0 ∷ 60 ∷ 8 ∷ 0 ∷ 9 ∷ 1 ∷ 0 ∷ 0 ∷ 0 ∷ 124 ∷ 0 ∷ 0 ∷ 8 ∷ 1 ∷ 0 ∷ 0 ∷ 0 ∷ 33 ∷ 0 ∷ 0 ∷ []) (49 ∷ 45 ∷ 50 ∷ []) 0 1000000 ≡ gives (answer 6 46 0 0 0 0 0) (replicate 12288 7) (replicate 256 7)
+  -- damaged 25
+  v74 : call 12288 256 (1 ∷ 0 ∷ 1 ∷ 95 ∷ 1 ∷ 0 ∷ 2 ∷ 105 ∷ 102 ∷ 3 ∷ 1 ∷ 3 ∷ 1 ∷ 3 ∷ 0 ∷ 3 ∷ 9 ∷ 255 ∷ 3 ∷ 1 ∷ 2 ∷ 255 ∷ 3 ∷ 0 ∷ 3 ∷ 255 ∷ 3 ∷ 1 ∷ 1 ∷ 1 ∷ 3 ∷ 1 ∷ 4 ∷ 1 ∷ 0 ∷ 1 ∷ 1 ∷ 3 ∷ 1 ∷ 0 ∷ 1 ∷ 2 ∷ 1 ∷ 0 ∷ 2 ∷ 255 ∷ 3 ∷ 0 ∷ 3 ∷ 3 ∷ 1 ∷ 0 ∷ 2 ∷ 19 ∷ 6 ∷ 0 ∷ 0 ∷ 0 ∷ 2 ∷ 0 ∷ 0 ∷ 0 ∷ 8 ∷ 0 ∷ 0 ∷ 0 ∷ 0 ∷ 35 ∷ 0 ∷ 0 ∷ 8 ∷ 0 ∷ 0 ∷ 0 ∷ 3 ∷ 0 ∷ 0 ∷ 0 ∷ 0 ∷ 58 ∷ 0 ∷ 0 ∷ 8 ∷ 1 ∷ 0 ∷ 0 ∷ 5 ∷ 1 ∷ 0 ∷ 0 ∷ 8 ∷ 0 ∷ 0 ∷ 0 ∷ 3 ∷ 0 ∷ 0 ∷ 0 ∷ 4 ∷ 0 ∷ 0 ∷ 0 ∷ 11 ∷ 2 ∷ 0 ∷ 0 ∷ 0 ∷ 60 ∷ 0 ∷ 0 ∷ 10 ∷ 2 ∷ 0 ∷ 0 ∷ 8 ∷ 2 ∷ 0 ∷ 0 ∷ 0 ∷ 27 ∷ 0 ∷ 0 ∷ 6 ∷ 0 ∷ 0 ∷ 0 ∷ 2 ∷ 0 ∷ 0 ∷ 0 ∷ []) [] 0 1000000 ≡ gives (answer 6 119 0 0 0 0 0) (replicate 12288 7) (replicate 256 7)
+  -- damaged 46
+  v75 : call 12288 256 (2 ∷ 1 ∷ 1 ∷ 120 ∷ 0 ∷ 2 ∷ 87 ∷ 49 ∷ 0 ∷ 1 ∷ 0 ∷ 3 ∷ 3 ∷ 1 ∷ 1 ∷ 0 ∷ 3 ∷ 0 ∷ 0 ∷ 0 ∷ 1 ∷ 1 ∷ 1 ∷ 1 ∷ 3 ∷ 7 ∷ 8 ∷ 0 ∷ 0 ∷ 255 ∷ 0 ∷ 33 ∷ 0 ∷ 0 ∷ 8 ∷ 0 ∷ 0 ∷ 0 ∷ 3 ∷ 0 ∷ 0 ∷ 0 ∷ 8 ∷ 0 ∷ 0 ∷ 0 ∷ 0 ∷ 33 ∷ 0 ∷ 0 ∷ 8 ∷ 0 ∷ 0 ∷ 0 ∷ []) [] 0 1000000 ≡ gives (answer 6 29 0 0 0 0 0) (replicate 12288 7) (replicate 256 7)
+  -- damaged 69
+  v76 : call 12288 256 (2 ∷ 1 ∷ 1 ∷ 95 ∷ 1 ∷ 2 ∷ 100 ∷ 111 ∷ 2 ∷ 7 ∷ 2 ∷ 105 ∷ 102 ∷ 2 ∷ 1 ∷ 121 ∷ 3 ∷ 0 ∷ 3 ∷ 0 ∷ 2 ∷ 0 ∷ 2 ∷ 7 ∷ 1 ∷ 2 ∷ 0 ∷ 2 ∷ 2 ∷ 2 ∷ 1 ∷ 2 ∷ 255 ∷ 3 ∷ 1 ∷ 1 ∷ 1 ∷ 2 ∷ 3 ∷ 1 ∷ 2 ∷ 1 ∷ 1 ∷ 3 ∷ 2 ∷ 2 ∷ 1 ∷ 2 ∷ 2 ∷ 2 ∷ 3 ∷ 1 ∷ 33 ∷ 12 ∷ 0 ∷ 46 ∷ 0 ∷ 0 ∷ 8 ∷ 2 ∷ 0 ∷ 0 ∷ 33 ∷ 8 ∷ 0 ∷ 0 ∷ 0 ∷ 8 ∷ 0 ∷ 0 ∷ 0 ∷ 3 ∷ 0 ∷ 0 ∷ 0 ∷ 8 ∷ 1 ∷ 0 ∷ 0 ∷ 0 ∷ 40 ∷ 0 ∷ 0 ∷ 8 ∷ 0 ∷ 0 ∷ 0 ∷ 0 ∷ 41 ∷ 0 ∷ 0 ∷ 8 ∷ 1 ∷ 0 ∷ 0 ∷ 0 ∷ 64 ∷ 0 ∷ 0 ∷ 8 ∷ 2 ∷ 0 ∷ 0 ∷ []) (40 ∷ 49 ∷ []) 0 1000000 ≡ gives (answer 4 52 0 0 0 0 0) (replicate 12288 7) (replicate 256 7)
+  -- damaged 89
+  v77 : call 12288 256 (2 ∷ 0 ∷ 1 ∷ 95 ∷ 1 ∷ 2 ∷ 105 ∷ 110 ∷ 4 ∷ 0 ∷ 2 ∷ 105 ∷ 110 ∷ 2 ∷ 1 ∷ 121 ∷ 7 ∷ 2 ∷ 118 ∷ 49 ∷ 6 ∷ 2 ∷ 105 ∷ 110 ∷ 2 ∷ 0 ∷ 1 ∷ 0 ∷ 2 ∷ 3 ∷ 2 ∷ 3 ∷ 1 ∷ 2 ∷ 255 ∷ 3 ∷ 1 ∷ 1 ∷ 0 ∷ 1 ∷ 0 ∷ 1 ∷ 4 ∷ 11 ∷ 0 ∷ 14 ∷ 0 ∷ 11 ∷ 1 ∷ 0 ∷ 0 ∷ 4 ∷ 0 ∷ 0 ∷ 0 ∷ 2 ∷ 0 ∷ 0 ∷ 0 ∷ []) (49 ∷ []) 0 1000000 ≡ gives (answer 6 45 0 0 0 0 0) (replicate 12288 7) (replicate 256 7)
+  -- damaged 114
+  v78 : call 12288 256 (100 ∷ 0 ∷ 3 ∷ 110 ∷ 111 ∷ 116 ∷ 0 ∷ 1 ∷ 95 ∷ 1 ∷ 1 ∷ 120 ∷ 1 ∷ 7 ∷ 1 ∷ 98 ∷ 1 ∷ 1 ∷ 3 ∷ 3 ∷ 2 ∷ 1 ∷ 0 ∷ 1 ∷ 3 ∷ 2 ∷ 1 ∷ 1 ∷ 2 ∷ 255 ∷ 3 ∷ 1 ∷ 1 ∷ 6 ∷ 8 ∷ 0 ∷ 0 ∷ 0 ∷ 0 ∷ 38 ∷ 0 ∷ 0 ∷ 8 ∷ 0 ∷ 0 ∷ 0 ∷ 0 ∷ 38 ∷ 0 ∷ 0 ∷ 99 ∷ 0 ∷ 0 ∷ 0 ∷ 3 ∷ 0 ∷ 0 ∷ 0 ∷ []) (32 ∷ 49 ∷ 32 ∷ 47 ∷ 47 ∷ 32 ∷ 99 ∷ []) 0 1000000 ≡ gives (answer 4 0 0 0 0 0 0) (replicate 12288 7) (replicate 256 7)
+  -- damaged 134
+  v79 : call 12288 256 (0 ∷ 2 ∷ 7 ∷ 1 ∷ 97 ∷ 2 ∷ 1 ∷ 120 ∷ 2 ∷ 0 ∷ 2 ∷ 0 ∷ 14 ∷ 4 ∷ 1 ∷ 1 ∷ 0 ∷ 4 ∷ 0 ∷ 2 ∷ 1 ∷ 1 ∷ 1 ∷ 1 ∷ 1 ∷ 1 ∷ 1 ∷ 3 ∷ 1 ∷ 1 ∷ 7 ∷ 9 ∷ 1 ∷ 0 ∷ 0 ∷ 13 ∷ 1 ∷ 91 ∷ 93 ∷ 8 ∷ 0 ∷ 0 ∷ 0 ∷ 9 ∷ 1 ∷ 0 ∷ 0 ∷ 3 ∷ 0 ∷ 0 ∷ 0 ∷ 0 ∷ 63 ∷ 0 ∷ 0 ∷ 9 ∷ 0 ∷ 0 ∷ 0 ∷ []) (32 ∷ 49 ∷ 32 ∷ 47 ∷ 47 ∷ 32 ∷ 99 ∷ []) 0 1000000 ≡ gives (answer 4 13 0 0 0 0 0) (replicate 12288 7) (replicate 256 7)
+  -- damaged 154
+  v80 : call 12288 256 (0 ∷ 0 ∷ 2 ∷ 2 ∷ 0 ∷ 0 ∷ 1 ∷ 1 ∷ 255 ∷ 35 ∷ 1 ∷ 1 ∷ 7 ∷ 3 ∷ 0 ∷ 0 ∷ 0 ∷ 226 ∷ 0 ∷ 0 ∷ 0 ∷ []) (32 ∷ 49 ∷ 32 ∷ 47 ∷ 47 ∷ 32 ∷ 99 ∷ []) 0 1000000 ≡ gives (answer 6 9 0 0 0 0 0) (replicate 12288 7) (replicate 256 7)
 
 vectors61 : Vectors61
-unfolding classOf leading spanEnd commentAt commentEnd roundEnd rounds skipFrom identifierAt decimal numberOf numberAt same isReserved lookupFrom checked row spelling entry nonterminal variant stepOf step allPass ended whole checkBook outwards govern governor isSome isKind ofKind characterEnd identifierEnd reservedAt freeEnd variableAt tokenAt claimed afterElement closed numbersOf cellsIn identityOf findCell treeIn treesIn meaningOf meanings join beyond joinWith choiceError identifierError tokenError _>>=_ sameParse has allIn kept add addAll ask newest others spend make itemCell withCell withToken nested begin counted variants oneRun roundsRun failedCall runCall runIdentifier stored enter child either follow followed plainNext listNext chosen stops choice listing steps runner run cellNumbers parseNumbers written wholeValues allAre firstHigh byValues ending onBook answerOf
+unfolding classOf leading spanEnd commentAt commentEnd roundEnd rounds skipFrom identifierAt decimal numberOf numberAt same isReserved lookupFrom checked row spelling entry nonterminal variant stepOf step allPass ended whole checkBook outwards govern governor isSome isKind ofKind characterEnd identifierEnd reservedAt freeEnd variableAt tokenAt claimant afterElement closed numbersOf cellsIn identityOf findCell treeIn treesIn meaningOf meanings join beyond joinWith choiceError identifierError tokenError _>>=_ sameParse has allIn kept add addAll ask newest others spend make itemCell failedCall either chosen begin withCell withToken complete counted variants oneRun roundsRun runCall runIdentifier plainNext listNext stops nested reentry enter enterChild follow followed choice listing steps runner run cellNumbers parseNumbers written wholeValues allAre firstHigh byValues atEnd onBook answerOf
 vectors61 = record { v61 = refl; v62 = refl; v63 = refl; v64 = refl; v65 = refl; v66 = refl; v67 = refl; v68 = refl; v69 = refl; v70 = refl; v71 = refl; v72 = refl; v73 = refl; v74 = refl; v75 = refl; v76 = refl; v77 = refl; v78 = refl; v79 = refl; v80 = refl }
 
 record Vectors81 : Type 0 where
-  -- damaged 309
-  v81 : call 12288 256 (2 ∷ 0 ∷ 2 ∷ 105 ∷ 102 ∷ 1 ∷ 3 ∷ 110 ∷ 111 ∷ 116 ∷ 2 ∷ 7 ∷ 1 ∷ 84 ∷ 2 ∷ 1 ∷ 84 ∷ 3 ∷ 1 ∷ 2 ∷ 1 ∷ 2 ∷ 2 ∷ 0 ∷ 4 ∷ 255 ∷ 3 ∷ 2 ∷ 1 ∷ 2 ∷ 1 ∷ 0 ∷ 2 ∷ 255 ∷ 3 ∷ 1 ∷ 1 ∷ 255 ∷ 3 ∷ 3 ∷ 1 ∷ 5 ∷ 8 ∷ 2 ∷ 0 ∷ 0 ∷ 8 ∷ 1 ∷ 0 ∷ 0 ∷ 0 ∷ 129 ∷ 0 ∷ 0 ∷ 4 ∷ 0 ∷ 0 ∷ 0 ∷ 8 ∷ 0 ∷ 0 ∷ 0 ∷ []) (40 ∷ 49 ∷ []) 0 1000000 ≡ gives (answer 6 51 0 0 0 0 0) (replicate 12288 7) (replicate 256 7)
+  -- damaged 177
+  v81 : call 12288 256 (63 ∷ 0 ∷ 2 ∷ 119 ∷ 48 ∷ 1 ∷ 2 ∷ 119 ∷ 49 ∷ 0 ∷ 2 ∷ 119 ∷ 50 ∷ 1 ∷ 2 ∷ 119 ∷ 51 ∷ 0 ∷ 2 ∷ 119 ∷ 52 ∷ 1 ∷ 2 ∷ 119 ∷ 53 ∷ 0 ∷ 2 ∷ 119 ∷ 54 ∷ 1 ∷ 2 ∷ 119 ∷ 55 ∷ 0 ∷ 2 ∷ 119 ∷ 56 ∷ 1 ∷ 2 ∷ 119 ∷ 57 ∷ 0 ∷ 3 ∷ 119 ∷ 49 ∷ 48 ∷ 1 ∷ 3 ∷ 119 ∷ 49 ∷ 49 ∷ 0 ∷ 3 ∷ 119 ∷ 49 ∷ 50 ∷ 1 ∷ 3 ∷ 119 ∷ 49 ∷ 51 ∷ 0 ∷ 3 ∷ 119 ∷ 49 ∷ 52 ∷ 1 ∷ 3 ∷ 119 ∷ 49 ∷ 53 ∷ 0 ∷ 3 ∷ 119 ∷ 49 ∷ 54 ∷ 1 ∷ 3 ∷ 119 ∷ 49 ∷ 55 ∷ 0 ∷ 3 ∷ 119 ∷ 49 ∷ 56 ∷ 1 ∷ 3 ∷ 119 ∷ 49 ∷ 57 ∷ 0 ∷ 3 ∷ 119 ∷ 50 ∷ 48 ∷ 1 ∷ 3 ∷ 119 ∷ 50 ∷ 49 ∷ 0 ∷ 3 ∷ 255 ∷ 119 ∷ 50 ∷ 50 ∷ 1 ∷ 3 ∷ 119 ∷ 50 ∷ 51 ∷ 0 ∷ 3 ∷ 119 ∷ 50 ∷ 52 ∷ 1 ∷ 3 ∷ 119 ∷ 50 ∷ 53 ∷ 0 ∷ 3 ∷ 119 ∷ 50 ∷ 54 ∷ 1 ∷ 3 ∷ 119 ∷ 50 ∷ 55 ∷ 0 ∷ 3 ∷ 119 ∷ 50 ∷ 56 ∷ 1 ∷ 3 ∷ 119 ∷ 50 ∷ 57 ∷ 0 ∷ 3 ∷ 119 ∷ 51 ∷ 48 ∷ 1 ∷ 3 ∷ 119 ∷ 51 ∷ 49 ∷ 0 ∷ 3 ∷ 119 ∷ 51 ∷ 50 ∷ 1 ∷ 3 ∷ 119 ∷ 51 ∷ 51 ∷ 0 ∷ 3 ∷ 119 ∷ 51 ∷ 52 ∷ 1 ∷ 3 ∷ 119 ∷ 51 ∷ 53 ∷ 0 ∷ 3 ∷ 119 ∷ 51 ∷ 54 ∷ 1 ∷ 3 ∷ 119 ∷ 51 ∷ 55 ∷ 0 ∷ 3 ∷ 119 ∷ 51 ∷ 56 ∷ 1 ∷ 3 ∷ 119 ∷ 51 ∷ 57 ∷ 0 ∷ 3 ∷ 119 ∷ 52 ∷ 48 ∷ 1 ∷ 3 ∷ 119 ∷ 52 ∷ 49 ∷ 0 ∷ 3 ∷ 119 ∷ 52 ∷ 50 ∷ 1 ∷ 3 ∷ 119 ∷ 52 ∷ 51 ∷ 0 ∷ 3 ∷ 119 ∷ 52 ∷ 52 ∷ 1 ∷ 3 ∷ 119 ∷ 52 ∷ 53 ∷ 0 ∷ 3 ∷ 119 ∷ 52 ∷ 54 ∷ 1 ∷ 3 ∷ 119 ∷ 52 ∷ 55 ∷ 0 ∷ 3 ∷ 119 ∷ 52 ∷ 56 ∷ 1 ∷ 3 ∷ 119 ∷ 52 ∷ 57 ∷ 0 ∷ 3 ∷ 119 ∷ 53 ∷ 48 ∷ 1 ∷ 3 ∷ 119 ∷ 53 ∷ 49 ∷ 0 ∷ 3 ∷ 119 ∷ 53 ∷ 50 ∷ 1 ∷ 3 ∷ 119 ∷ 53 ∷ 51 ∷ 0 ∷ 3 ∷ 119 ∷ 53 ∷ 52 ∷ 1 ∷ 3 ∷ 119 ∷ 53 ∷ 53 ∷ 0 ∷ 3 ∷ 119 ∷ 53 ∷ 54 ∷ 1 ∷ 3 ∷ 119 ∷ 53 ∷ 55 ∷ 0 ∷ 3 ∷ 119 ∷ 53 ∷ 56 ∷ 1 ∷ 3 ∷ 119 ∷ 53 ∷ 57 ∷ 0 ∷ 3 ∷ 119 ∷ 54 ∷ 48 ∷ 1 ∷ 3 ∷ 119 ∷ 54 ∷ 49 ∷ 0 ∷ 3 ∷ 119 ∷ 54 ∷ 50 ∷ 0 ∷ 1 ∷ 0 ∷ 1 ∷ 1 ∷ 255 ∷ 3 ∷ 1 ∷ 1 ∷ 1 ∷ 3 ∷ 0 ∷ 0 ∷ 0 ∷ []) [] 0 1000000 ≡ gives (answer 5 102 0 0 0 0 0) (replicate 12288 7) (replicate 256 7)
+  -- damaged 203
+  v82 : call 12288 256 (0 ∷ 2 ∷ 7 ∷ 1 ∷ 120 ∷ 0 ∷ 1 ∷ 95 ∷ 2 ∷ 0 ∷ 3 ∷ 1 ∷ 2 ∷ 5 ∷ 0 ∷ 0 ∷ 3 ∷ 1 ∷ 1 ∷ 0 ∷ 0 ∷ 3 ∷ 255 ∷ 3 ∷ 0 ∷ 1 ∷ 1 ∷ 2 ∷ 1 ∷ 1 ∷ 2 ∷ 0 ∷ 1 ∷ 1 ∷ 7 ∷ 8 ∷ 1 ∷ 0 ∷ 0 ∷ 7 ∷ 0 ∷ 0 ∷ 0 ∷ 8 ∷ 0 ∷ 0 ∷ 0 ∷ 9 ∷ 1 ∷ 0 ∷ 0 ∷ 3 ∷ 0 ∷ 0 ∷ 0 ∷ 0 ∷ 59 ∷ 0 ∷ 0 ∷ 9 ∷ 32 ∷ 0 ∷ 0 ∷ []) (49 ∷ 45 ∷ 50 ∷ []) 0 1000000 ≡ gives (answer 6 60 0 0 0 0 0) (replicate 12288 7) (replicate 256 7)
+  -- damaged 221
+  v83 : call 12288 256 (0 ∷ 0 ∷ 33 ∷ 0 ∷ 1 ∷ 0 ∷ 1 ∷ 0 ∷ 1 ∷ 0 ∷ 1 ∷ 0 ∷ 1 ∷ 0 ∷ 1 ∷ 0 ∷ 1 ∷ 0 ∷ 1 ∷ 0 ∷ 1 ∷ 0 ∷ 1 ∷ 0 ∷ 1 ∷ 0 ∷ 1 ∷ 0 ∷ 1 ∷ 0 ∷ 1 ∷ 0 ∷ 1 ∷ 0 ∷ 1 ∷ 0 ∷ 1 ∷ 0 ∷ 1 ∷ 0 ∷ 1 ∷ 0 ∷ 1 ∷ 0 ∷ 1 ∷ 0 ∷ 1 ∷ 0 ∷ 1 ∷ 0 ∷ 1 ∷ 0 ∷ 1 ∷ 0 ∷ 1 ∷ 0 ∷ 1 ∷ 0 ∷ 1 ∷ 0 ∷ 1 ∷ 0 ∷ 1 ∷ 0 ∷ 1 ∷ 0 ∷ 1 ∷ 0 ∷ 1 ∷ 33 ∷ 255 ∷ 3 ∷ 1 ∷ 1 ∷ 255 ∷ 3 ∷ 1 ∷ 1 ∷ 255 ∷ 3 ∷ 1 ∷ 1 ∷ 255 ∷ 3 ∷ 1 ∷ 1 ∷ 255 ∷ 3 ∷ 1 ∷ 1 ∷ 255 ∷ 3 ∷ 1 ∷ 1 ∷ 255 ∷ 3 ∷ 1 ∷ 1 ∷ 255 ∷ 3 ∷ 1 ∷ 1 ∷ 255 ∷ 3 ∷ 1 ∷ 1 ∷ 255 ∷ 3 ∷ 1 ∷ 1 ∷ 255 ∷ 3 ∷ 1 ∷ 1 ∷ 255 ∷ 3 ∷ 1 ∷ 1 ∷ 255 ∷ 3 ∷ 1 ∷ 1 ∷ 255 ∷ 3 ∷ 1 ∷ 1 ∷ 255 ∷ 3 ∷ 1 ∷ 1 ∷ 255 ∷ 3 ∷ 1 ∷ 1 ∷ 255 ∷ 3 ∷ 1 ∷ 1 ∷ 255 ∷ 3 ∷ 1 ∷ 1 ∷ 255 ∷ 3 ∷ 1 ∷ 1 ∷ 255 ∷ 3 ∷ 1 ∷ 1 ∷ 255 ∷ 3 ∷ 1 ∷ 1 ∷ 255 ∷ 3 ∷ 1 ∷ 1 ∷ 255 ∷ 3 ∷ 1 ∷ 1 ∷ 255 ∷ 3 ∷ 1 ∷ 1 ∷ 255 ∷ 3 ∷ 1 ∷ 1 ∷ 255 ∷ 3 ∷ 1 ∷ 1 ∷ 255 ∷ 3 ∷ 1 ∷ 1 ∷ 255 ∷ 3 ∷ 1 ∷ 1 ∷ 255 ∷ 3 ∷ 1 ∷ 1 ∷ 255 ∷ 3 ∷ 1 ∷ 1 ∷ 255 ∷ 3 ∷ 1 ∷ 1 ∷ 255 ∷ 3 ∷ 1 ∷ 1 ∷ 255 ∷ 3 ∷ 1 ∷ 1 ∷ 33 ∷ 8 ∷ 1 ∷ 0 ∷ 0 ∷ 8 ∷ 2 ∷ 0 ∷ 0 ∷ 8 ∷ 3 ∷ 0 ∷ 0 ∷ 8 ∷ 4 ∷ 0 ∷ 0 ∷ 8 ∷ 5 ∷ 0 ∷ 0 ∷ 8 ∷ 6 ∷ 0 ∷ 0 ∷ 8 ∷ 7 ∷ 0 ∷ 0 ∷ 8 ∷ 8 ∷ 0 ∷ 0 ∷ 8 ∷ 9 ∷ 0 ∷ 0 ∷ 8 ∷ 10 ∷ 0 ∷ 0 ∷ 8 ∷ 11 ∷ 0 ∷ 0 ∷ 8 ∷ 12 ∷ 0 ∷ 0 ∷ 8 ∷ 13 ∷ 0 ∷ 0 ∷ 8 ∷ 14 ∷ 0 ∷ 0 ∷ 8 ∷ 15 ∷ 0 ∷ 0 ∷ 8 ∷ 16 ∷ 0 ∷ 0 ∷ 8 ∷ 17 ∷ 0 ∷ 0 ∷ 8 ∷ 18 ∷ 0 ∷ 0 ∷ 8 ∷ 19 ∷ 0 ∷ 0 ∷ 8 ∷ 20 ∷ 0 ∷ 0 ∷ 8 ∷ 21 ∷ 0 ∷ 0 ∷ 8 ∷ 22 ∷ 0 ∷ 0 ∷ 8 ∷ 23 ∷ 0 ∷ 0 ∷ 8 ∷ 24 ∷ 0 ∷ 0 ∷ 8 ∷ 25 ∷ 0 ∷ 0 ∷ 8 ∷ 26 ∷ 0 ∷ 0 ∷ 8 ∷ 27 ∷ 0 ∷ 0 ∷ 8 ∷ 28 ∷ 0 ∷ 0 ∷ 8 ∷ 29 ∷ 0 ∷ 0 ∷ 8 ∷ 30 ∷ 0 ∷ 0 ∷ 8 ∷ 0 ∷ 0 ∷ 0 ∷ 8 ∷ 1 ∷ 0 ∷ 0 ∷ 8 ∷ 2 ∷ 0 ∷ 0 ∷ []) (49 ∷ 45 ∷ 50 ∷ []) 0 1000000 ≡ gives (answer 4 2 0 0 0 0 0) (replicate 12288 7) (replicate 256 7)
+  -- damaged 239
+  v84 : call 12288 256 (2 ∷ 1 ∷ 2 ∷ 87 ∷ 49 ∷ 1 ∷ 2 ∷ 102 ∷ 110 ∷ 2 ∷ 2 ∷ 1 ∷ 97 ∷ 0 ∷ 1 ∷ 95 ∷ 2 ∷ 0 ∷ 3 ∷ 0 ∷ 2 ∷ 5 ∷ 1 ∷ 2 ∷ 1 ∷ 3 ∷ 1 ∷ 1 ∷ 1 ∷ 3 ∷ 2 ∷ 1 ∷ 0 ∷ 2 ∷ 1 ∷ 0 ∷ 0 ∷ 1 ∷ 1 ∷ 0 ∷ 0 ∷ 1 ∷ 10 ∷ 6 ∷ 0 ∷ 0 ∷ 0 ∷ 10 ∷ 1 ∷ 0 ∷ 0 ∷ 8 ∷ 1 ∷ 0 ∷ 0 ∷ 0 ∷ 44 ∷ 0 ∷ 0 ∷ 10 ∷ 1 ∷ 0 ∷ 90 ∷ 8 ∷ 1 ∷ 0 ∷ 0 ∷ 6 ∷ 0 ∷ 0 ∷ 0 ∷ 2 ∷ 0 ∷ 0 ∷ 0 ∷ 0 ∷ 47 ∷ 0 ∷ 0 ∷ 9 ∷ 0 ∷ 0 ∷ 0 ∷ []) (49 ∷ []) 0 1000000 ≡ gives (answer 6 62 0 0 0 0 0) (replicate 12288 7) (replicate 256 7)
+  -- damaged 259
+  v85 : call 12288 256 (2 ∷ 0 ∷ 2 ∷ 105 ∷ 110 ∷ 1 ∷ 1 ∷ 120 ∷ 0 ∷ 2 ∷ 0 ∷ 3 ∷ 0 ∷ 3 ∷ 6 ∷ 1 ∷ 1 ∷ 1 ∷ 1 ∷ 3 ∷ 0 ∷ 1 ∷ 1 ∷ 3 ∷ 1 ∷ 4 ∷ 2 ∷ 1 ∷ 3 ∷ 1 ∷ 2 ∷ 1 ∷ 1 ∷ 2 ∷ 3 ∷ 0 ∷ 1 ∷ 1 ∷ 11 ∷ 8 ∷ 0 ∷ 0 ∷ 0 ∷ 8 ∷ 0 ∷ 0 ∷ 0 ∷ 3 ∷ 0 ∷ 0 ∷ 0 ∷ 8 ∷ 0 ∷ 0 ∷ 0 ∷ 0 ∷ 45 ∷ 0 ∷ 0 ∷ 8 ∷ 0 ∷ 0 ∷ 0 ∷ 0 ∷ 45 ∷ 0 ∷ 0 ∷ 8 ∷ 0 ∷ 0 ∷ 0 ∷ 8 ∷ 0 ∷ 0 ∷ 0 ∷ 0 ∷ 45 ∷ 0 ∷ 0 ∷ 3 ∷ 0 ∷ 0 ∷ 0 ∷ []) (40 ∷ 49 ∷ []) 32 1000000 ≡ gives (answer 6 25 0 0 0 0 0) (replicate 12288 7) (replicate 256 7)
+  -- damaged 281
+  v86 : call 12288 256 (2 ∷ 0 ∷ 3 ∷ 108 ∷ 101 ∷ 116 ∷ 0 ∷ 2 ∷ 102 ∷ 110 ∷ 2 ∷ 0 ∷ 2 ∷ 105 ∷ 110 ∷ 2 ∷ 2 ∷ 118 ∷ 49 ∷ 3 ∷ 1 ∷ 2 ∷ 1 ∷ 3 ∷ 0 ∷ 4 ∷ 9 ∷ 255 ∷ 3 ∷ 1 ∷ 1 ∷ 2 ∷ 2 ∷ 1 ∷ 4 ∷ 255 ∷ 3 ∷ 1 ∷ 1 ∷ 255 ∷ 3 ∷ 1 ∷ 1 ∷ 255 ∷ 3 ∷ 0 ∷ 2 ∷ 1 ∷ 0 ∷ 1 ∷ 1 ∷ 1 ∷ 3 ∷ 0 ∷ 3 ∷ 2 ∷ 3 ∷ 3 ∷ 1 ∷ 255 ∷ 3 ∷ 0 ∷ 1 ∷ 15 ∷ 3 ∷ 0 ∷ 0 ∷ 0 ∷ 8 ∷ 0 ∷ 0 ∷ 0 ∷ 0 ∷ 126 ∷ 0 ∷ 0 ∷ 8 ∷ 0 ∷ 0 ∷ 0 ∷ 0 ∷ 44 ∷ 0 ∷ 0 ∷ 2 ∷ 0 ∷ 0 ∷ 0 ∷ 3 ∷ 0 ∷ 0 ∷ 0 ∷ 8 ∷ 1 ∷ 0 ∷ 0 ∷ 8 ∷ 1 ∷ 0 ∷ 0 ∷ 4 ∷ 0 ∷ 0 ∷ 0 ∷ 8 ∷ 2 ∷ 0 ∷ 0 ∷ 0 ∷ 58 ∷ 255 ∷ 0 ∷ 0 ∷ 8 ∷ 2 ∷ 0 ∷ 0 ∷ 8 ∷ 2 ∷ 0 ∷ 64 ∷ 5 ∷ 6 ∷ 0 ∷ 0 ∷ 0 ∷ []) (40 ∷ 49 ∷ []) 0 1000000 ≡ gives (answer 6 110 0 0 0 0 0) (replicate 12288 7) (replicate 256 7)
+  -- damaged 307
+  v87 : call 12288 256 (0 ∷ 0 ∷ 2 ∷ 0 ∷ 3 ∷ 0 ∷ 2 ∷ 5 ∷ 1 ∷ 1 ∷ 0 ∷ 3 ∷ 2 ∷ 3 ∷ 0 ∷ 2 ∷ 255 ∷ 3 ∷ 1 ∷ 1 ∷ 1 ∷ 3 ∷ 3 ∷ 1 ∷ 1 ∷ 0 ∷ 1 ∷ 3 ∷ 10 ∷ 8 ∷ 0 ∷ 0 ∷ 0 ∷ 0 ∷ 44 ∷ 0 ∷ 0 ∷ 8 ∷ 0 ∷ 0 ∷ 0 ∷ 8 ∷ 0 ∷ 0 ∷ 0 ∷ 0 ∷ 44 ∷ 0 ∷ 0 ∷ 3 ∷ 0 ∷ 1 ∷ 0 ∷ 0 ∷ 8 ∷ 0 ∷ 0 ∷ 0 ∷ 0 ∷ 60 ∷ 0 ∷ 0 ∷ 8 ∷ 0 ∷ 0 ∷ 0 ∷ 0 ∷ 62 ∷ 0 ∷ 0 ∷ []) (40 ∷ 49 ∷ []) 0 1000000 ≡ gives (answer 6 51 0 0 0 0 0) (replicate 12288 7) (replicate 256 7)
   -- damaged 328
-  v82 : call 12288 256 (0 ∷ 0 ∷ 2 ∷ 0 ∷ 4 ∷ 0 ∷ 2 ∷ 6 ∷ 2 ∷ 1 ∷ 1 ∷ 2 ∷ 0 ∷ 3 ∷ 1 ∷ 3 ∷ 1 ∷ 3 ∷ 0 ∷ 3 ∷ 255 ∷ 3 ∷ 1 ∷ 1 ∷ 0 ∷ 1 ∷ 1 ∷ 2 ∷ 1 ∷ 1 ∷ 3 ∷ []) (32 ∷ 49 ∷ 32 ∷ 47 ∷ 47 ∷ 32 ∷ 99 ∷ []) 0 0 ≡ gives (answer 2 0 0 0 0 0 0) (replicate 12288 7) (replicate 256 7)
-  -- damaged 350
-  v83 : call 12288 256 (1 ∷ 0 ∷ 1 ∷ 95 ∷ 1 ∷ 2 ∷ 1 ∷ 121 ∷ 2 ∷ 0 ∷ 3 ∷ 0 ∷ 1 ∷ 4 ∷ 2 ∷ 2 ∷ 1 ∷ 1 ∷ 0 ∷ 0 ∷ 1 ∷ 2 ∷ 1 ∷ 0 ∷ 1 ∷ 4 ∷ 255 ∷ 3 ∷ 1 ∷ 1 ∷ 8 ∷ 3 ∷ 0 ∷ 0 ∷ 0 ∷ 9 ∷ 1 ∷ 0 ∷ 0 ∷ 8 ∷ 0 ∷ 0 ∷ 0 ∷ 9 ∷ 1 ∷ 0 ∷ 0 ∷ 10 ∷ 1 ∷ 0 ∷ 0 ∷ 8 ∷ 0 ∷ 0 ∷ 0 ∷ 0 ∷ 37 ∷ 0 ∷ 0 ∷ 0 ∷ 94 ∷ 0 ∷ 0 ∷ 0 ∷ []) (49 ∷ 120 ∷ 32 ∷ 32 ∷ 45 ∷ []) 0 1000000 ≡ gives (answer 8 63 0 0 0 0 0) (replicate 12288 7) (replicate 256 7)
-  -- damaged 371
-  v84 : call 12288 256 (2 ∷ 0 ∷ 2 ∷ 105 ∷ 110 ∷ 1 ∷ 1 ∷ 120 ∷ 2 ∷ 0 ∷ 1 ∷ 84 ∷ 1 ∷ 2 ∷ 105 ∷ 102 ∷ 1 ∷ 0 ∷ 3 ∷ 3 ∷ 255 ∷ 3 ∷ 0 ∷ 1 ∷ 0 ∷ 1 ∷ 0 ∷ 3 ∷ 2 ∷ 0 ∷ 0 ∷ 3 ∷ 7 ∷ 3 ∷ 0 ∷ 0 ∷ 0 ∷ 8 ∷ 0 ∷ 0 ∷ 0 ∷ 0 ∷ 47 ∷ 0 ∷ 0 ∷ 8 ∷ 0 ∷ 0 ∷ 0 ∷ 9 ∷ 0 ∷ 0 ∷ 0 ∷ 0 ∷ 33 ∷ 0 ∷ 15 ∷ 8 ∷ 0 ∷ 0 ∷ 0 ∷ []) (120 ∷ []) 0 1000001 ≡ gives (answer 2 0 0 0 0 0 0) (replicate 12288 7) (replicate 256 7)
-  -- damaged 391
-  v85 : call 12288 256 (0 ∷ 0 ∷ 2 ∷ 2 ∷ 0 ∷ 0 ∷ 1 ∷ 1 ∷ 255 ∷ 3 ∷ 1 ∷ 96 ∷ 1 ∷ 3 ∷ 0 ∷ 0 ∷ 0 ∷ []) (32 ∷ 49 ∷ 32 ∷ 47 ∷ 47 ∷ 32 ∷ 99 ∷ []) 0 1000000 ≡ gives (answer 6 11 0 0 0 0 0) (replicate 12288 7) (replicate 256 7)
-  -- damaged 412
-  v86 : call 12288 256 (3 ∷ 0 ∷ 3 ∷ 108 ∷ 101 ∷ 116 ∷ 0 ∷ 2 ∷ 105 ∷ 102 ∷ 0 ∷ 2 ∷ 105 ∷ 110 ∷ 3 ∷ 0 ∷ 2 ∷ 105 ∷ 102 ∷ 1 ∷ 1 ∷ 95 ∷ 0 ∷ 1 ∷ 97 ∷ 2 ∷ 0 ∷ 3 ∷ 0 ∷ 3 ∷ 6 ∷ 3 ∷ 0 ∷ 1 ∷ 3 ∷ 255 ∷ 3 ∷ 0 ∷ 2 ∷ 2 ∷ 0 ∷ 1 ∷ 1 ∷ 255 ∷ 3 ∷ 1 ∷ 1 ∷ 1 ∷ 0 ∷ 1 ∷ 1 ∷ 2 ∷ 1 ∷ 0 ∷ 64 ∷ 9 ∷ 13 ∷ 1 ∷ 91 ∷ 93 ∷ 13 ∷ 0 ∷ 91 ∷ 93 ∷ 13 ∷ 1 ∷ 91 ∷ 93 ∷ 13 ∷ 1 ∷ 91 ∷ 93 ∷ 13 ∷ 1 ∷ 91 ∷ 93 ∷ 1 ∷ 1 ∷ 0 ∷ 0 ∷ 1 ∷ 1 ∷ 0 ∷ 0 ∷ 0 ∷ 58 ∷ 0 ∷ 0 ∷ 2 ∷ 0 ∷ 0 ∷ 0 ∷ []) (120 ∷ []) 0 1000000 ≡ gives (answer 6 54 0 0 0 0 0) (replicate 12288 7) (replicate 256 7)
-  -- damaged 433
-  v87 : call 12288 256 (2 ∷ 0 ∷ 1 ∷ 95 ∷ 1 ∷ 1 ∷ 97 ∷ 2 ∷ 0 ∷ 2 ∷ 105 ∷ 110 ∷ 7 ∷ 1 ∷ 97 ∷ 3 ∷ 1 ∷ 2 ∷ 0 ∷ 3 ∷ 2 ∷ 0 ∷ 5 ∷ 1 ∷ 2 ∷ 1 ∷ 2 ∷ 3 ∷ 1 ∷ 1 ∷ 1 ∷ 1 ∷ 0 ∷ 1 ∷ 1 ∷ 2 ∷ 1 ∷ 0 ∷ 1 ∷ 1 ∷ 2 ∷ 1 ∷ 3 ∷ 8 ∷ 6 ∷ 0 ∷ 0 ∷ 0 ∷ 2 ∷ 0 ∷ 0 ∷ 0 ∷ 8 ∷ 2 ∷ 0 ∷ 0 ∷ 13 ∷ 2 ∷ 60 ∷ 62 ∷ 13 ∷ 2 ∷ 60 ∷ 62 ∷ 0 ∷ 60 ∷ 0 ∷ 0 ∷ 8 ∷ 255 ∷ 0 ∷ 0 ∷ 0 ∷ 62 ∷ 0 ∷ 0 ∷ []) (120 ∷ []) 0 1000000 ≡ gives (answer 6 69 0 0 0 0 0) (replicate 12288 7) (replicate 256 7)
-  -- damaged 452
-  v88 : call 12288 256 (2 ∷ 0 ∷ 1 ∷ 97 ∷ 1 ∷ 3 ∷ 126 ∷ 111 ∷ 116 ∷ 2 ∷ 1 ∷ 1 ∷ 98 ∷ 0 ∷ 1 ∷ 84 ∷ 1 ∷ 1 ∷ 4 ∷ 4 ∷ 255 ∷ 3 ∷ 1 ∷ 1 ∷ 1 ∷ 3 ∷ 0 ∷ 3 ∷ 2 ∷ 2 ∷ 1 ∷ 3 ∷ 0 ∷ 0 ∷ 1 ∷ 3 ∷ 10 ∷ 3 ∷ 0 ∷ 0 ∷ 0 ∷ 8 ∷ 0 ∷ 0 ∷ 0 ∷ 0 ∷ 35 ∷ 0 ∷ 0 ∷ 8 ∷ 0 ∷ 0 ∷ 0 ∷ 9 ∷ 0 ∷ 0 ∷ 0 ∷ 0 ∷ 35 ∷ 0 ∷ 0 ∷ 8 ∷ 0 ∷ 0 ∷ 0 ∷ 9 ∷ 0 ∷ 1 ∷ 0 ∷ 0 ∷ 35 ∷ 0 ∷ 0 ∷ 8 ∷ 0 ∷ 0 ∷ 0 ∷ 0 ∷ 0 ∷ []) (32 ∷ 49 ∷ 32 ∷ 47 ∷ 47 ∷ 32 ∷ 99 ∷ []) 0 1000000 ≡ gives (answer 5 5 0 0 0 0 0) (replicate 12288 7) (replicate 256 7)
-  -- damaged 472
-  v89 : call 12288 256 (1 ∷ 0 ∷ 1 ∷ 97 ∷ 0 ∷ 2 ∷ 0 ∷ 3 ∷ 0 ∷ 3 ∷ 6 ∷ 0 ∷ 0 ∷ 1 ∷ 2 ∷ 255 ∷ 3 ∷ 1 ∷ 1 ∷ 1 ∷ 1 ∷ 0 ∷ 3 ∷ 3 ∷ 2 ∷ 1 ∷ 3 ∷ 1 ∷ 1 ∷ 2 ∷ 1 ∷ 1 ∷ 1 ∷ 0 ∷ 2 ∷ 12 ∷ 8 ∷ 0 ∷ 0 ∷ 0 ∷ 8 ∷ 1 ∷ 0 ∷ 0 ∷ 3 ∷ 3 ∷ 0 ∷ 0 ∷ 0 ∷ 8 ∷ 1 ∷ 0 ∷ 0 ∷ 0 ∷ 61 ∷ 0 ∷ 0 ∷ 8 ∷ 1 ∷ 0 ∷ 0 ∷ 0 ∷ 40 ∷ 0 ∷ 0 ∷ 8 ∷ 0 ∷ 0 ∷ 0 ∷ 0 ∷ 41 ∷ 0 ∷ 1 ∷ 8 ∷ 1 ∷ 0 ∷ 0 ∷ 8 ∷ 1 ∷ 0 ∷ 0 ∷ 0 ∷ 61 ∷ 0 ∷ 0 ∷ 0 ∷ []) (49 ∷ []) 0 1000000 ≡ gives (answer 6 45 0 0 0 0 0) (replicate 12288 7) (replicate 256 7)
-  -- damaged 490
-  v90 : call 12288 256 (3 ∷ 1 ∷ 2 ∷ 105 ∷ 110 ∷ 1 ∷ 2 ∷ 100 ∷ 111 ∷ 0 ∷ 2 ∷ 102 ∷ 110 ∷ 0 ∷ 2 ∷ 1 ∷ 3 ∷ 2 ∷ 0 ∷ 3 ∷ 1 ∷ 3 ∷ 3 ∷ 1 ∷ 2 ∷ 0 ∷ 1 ∷ 1 ∷ 1 ∷ 1 ∷ 1 ∷ 3 ∷ 5 ∷ 8 ∷ 1 ∷ 0 ∷ 0 ∷ 4 ∷ 0 ∷ 0 ∷ 0 ∷ 0 ∷ 33 ∷ 91 ∷ 0 ∷ 0 ∷ 8 ∷ 17 ∷ 0 ∷ 0 ∷ 0 ∷ 93 ∷ 0 ∷ 0 ∷ []) (32 ∷ 49 ∷ 32 ∷ 47 ∷ 47 ∷ 32 ∷ 99 ∷ []) 0 1000000 ≡ gives (answer 6 43 0 0 0 0 0) (replicate 12288 7) (replicate 256 7)
-  -- damaged 512
-  v91 : call 12288 256 (1 ∷ 1 ∷ 3 ∷ 110 ∷ 111 ∷ 116 ∷ 2 ∷ 2 ∷ 2 ∷ 105 ∷ 110 ∷ 2 ∷ 2 ∷ 118 ∷ 49 ∷ 3 ∷ 1 ∷ 3 ∷ 2 ∷ 0 ∷ 0 ∷ 3 ∷ 6 ∷ 1 ∷ 1 ∷ 0 ∷ 2 ∷ 3 ∷ 1 ∷ 1 ∷ 2 ∷ 255 ∷ 3 ∷ 0 ∷ 1 ∷ 255 ∷ 3 ∷ 1 ∷ 1 ∷ 1 ∷ 1 ∷ 0 ∷ 2 ∷ 0 ∷ 1 ∷ 3 ∷ 1 ∷ 9 ∷ 6 ∷ 0 ∷ 0 ∷ 0 ∷ 2 ∷ 0 ∷ 0 ∷ 0 ∷ 8 ∷ 0 ∷ 0 ∷ 0 ∷ 8 ∷ 0 ∷ 0 ∷ 0 ∷ 0 ∷ 61 ∷ 0 ∷ 0 ∷ 0 ∷ 59 ∷ 0 ∷ 0 ∷ 3 ∷ 0 ∷ 0 ∷ 0 ∷ 3 ∷ 0 ∷ 0 ∷ 0 ∷ 8 ∷ 2 ∷ 0 ∷ 0 ∷ 201 ∷ []) (120 ∷ []) 32 1000000 ≡ gives (answer 8 84 0 0 0 0 0) (replicate 12288 7) (replicate 256 7)
-  -- damaged 532
-  v92 : call 12288 256 (0 ∷ 0 ∷ 2 ∷ 2 ∷ 0 ∷ 0 ∷ 1 ∷ 1 ∷ 255 ∷ 3 ∷ 1 ∷ 1 ∷ 1 ∷ 3 ∷ 0 ∷ 0 ∷ 0 ∷ []) (120 ∷ 32 ∷ 255 ∷ 32 ∷ []) 0 1000000 ≡ gives (answer 11 2 0 0 0 0 0) (replicate 12288 7) (replicate 256 7)
-  -- damaged 554
-  v93 : call 12288 256 (2 ∷ 0 ∷ 2 ∷ 100 ∷ 111 ∷ 0 ∷ 2 ∷ 87 ∷ 49 ∷ 1 ∷ 7 ∷ 2 ∷ 105 ∷ 102 ∷ 2 ∷ 0 ∷ 2 ∷ 0 ∷ 3 ∷ 5 ∷ 1 ∷ 0 ∷ 1 ∷ 2 ∷ 255 ∷ 3 ∷ 0 ∷ 2 ∷ 1 ∷ 1 ∷ 1 ∷ 14 ∷ 255 ∷ 3 ∷ 1 ∷ 2 ∷ 1 ∷ 3 ∷ 1 ∷ 0 ∷ 7 ∷ 13 ∷ 1 ∷ 40 ∷ 41 ∷ 0 ∷ 44 ∷ 0 ∷ 0 ∷ 13 ∷ 0 ∷ 40 ∷ 41 ∷ 6 ∷ 0 ∷ 0 ∷ 0 ∷ 0 ∷ 61 ∷ 0 ∷ 0 ∷ 8 ∷ 1 ∷ 0 ∷ 0 ∷ 0 ∷ 35 ∷ 0 ∷ 0 ∷ []) (32 ∷ 49 ∷ 32 ∷ 47 ∷ 47 ∷ 32 ∷ 99 ∷ []) 0 1000000 ≡ gives (answer 6 31 0 0 0 0 0) (replicate 12288 7) (replicate 256 7)
-  -- damaged 576
-  v94 : call 12288 256 (3 ∷ 0 ∷ 1 ∷ 120 ∷ 0 ∷ 3 ∷ 110 ∷ 111 ∷ 116 ∷ 1 ∷ 3 ∷ 108 ∷ 101 ∷ 116 ∷ 1 ∷ 0 ∷ 1 ∷ 98 ∷ 2 ∷ 0 ∷ 3 ∷ 0 ∷ 2 ∷ 5 ∷ 255 ∷ 3 ∷ 0 ∷ 1 ∷ 1 ∷ 3 ∷ 2 ∷ 1 ∷ 1 ∷ 2 ∷ 0 ∷ 4 ∷ 1 ∷ 1 ∷ 1 ∷ 2 ∷ 1 ∷ 0 ∷ 3 ∷ 1 ∷ 9 ∷ 3 ∷ 0 ∷ 0 ∷ 0 ∷ 14 ∷ 0 ∷ 0 ∷ 0 ∷ 8 ∷ 0 ∷ 0 ∷ 0 ∷ 0 ∷ 33 ∷ 0 ∷ 0 ∷ 8 ∷ 0 ∷ 0 ∷ 0 ∷ 0 ∷ 38 ∷ 0 ∷ 0 ∷ 8 ∷ 0 ∷ 0 ∷ 0 ∷ 0 ∷ 33 ∷ 0 ∷ 0 ∷ 8 ∷ 0 ∷ 0 ∷ 0 ∷ []) [] 0 1000000 ≡ gives (answer 6 49 0 0 0 0 0) (replicate 12288 7) (replicate 256 7)
-  -- damaged 595
-  v95 : call 12288 256 (13 ∷ 1 ∷ 2 ∷ 105 ∷ 110 ∷ 0 ∷ 2 ∷ 105 ∷ 102 ∷ 3 ∷ 7 ∷ 2 ∷ 105 ∷ 110 ∷ 0 ∷ 1 ∷ 98 ∷ 2 ∷ 2 ∷ 105 ∷ 110 ∷ 2 ∷ 0 ∷ 3 ∷ 0 ∷ 2 ∷ 5 ∷ 1 ∷ 1 ∷ 1 ∷ 3 ∷ 1 ∷ 2 ∷ 1 ∷ 4 ∷ 2 ∷ 2 ∷ 1 ∷ 1 ∷ 0 ∷ 3 ∷ 1 ∷ 1 ∷ 2 ∷ 0 ∷ 1 ∷ 1 ∷ 10 ∷ 8 ∷ 1 ∷ 0 ∷ 0 ∷ 9 ∷ 0 ∷ 0 ∷ 0 ∷ 8 ∷ 0 ∷ 0 ∷ 0 ∷ 13 ∷ 1 ∷ 40 ∷ 41 ∷ 9 ∷ 0 ∷ 0 ∷ 0 ∷ 8 ∷ 0 ∷ 0 ∷ 0 ∷ 9 ∷ 1 ∷ 0 ∷ 0 ∷ 3 ∷ 0 ∷ 0 ∷ 0 ∷ 0 ∷ 43 ∷ 0 ∷ 0 ∷ 9 ∷ 0 ∷ 0 ∷ 0 ∷ []) (49 ∷ []) 0 1000000 ≡ gives (answer 6 9 0 0 0 0 0) (replicate 12288 7) (replicate 256 7)
-  -- damaged 614
-  v96 : call 12288 256 (0 ∷ 0 ∷ 1 ∷ 0 ∷ 15 ∷ 15 ∷ 1 ∷ 0 ∷ 1 ∷ 1 ∷ 1 ∷ 0 ∷ 1 ∷ 1 ∷ 1 ∷ 0 ∷ 1 ∷ 1 ∷ 1 ∷ 0 ∷ 1 ∷ 1 ∷ 1 ∷ 0 ∷ 1 ∷ 1 ∷ 1 ∷ 0 ∷ 1 ∷ 1 ∷ 1 ∷ 0 ∷ 1 ∷ 1 ∷ 1 ∷ 0 ∷ 1 ∷ 1 ∷ 1 ∷ 0 ∷ 1 ∷ 1 ∷ 1 ∷ 0 ∷ 1 ∷ 1 ∷ 1 ∷ 0 ∷ 1 ∷ 1 ∷ 1 ∷ 0 ∷ 1 ∷ 1 ∷ 1 ∷ 0 ∷ 1 ∷ 1 ∷ 1 ∷ 0 ∷ 1 ∷ 1 ∷ 1 ∷ 0 ∷ 1 ∷ 1 ∷ 15 ∷ 3 ∷ 0 ∷ 0 ∷ 0 ∷ 3 ∷ 0 ∷ 0 ∷ 0 ∷ 3 ∷ 0 ∷ 0 ∷ 0 ∷ 3 ∷ 0 ∷ 0 ∷ 0 ∷ 3 ∷ 0 ∷ 0 ∷ 0 ∷ 3 ∷ 0 ∷ 0 ∷ 0 ∷ 3 ∷ 0 ∷ 0 ∷ 0 ∷ 3 ∷ 0 ∷ 0 ∷ 0 ∷ 3 ∷ 0 ∷ 0 ∷ 0 ∷ 3 ∷ 0 ∷ 0 ∷ 0 ∷ 3 ∷ 0 ∷ 0 ∷ 0 ∷ 3 ∷ 0 ∷ 0 ∷ 0 ∷ []) (49 ∷ 45 ∷ 50 ∷ []) 0 0 ≡ gives (answer 2 0 0 0 0 0 0) (replicate 12288 7) (replicate 256 7)
-  -- damaged 631
-  v97 : call 12288 256 (0 ∷ 65 ∷ 0 ∷ 2 ∷ 119 ∷ 48 ∷ 1 ∷ 2 ∷ 119 ∷ 49 ∷ 2 ∷ 2 ∷ 119 ∷ 50 ∷ 3 ∷ 2 ∷ 119 ∷ 51 ∷ 4 ∷ 2 ∷ 119 ∷ 52 ∷ 5 ∷ 2 ∷ 119 ∷ 53 ∷ 6 ∷ 2 ∷ 119 ∷ 54 ∷ 7 ∷ 2 ∷ 119 ∷ 55 ∷ 0 ∷ 2 ∷ 119 ∷ 56 ∷ 1 ∷ 2 ∷ 119 ∷ 57 ∷ 2 ∷ 3 ∷ 119 ∷ 49 ∷ 48 ∷ 3 ∷ 3 ∷ 119 ∷ 49 ∷ 49 ∷ 4 ∷ 3 ∷ 119 ∷ 49 ∷ 50 ∷ 5 ∷ 3 ∷ 119 ∷ 49 ∷ 51 ∷ 6 ∷ 3 ∷ 119 ∷ 49 ∷ 52 ∷ 7 ∷ 3 ∷ 119 ∷ 49 ∷ 53 ∷ 0 ∷ 3 ∷ 119 ∷ 49 ∷ 54 ∷ 1 ∷ 3 ∷ 119 ∷ 49 ∷ 55 ∷ 2 ∷ 3 ∷ 119 ∷ 49 ∷ 56 ∷ 3 ∷ 3 ∷ 119 ∷ 49 ∷ 57 ∷ 4 ∷ 3 ∷ 119 ∷ 50 ∷ 48 ∷ 5 ∷ 3 ∷ 119 ∷ 50 ∷ 49 ∷ 6 ∷ 3 ∷ 119 ∷ 50 ∷ 50 ∷ 7 ∷ 3 ∷ 119 ∷ 50 ∷ 51 ∷ 0 ∷ 3 ∷ 119 ∷ 50 ∷ 52 ∷ 1 ∷ 3 ∷ 119 ∷ 50 ∷ 53 ∷ 2 ∷ 3 ∷ 119 ∷ 50 ∷ 54 ∷ 3 ∷ 3 ∷ 119 ∷ 50 ∷ 55 ∷ 4 ∷ 3 ∷ 119 ∷ 50 ∷ 56 ∷ 5 ∷ 3 ∷ 119 ∷ 50 ∷ 57 ∷ 6 ∷ 3 ∷ 119 ∷ 51 ∷ 48 ∷ 7 ∷ 3 ∷ 119 ∷ 51 ∷ 49 ∷ 0 ∷ 3 ∷ 119 ∷ 51 ∷ 50 ∷ 1 ∷ 3 ∷ 119 ∷ 51 ∷ 51 ∷ 2 ∷ 3 ∷ 119 ∷ 51 ∷ 52 ∷ 3 ∷ 3 ∷ 119 ∷ 51 ∷ 53 ∷ 4 ∷ 3 ∷ 119 ∷ 51 ∷ 54 ∷ 5 ∷ 3 ∷ 119 ∷ 51 ∷ 55 ∷ 6 ∷ 3 ∷ 119 ∷ 51 ∷ 56 ∷ 7 ∷ 3 ∷ 119 ∷ 51 ∷ 57 ∷ 0 ∷ 3 ∷ 119 ∷ 52 ∷ 48 ∷ 1 ∷ 3 ∷ 119 ∷ 52 ∷ 49 ∷ 2 ∷ 3 ∷ 119 ∷ 52 ∷ 50 ∷ 3 ∷ 3 ∷ 119 ∷ 52 ∷ 51 ∷ 4 ∷ 3 ∷ 119 ∷ 52 ∷ 52 ∷ 5 ∷ 3 ∷ 119 ∷ 52 ∷ 53 ∷ 6 ∷ 3 ∷ 119 ∷ 52 ∷ 54 ∷ 7 ∷ 3 ∷ 119 ∷ 52 ∷ 55 ∷ 0 ∷ 3 ∷ 119 ∷ 52 ∷ 56 ∷ 1 ∷ 3 ∷ 119 ∷ 52 ∷ 57 ∷ 2 ∷ 3 ∷ 119 ∷ 53 ∷ 48 ∷ 3 ∷ 3 ∷ 119 ∷ 53 ∷ 49 ∷ 4 ∷ 3 ∷ 119 ∷ 53 ∷ 50 ∷ 5 ∷ 3 ∷ 119 ∷ 53 ∷ 51 ∷ 6 ∷ 3 ∷ 119 ∷ 53 ∷ 52 ∷ 7 ∷ 3 ∷ 119 ∷ 53 ∷ 53 ∷ 0 ∷ 3 ∷ 119 ∷ 53 ∷ 54 ∷ 1 ∷ 3 ∷ 119 ∷ 53 ∷ 55 ∷ 2 ∷ 3 ∷ 119 ∷ 53 ∷ 56 ∷ 3 ∷ 3 ∷ 119 ∷ 53 ∷ 57 ∷ 4 ∷ 3 ∷ 119 ∷ 54 ∷ 48 ∷ 5 ∷ 3 ∷ 119 ∷ 54 ∷ 49 ∷ 6 ∷ 3 ∷ 119 ∷ 54 ∷ 50 ∷ 7 ∷ 3 ∷ 119 ∷ 54 ∷ 51 ∷ 0 ∷ 3 ∷ 119 ∷ 54 ∷ 52 ∷ 1 ∷ 0 ∷ 1 ∷ 1 ∷ 255 ∷ 3 ∷ 1 ∷ 1 ∷ 1 ∷ 3 ∷ 0 ∷ 0 ∷ 0 ∷ []) (40 ∷ 49 ∷ []) 0 1000000 ≡ gives (answer 4 1 0 0 0 0 0) (replicate 12288 7) (replicate 256 7)
-  -- damaged 654
-  v98 : call 12288 256 (0 ∷ 0 ∷ 1 ∷ 0 ∷ 1 ∷ 1 ∷ 255 ∷ 3 ∷ 1 ∷ 1 ∷ 1 ∷ 13 ∷ 1 ∷ 40 ∷ 41 ∷ []) (49 ∷ 45 ∷ 50 ∷ []) 0 1000000 ≡ gives (answer 6 12 0 0 0 0 0) (replicate 12288 7) (replicate 256 7)
-  -- damaged 674
-  v99 : call 12288 256 (0 ∷ 0 ∷ 1 ∷ 0 ∷ 1 ∷ 1 ∷ 1 ∷ 0 ∷ 1 ∷ 9 ∷ 9 ∷ 3 ∷ 0 ∷ 0 ∷ 0 ∷ 3 ∷ 0 ∷ 0 ∷ 0 ∷ 3 ∷ 0 ∷ 0 ∷ 0 ∷ 3 ∷ 0 ∷ 0 ∷ 0 ∷ 3 ∷ 0 ∷ 0 ∷ 0 ∷ 3 ∷ 0 ∷ 0 ∷ 0 ∷ 3 ∷ 0 ∷ 0 ∷ 0 ∷ 3 ∷ 0 ∷ 0 ∷ 0 ∷ 3 ∷ 0 ∷ 0 ∷ 0 ∷ []) (120 ∷ []) 0 1000000 ≡ gives (answer 6 9 0 0 0 0 0) (replicate 12288 7) (replicate 256 7)
-  -- damaged 698
-  v100 : call 12288 256 (0 ∷ 0 ∷ 1 ∷ 0 ∷ 1 ∷ 1 ∷ 255 ∷ 3 ∷ 1 ∷ 1 ∷ 1 ∷ 4 ∷ 1 ∷ 0 ∷ 0 ∷ []) (40 ∷ 49 ∷ []) 0 1000000 ≡ gives (answer 6 12 0 0 0 0 0) (replicate 12288 7) (replicate 256 7)
+  v88 : call 12288 256 (0 ∷ 0 ∷ 2 ∷ 0 ∷ 4 ∷ 0 ∷ 2 ∷ 6 ∷ 2 ∷ 1 ∷ 1 ∷ 2 ∷ 0 ∷ 3 ∷ 1 ∷ 3 ∷ 1 ∷ 3 ∷ 0 ∷ 3 ∷ 255 ∷ 3 ∷ 1 ∷ 1 ∷ 0 ∷ 1 ∷ 1 ∷ 2 ∷ 1 ∷ 1 ∷ 3 ∷ []) (32 ∷ 49 ∷ 32 ∷ 47 ∷ 47 ∷ 32 ∷ 99 ∷ []) 0 0 ≡ gives (answer 2 0 0 0 0 0 0) (replicate 12288 7) (replicate 256 7)
+  -- damaged 351
+  v89 : call 12288 256 (1 ∷ 0 ∷ 2 ∷ 102 ∷ 110 ∷ 0 ∷ 3 ∷ 0 ∷ 4 ∷ 1 ∷ 2 ∷ 0 ∷ 1 ∷ 7 ∷ 1 ∷ 0 ∷ 1 ∷ 3 ∷ 3 ∷ 0 ∷ 1 ∷ 3 ∷ 2 ∷ 2 ∷ 1 ∷ 2 ∷ 1 ∷ 2 ∷ 1 ∷ 2 ∷ 255 ∷ 3 ∷ 3 ∷ 1 ∷ 255 ∷ 3 ∷ 0 ∷ 2 ∷ 2 ∷ 2 ∷ 1 ∷ 3 ∷ 16 ∷ 0 ∷ 91 ∷ 0 ∷ 0 ∷ 8 ∷ 0 ∷ 0 ∷ 0 ∷ 0 ∷ 93 ∷ 0 ∷ 0 ∷ 9 ∷ 0 ∷ 0 ∷ 0 ∷ 0 ∷ 58 ∷ 0 ∷ 0 ∷ 8 ∷ 0 ∷ 0 ∷ 0 ∷ 0 ∷ 64 ∷ 0 ∷ 0 ∷ 3 ∷ 0 ∷ 0 ∷ 0 ∷ 3 ∷ 0 ∷ 0 ∷ 0 ∷ 4 ∷ 0 ∷ 0 ∷ 0 ∷ 8 ∷ 1 ∷ 0 ∷ 2 ∷ 7 ∷ 0 ∷ 0 ∷ 0 ∷ 2 ∷ 0 ∷ 0 ∷ 0 ∷ 0 ∷ 45 ∷ 0 ∷ 0 ∷ 7 ∷ 0 ∷ 0 ∷ 0 ∷ 2 ∷ 0 ∷ 0 ∷ 0 ∷ 0 ∷ []) (40 ∷ 49 ∷ []) 0 1000000 ≡ gives (answer 6 86 0 0 0 0 0) (replicate 12288 7) (replicate 256 7)
+  -- damaged 375
+  v90 : call 12288 256 (3 ∷ 0 ∷ 2 ∷ 87 ∷ 49 ∷ 1 ∷ 2 ∷ 102 ∷ 110 ∷ 1 ∷ 1 ∷ 120 ∷ 2 ∷ 7 ∷ 2 ∷ 118 ∷ 49 ∷ 1 ∷ 1 ∷ 120 ∷ 1 ∷ 0 ∷ 3 ∷ 3 ∷ 1 ∷ 1 ∷ 0 ∷ 1 ∷ 1 ∷ 0 ∷ 0 ∷ 2 ∷ 255 ∷ 1 ∷ 1 ∷ 2 ∷ 5 ∷ 3 ∷ 0 ∷ 0 ∷ 0 ∷ 0 ∷ 94 ∷ 0 ∷ 0 ∷ 8 ∷ 0 ∷ 0 ∷ 0 ∷ 8 ∷ 0 ∷ 0 ∷ 0 ∷ 0 ∷ 94 ∷ 0 ∷ 0 ∷ []) (49 ∷ []) 0 1000000 ≡ gives (answer 6 33 0 0 0 0 0) (replicate 12288 7) (replicate 256 7)
+  -- damaged 396
+  v91 : call 12288 256 (1 ∷ 1 ∷ 3 ∷ 110 ∷ 111 ∷ 116 ∷ 0 ∷ 3 ∷ 1 ∷ 4 ∷ 0 ∷ 1 ∷ 0 ∷ 1 ∷ 6 ∷ 1 ∷ 2 ∷ 1 ∷ 4 ∷ 1 ∷ 2 ∷ 0 ∷ 2 ∷ 1 ∷ 1 ∷ 4 ∷ 255 ∷ 3 ∷ 1 ∷ 1 ∷ 1 ∷ 0 ∷ 3 ∷ 1 ∷ 1 ∷ 3 ∷ 3 ∷ 1 ∷ 13 ∷ 8 ∷ 2 ∷ 0 ∷ 0 ∷ 0 ∷ 58 ∷ 0 ∷ 0 ∷ 8 ∷ 0 ∷ 0 ∷ 0 ∷ 0 ∷ 60 ∷ 0 ∷ 0 ∷ 0 ∷ 58 ∷ 0 ∷ 0 ∷ 8 ∷ 0 ∷ 0 ∷ 0 ∷ 8 ∷ 1 ∷ 0 ∷ 0 ∷ 0 ∷ 58 ∷ 0 ∷ 0 ∷ 8 ∷ 2 ∷ 0 ∷ 0 ∷ 0 ∷ 58 ∷ 0 ∷ 0 ∷ 2 ∷ 0 ∷ 0 ∷ 0 ∷ 8 ∷ 0 ∷ 0 ∷ 0 ∷ 8 ∷ 1 ∷ 0 ∷ 0 ∷ []) (49 ∷ 45 ∷ 50 ∷ []) 0 1000000 ≡ gives (answer 6 25 0 0 0 0 0) (replicate 12288 7) (replicate 256 7)
+  -- damaged 418
+  v92 : call 12288 256 (1 ∷ 0 ∷ 3 ∷ 108 ∷ 101 ∷ 116 ∷ 2 ∷ 0 ∷ 1 ∷ 98 ∷ 1 ∷ 1 ∷ 97 ∷ 1 ∷ 0 ∷ 3 ∷ 3 ∷ 1 ∷ 0 ∷ 1 ∷ 3 ∷ 0 ∷ 2 ∷ 1 ∷ 1 ∷ 255 ∷ 3 ∷ 1 ∷ 2 ∷ 6 ∷ 7 ∷ 0 ∷ 0 ∷ 0 ∷ 2 ∷ 0 ∷ 0 ∷ 0 ∷ 2 ∷ 0 ∷ 0 ∷ 0 ∷ 4 ∷ 0 ∷ 0 ∷ 0 ∷ 7 ∷ 0 ∷ 0 ∷ 0 ∷ 2 ∷ 0 ∷ 0 ∷ 0 ∷ []) (49 ∷ 45 ∷ 50 ∷ []) 31 1000000 ≡ gives (answer 9 0 0 0 0 0 0) (replicate 12288 7) (replicate 256 7)
+  -- damaged 439
+  v93 : call 12288 256 (1 ∷ 1 ∷ 2 ∷ 87 ∷ 49 ∷ 3 ∷ 2 ∷ 2 ∷ 105 ∷ 102 ∷ 0 ∷ 2 ∷ 118 ∷ 49 ∷ 0 ∷ 1 ∷ 98 ∷ 2 ∷ 0 ∷ 1 ∷ 0 ∷ 2 ∷ 2 ∷ 3 ∷ 0 ∷ 3 ∷ 1 ∷ 2 ∷ 255 ∷ 3 ∷ 1 ∷ 1 ∷ 1 ∷ 1 ∷ 0 ∷ 1 ∷ 4 ∷ 10 ∷ 0 ∷ 0 ∷ 16 ∷ 3 ∷ 0 ∷ 0 ∷ 0 ∷ 2 ∷ 0 ∷ 0 ∷ 0 ∷ 0 ∷ 44 ∷ 0 ∷ 0 ∷ []) [] 0 1000000 ≡ gives (answer 4 22 0 0 0 0 0) (replicate 12288 7) (replicate 256 7)
+  -- damaged 461
+  v94 : call 12288 256 (19 ∷ 1 ∷ 1 ∷ 97 ∷ 1 ∷ 3 ∷ 110 ∷ 111 ∷ 116 ∷ 0 ∷ 2 ∷ 105 ∷ 110 ∷ 2 ∷ 0 ∷ 2 ∷ 105 ∷ 102 ∷ 0 ∷ 2 ∷ 105 ∷ 110 ∷ 2 ∷ 0 ∷ 1 ∷ 0 ∷ 1 ∷ 2 ∷ 3 ∷ 3 ∷ 1 ∷ 2 ∷ 2 ∷ 3 ∷ 1 ∷ 1 ∷ 3 ∷ 13 ∷ 1 ∷ 255 ∷ 60 ∷ 62 ∷ 13 ∷ 1 ∷ 60 ∷ 62 ∷ 2 ∷ 0 ∷ 0 ∷ 0 ∷ 155 ∷ 42 ∷ []) (120 ∷ 255 ∷ []) 0 1000000 ≡ gives (answer 6 13 0 0 0 0 0) (replicate 12288 7) (replicate 256 7)
+  -- damaged 480
+  v95 : call 12288 256 (0 ∷ 1 ∷ 0 ∷ 1 ∷ 121 ∷ 2 ∷ 0 ∷ 4 ∷ 0 ∷ 1 ∷ 5 ∷ 1 ∷ 0 ∷ 1 ∷ 3 ∷ 255 ∷ 3 ∷ 0 ∷ 1 ∷ 0 ∷ 1 ∷ 1 ∷ 1 ∷ 0 ∷ 2 ∷ 1 ∷ 4 ∷ 255 ∷ 3 ∷ 1 ∷ 1 ∷ 10 ∷ 7 ∷ 0 ∷ 0 ∷ 0 ∷ 8 ∷ 0 ∷ 0 ∷ 0 ∷ 9 ∷ 1 ∷ 0 ∷ 0 ∷ 3 ∷ 0 ∷ 0 ∷ 0 ∷ 8 ∷ 1 ∷ 0 ∷ 0 ∷ 9 ∷ 1 ∷ 0 ∷ 0 ∷ 11 ∷ 1 ∷ 0 ∷ 0 ∷ 8 ∷ 0 ∷ 0 ∷ 0 ∷ 0 ∷ 124 ∷ 0 ∷ 0 ∷ 0 ∷ 126 ∷ 0 ∷ 0 ∷ 166 ∷ 174 ∷ 59 ∷ 0 ∷ []) (32 ∷ 49 ∷ 32 ∷ 47 ∷ 47 ∷ 32 ∷ 99 ∷ []) 0 1000000 ≡ gives (answer 8 72 0 0 0 0 0) (replicate 12288 7) (replicate 256 7)
+  -- damaged 502
+  v96 : call 12288 256 (0 ∷ 0 ∷ 2 ∷ 2 ∷ 1 ∷ 0 ∷ 1 ∷ 2 ∷ 255 ∷ 3 ∷ 1 ∷ 1 ∷ 255 ∷ 3 ∷ 1 ∷ 1 ∷ 2 ∷ 3 ∷ 0 ∷ 0 ∷ 0 ∷ 3 ∷ 0 ∷ 0 ∷ 0 ∷ []) (40 ∷ 49 ∷ []) 0 1000000 ≡ gives (answer 6 4 0 0 0 0 0) (replicate 12288 7) (replicate 256 7)
+  -- damaged 524
+  v97 : call 12288 256 (0 ∷ 0 ∷ 1 ∷ 0 ∷ 17 ∷ 17 ∷ 1 ∷ 0 ∷ 1 ∷ 1 ∷ 1 ∷ 0 ∷ 1 ∷ 1 ∷ 1 ∷ 0 ∷ 1 ∷ 1 ∷ 1 ∷ 0 ∷ 1 ∷ 1 ∷ 1 ∷ 0 ∷ 1 ∷ 1 ∷ 1 ∷ 0 ∷ 1 ∷ 1 ∷ 1 ∷ 0 ∷ 1 ∷ 1 ∷ 1 ∷ 0 ∷ 1 ∷ 1 ∷ 1 ∷ 0 ∷ 1 ∷ 1 ∷ 1 ∷ 0 ∷ 1 ∷ 1 ∷ 1 ∷ 0 ∷ 1 ∷ 1 ∷ 1 ∷ 0 ∷ 1 ∷ 1 ∷ 1 ∷ 0 ∷ 1 ∷ 1 ∷ 1 ∷ 0 ∷ 1 ∷ 1 ∷ 1 ∷ 0 ∷ 1 ∷ 1 ∷ 1 ∷ 0 ∷ 1 ∷ 1 ∷ 1 ∷ 0 ∷ 1 ∷ 1 ∷ 17 ∷ 3 ∷ 0 ∷ 0 ∷ 0 ∷ 3 ∷ 0 ∷ 0 ∷ 0 ∷ 3 ∷ 0 ∷ 0 ∷ 0 ∷ 3 ∷ 0 ∷ 0 ∷ 0 ∷ 3 ∷ 0 ∷ 0 ∷ 0 ∷ 3 ∷ 0 ∷ 0 ∷ 0 ∷ 3 ∷ 0 ∷ 0 ∷ 0 ∷ 3 ∷ 0 ∷ 0 ∷ 0 ∷ 3 ∷ 0 ∷ 0 ∷ 0 ∷ 3 ∷ 0 ∷ 0 ∷ 0 ∷ 3 ∷ 0 ∷ 0 ∷ 0 ∷ 3 ∷ 0 ∷ 0 ∷ 0 ∷ 3 ∷ 0 ∷ 0 ∷ 0 ∷ 3 ∷ 0 ∷ 0 ∷ 0 ∷ 3 ∷ 0 ∷ 0 ∷ 0 ∷ 3 ∷ 0 ∷ 0 ∷ 0 ∷ 3 ∷ 0 ∷ 0 ∷ 0 ∷ []) (49 ∷ []) 0 1000000 ≡ gives (answer 6 4 0 0 0 0 0) (replicate 12288 7) (replicate 256 7)
+  -- damaged 547
+  v98 : call 12288 256 (225 ∷ 0 ∷ 2 ∷ 105 ∷ 110 ∷ 2 ∷ 0 ∷ 1 ∷ 120 ∷ 2 ∷ 2 ∷ 105 ∷ 102 ∷ 3 ∷ 1 ∷ 3 ∷ 0 ∷ 2 ∷ 0 ∷ 2 ∷ 7 ∷ 2 ∷ 0 ∷ 0 ∷ 3 ∷ 1 ∷ 0 ∷ 1 ∷ 2 ∷ 0 ∷ 0 ∷ 1 ∷ 1 ∷ 1 ∷ 0 ∷ 2 ∷ 1 ∷ 2 ∷ 1 ∷ 1 ∷ 2 ∷ 1 ∷ 0 ∷ 3 ∷ 1 ∷ 0 ∷ 0 ∷ 0 ∷ 1 ∷ 11 ∷ 8 ∷ 0 ∷ 0 ∷ 255 ∷ 0 ∷ 59 ∷ 0 ∷ 0 ∷ 8 ∷ 1 ∷ 0 ∷ 0 ∷ 0 ∷ 59 ∷ 0 ∷ 0 ∷ 8 ∷ 0 ∷ 0 ∷ 0 ∷ 0 ∷ 60 ∷ 0 ∷ 0 ∷ 8 ∷ 1 ∷ 0 ∷ 0 ∷ 8 ∷ 1 ∷ 183 ∷ 0 ∷ 0 ∷ 59 ∷ 0 ∷ 0 ∷ 8 ∷ 1 ∷ 0 ∷ 0 ∷ 3 ∷ 0 ∷ 0 ∷ 0 ∷ []) [] 0 1000000 ≡ gives (answer 4 0 0 0 0 0 0) (replicate 12288 7) (replicate 256 7)
+  -- damaged 571
+  v99 : call 12288 256 (0 ∷ 0 ∷ 33 ∷ 0 ∷ 1 ∷ 0 ∷ 1 ∷ 0 ∷ 1 ∷ 0 ∷ 1 ∷ 0 ∷ 1 ∷ 0 ∷ 1 ∷ 0 ∷ 1 ∷ 0 ∷ 1 ∷ 0 ∷ 1 ∷ 0 ∷ 1 ∷ 0 ∷ 1 ∷ 0 ∷ 1 ∷ 0 ∷ 1 ∷ 0 ∷ 1 ∷ 0 ∷ 1 ∷ 0 ∷ 1 ∷ 0 ∷ 1 ∷ 0 ∷ 1 ∷ 0 ∷ 1 ∷ 0 ∷ 1 ∷ 0 ∷ 1 ∷ 0 ∷ 1 ∷ 0 ∷ 1 ∷ 0 ∷ 1 ∷ 0 ∷ 1 ∷ 0 ∷ 1 ∷ 0 ∷ 1 ∷ 0 ∷ 1 ∷ 0 ∷ 1 ∷ 0 ∷ 1 ∷ 0 ∷ 1 ∷ 0 ∷ 1 ∷ 0 ∷ 1 ∷ 33 ∷ 255 ∷ 3 ∷ 1 ∷ 1 ∷ 255 ∷ 3 ∷ 1 ∷ 1 ∷ 255 ∷ 3 ∷ 1 ∷ 1 ∷ 255 ∷ 3 ∷ 1 ∷ 1 ∷ 255 ∷ 3 ∷ 1 ∷ 1 ∷ 255 ∷ 3 ∷ 1 ∷ 1 ∷ 255 ∷ 3 ∷ 1 ∷ 1 ∷ 255 ∷ 3 ∷ 1 ∷ 1 ∷ 255 ∷ 3 ∷ 1 ∷ 1 ∷ 255 ∷ 3 ∷ 1 ∷ 1 ∷ 255 ∷ 3 ∷ 1 ∷ 1 ∷ 255 ∷ 3 ∷ 1 ∷ 1 ∷ 255 ∷ 3 ∷ 1 ∷ 1 ∷ 255 ∷ 3 ∷ 1 ∷ 1 ∷ 255 ∷ 3 ∷ 1 ∷ 1 ∷ 255 ∷ 3 ∷ 1 ∷ 1 ∷ 255 ∷ 3 ∷ 1 ∷ 1 ∷ 255 ∷ 3 ∷ 1 ∷ 1 ∷ 255 ∷ 3 ∷ 1 ∷ 1 ∷ 255 ∷ 3 ∷ 1 ∷ 1 ∷ 255 ∷ 3 ∷ 1 ∷ 1 ∷ 255 ∷ 3 ∷ 1 ∷ 1 ∷ 255 ∷ 3 ∷ 1 ∷ 1 ∷ 255 ∷ 3 ∷ 1 ∷ 1 ∷ 255 ∷ 3 ∷ 1 ∷ 1 ∷ 255 ∷ 3 ∷ 1 ∷ 1 ∷ 255 ∷ 3 ∷ 1 ∷ 1 ∷ 255 ∷ 3 ∷ 1 ∷ 1 ∷ 255 ∷ 3 ∷ 1 ∷ 1 ∷ 255 ∷ 3 ∷ 1 ∷ 1 ∷ 255 ∷ 3 ∷ 1 ∷ 1 ∷ 255 ∷ 3 ∷ 1 ∷ 1 ∷ 255 ∷ 3 ∷ 1 ∷ 1 ∷ 33 ∷ 8 ∷ 1 ∷ 0 ∷ 0 ∷ 8 ∷ 2 ∷ 0 ∷ 0 ∷ 8 ∷ 3 ∷ 0 ∷ 0 ∷ 8 ∷ 4 ∷ 0 ∷ 0 ∷ 8 ∷ 5 ∷ 0 ∷ 0 ∷ 8 ∷ 6 ∷ 0 ∷ 0 ∷ 8 ∷ 7 ∷ 0 ∷ 0 ∷ 8 ∷ 8 ∷ 0 ∷ 0 ∷ 8 ∷ 9 ∷ 0 ∷ 0 ∷ 8 ∷ 10 ∷ 0 ∷ 0 ∷ 8 ∷ 11 ∷ 0 ∷ 0 ∷ 8 ∷ 12 ∷ 0 ∷ 0 ∷ 8 ∷ 13 ∷ 0 ∷ 0 ∷ 8 ∷ 14 ∷ 0 ∷ 0 ∷ 8 ∷ 15 ∷ 0 ∷ 0 ∷ 8 ∷ 16 ∷ 0 ∷ 0 ∷ 8 ∷ 17 ∷ 0 ∷ 0 ∷ 8 ∷ 18 ∷ 0 ∷ 0 ∷ 8 ∷ 19 ∷ 0 ∷ 0 ∷ 8 ∷ 20 ∷ 0 ∷ 0 ∷ 8 ∷ 21 ∷ 0 ∷ 0 ∷ 8 ∷ 22 ∷ 0 ∷ 0 ∷ 8 ∷ 23 ∷ 0 ∷ 0 ∷ 8 ∷ 24 ∷ 0 ∷ 0 ∷ 8 ∷ 25 ∷ 0 ∷ 0 ∷ 8 ∷ 26 ∷ 0 ∷ 0 ∷ 8 ∷ 27 ∷ 0 ∷ 0 ∷ 8 ∷ 28 ∷ 0 ∷ 0 ∷ 8 ∷ 29 ∷ 0 ∷ 0 ∷ 8 ∷ 30 ∷ 0 ∷ 0 ∷ 8 ∷ 0 ∷ 0 ∷ 0 ∷ 8 ∷ 1 ∷ 0 ∷ 0 ∷ 8 ∷ 2 ∷ 0 ∷ 0 ∷ []) (40 ∷ 49 ∷ []) 0 1000000 ≡ gives (answer 4 2 0 0 0 0 0) (replicate 12288 7) (replicate 256 7)
+  -- damaged 591
+  v100 : call 12288 256 (2 ∷ 0 ∷ 1 ∷ 97 ∷ 0 ∷ 2 ∷ 87 ∷ 49 ∷ 4 ∷ 2 ∷ 1 ∷ 98 ∷ 1 ∷ 1 ∷ 95 ∷ 2 ∷ 1 ∷ 121 ∷ 2 ∷ 1 ∷ 98 ∷ 3 ∷ 0 ∷ 3 ∷ 1 ∷ 1 ∷ 2 ∷ 0 ∷ 4 ∷ 2 ∷ 0 ∷ 1 ∷ 2 ∷ 255 ∷ 3 ∷ 1 ∷ 1 ∷ 1 ∷ 2 ∷ 3 ∷ 1 ∷ 1 ∷ 0 ∷ 3 ∷ 1 ∷ 5 ∷ 8 ∷ 1 ∷ 0 ∷ 0 ∷ 0 ∷ 35 ∷ 0 ∷ 0 ∷ 0 ∷ 35 ∷ 0 ∷ 0 ∷ 8 ∷ 2 ∷ 0 ∷ 0 ∷ 8 ∷ 0 ∷ 1 ∷ 0 ∷ []) [] 0 1000000 ≡ gives (answer 6 64 0 0 0 0 0) (replicate 12288 7) (replicate 256 7)
 
 vectors81 : Vectors81
-unfolding classOf leading spanEnd commentAt commentEnd roundEnd rounds skipFrom identifierAt decimal numberOf numberAt same isReserved lookupFrom checked row spelling entry nonterminal variant stepOf step allPass ended whole checkBook outwards govern governor isSome isKind ofKind characterEnd identifierEnd reservedAt freeEnd variableAt tokenAt claimed afterElement closed numbersOf cellsIn identityOf findCell treeIn treesIn meaningOf meanings join beyond joinWith choiceError identifierError tokenError _>>=_ sameParse has allIn kept add addAll ask newest others spend make itemCell withCell withToken nested begin counted variants oneRun roundsRun failedCall runCall runIdentifier stored enter child either follow followed plainNext listNext chosen stops choice listing steps runner run cellNumbers parseNumbers written wholeValues allAre firstHigh byValues ending onBook answerOf
+unfolding classOf leading spanEnd commentAt commentEnd roundEnd rounds skipFrom identifierAt decimal numberOf numberAt same isReserved lookupFrom checked row spelling entry nonterminal variant stepOf step allPass ended whole checkBook outwards govern governor isSome isKind ofKind characterEnd identifierEnd reservedAt freeEnd variableAt tokenAt claimant afterElement closed numbersOf cellsIn identityOf findCell treeIn treesIn meaningOf meanings join beyond joinWith choiceError identifierError tokenError _>>=_ sameParse has allIn kept add addAll ask newest others spend make itemCell failedCall either chosen begin withCell withToken complete counted variants oneRun roundsRun runCall runIdentifier plainNext listNext stops nested reentry enter enterChild follow followed choice listing steps runner run cellNumbers parseNumbers written wholeValues allAre firstHigh byValues atEnd onBook answerOf
 vectors81 = record { v81 = refl; v82 = refl; v83 = refl; v84 = refl; v85 = refl; v86 = refl; v87 = refl; v88 = refl; v89 = refl; v90 = refl; v91 = refl; v92 = refl; v93 = refl; v94 = refl; v95 = refl; v96 = refl; v97 = refl; v98 = refl; v99 = refl; v100 = refl }
 
 record Vectors101 : Type 0 where
-  -- reading 1399
-  v101 : call 12288 256 (3 ∷ 1 ∷ 3 ∷ 108 ∷ 101 ∷ 116 ∷ 0 ∷ 3 ∷ 110 ∷ 111 ∷ 116 ∷ 0 ∷ 1 ∷ 97 ∷ 3 ∷ 2 ∷ 1 ∷ 97 ∷ 0 ∷ 2 ∷ 105 ∷ 110 ∷ 0 ∷ 1 ∷ 121 ∷ 2 ∷ 0 ∷ 1 ∷ 1 ∷ 2 ∷ 3 ∷ 1 ∷ 1 ∷ 1 ∷ 0 ∷ 255 ∷ 3 ∷ 0 ∷ 1 ∷ 255 ∷ 3 ∷ 1 ∷ 0 ∷ 1 ∷ 3 ∷ 0 ∷ 0 ∷ 0 ∷ []) [] 0 1000000 ≡ gives (answer 0 0 0 0 1 1 2) (written 12288 (1 ∷ 0 ∷ 0 ∷ 3 ∷ 0 ∷ 1 ∷ []) (replicate 12288 7)) (written 256 (0 ∷ 1 ∷ 1 ∷ 2 ∷ []) (replicate 256 7))
-  -- damaged 562
-  v102 : call 12288 256 (2 ∷ 0 ∷ 3 ∷ 110 ∷ 111 ∷ 116 ∷ 0 ∷ 2 ∷ 105 ∷ 102 ∷ 3 ∷ 2 ∷ 1 ∷ 84 ∷ 0 ∷ 1 ∷ 95 ∷ 0 ∷ 1 ∷ 98 ∷ 2 ∷ 1 ∷ 1 ∷ 0 ∷ 3 ∷ 4 ∷ 2 ∷ 0 ∷ 1 ∷ 0 ∷ 2 ∷ 0 ∷ 1 ∷ 1 ∷ 255 ∷ 3 ∷ 1 ∷ 1 ∷ 255 ∷ 3 ∷ 1 ∷ 3 ∷ 5 ∷ 0 ∷ 46 ∷ 0 ∷ 0 ∷ 4 ∷ 0 ∷ 0 ∷ 0 ∷ 9 ∷ 0 ∷ 0 ∷ 0 ∷ 8 ∷ 1 ∷ 0 ∷ 0 ∷ 0 ∷ 46 ∷ 0 ∷ 0 ∷ []) (49 ∷ []) 0 1000000 ≡ gives (answer 31 0 0 0 1 1 0) (written 12288 (1 ∷ 0 ∷ 0 ∷ 3 ∷ 0 ∷ 1 ∷ []) (replicate 12288 7)) (written 256 (0 ∷ 2 ∷ 0 ∷ 2 ∷ []) (replicate 256 7))
-  -- reading 491
-  v103 : call 12288 256 (3 ∷ 0 ∷ 2 ∷ 87 ∷ 49 ∷ 1 ∷ 3 ∷ 108 ∷ 101 ∷ 116 ∷ 1 ∷ 2 ∷ 105 ∷ 102 ∷ 2 ∷ 1 ∷ 2 ∷ 105 ∷ 102 ∷ 0 ∷ 1 ∷ 95 ∷ 2 ∷ 1 ∷ 1 ∷ 1 ∷ 2 ∷ 3 ∷ 255 ∷ 3 ∷ 1 ∷ 1 ∷ 255 ∷ 3 ∷ 1 ∷ 2 ∷ 3 ∷ 1 ∷ 0 ∷ 1 ∷ 4 ∷ 2 ∷ 0 ∷ 0 ∷ 0 ∷ 6 ∷ 0 ∷ 0 ∷ 0 ∷ 2 ∷ 0 ∷ 0 ∷ 0 ∷ 4 ∷ 0 ∷ 0 ∷ 0 ∷ []) [] 0 1000000 ≡ gives (answer 30 0 11 0 2 0 0) (written 12288 [] (replicate 12288 7)) (written 256 [] (replicate 256 7))
-  -- reading 1135
-  v104 : call 12288 256 (3 ∷ 1 ∷ 2 ∷ 105 ∷ 102 ∷ 1 ∷ 2 ∷ 100 ∷ 111 ∷ 1 ∷ 2 ∷ 87 ∷ 49 ∷ 0 ∷ 4 ∷ 0 ∷ 1 ∷ 0 ∷ 1 ∷ 0 ∷ 3 ∷ 0 ∷ 2 ∷ 7 ∷ 2 ∷ 2 ∷ 1 ∷ 1 ∷ 3 ∷ 0 ∷ 1 ∷ 1 ∷ 0 ∷ 3 ∷ 1 ∷ 1 ∷ 255 ∷ 3 ∷ 1 ∷ 3 ∷ 2 ∷ 3 ∷ 0 ∷ 1 ∷ 255 ∷ 3 ∷ 0 ∷ 4 ∷ 255 ∷ 3 ∷ 1 ∷ 0 ∷ 11 ∷ 3 ∷ 0 ∷ 0 ∷ 0 ∷ 5 ∷ 6 ∷ 0 ∷ 0 ∷ 4 ∷ 0 ∷ 0 ∷ 0 ∷ 0 ∷ 97 ∷ 0 ∷ 0 ∷ 8 ∷ 2 ∷ 0 ∷ 0 ∷ 0 ∷ 41 ∷ 0 ∷ 0 ∷ 3 ∷ 0 ∷ 0 ∷ 0 ∷ 11 ∷ 2 ∷ 0 ∷ 0 ∷ 3 ∷ 0 ∷ 0 ∷ 0 ∷ 9 ∷ 2 ∷ 0 ∷ 0 ∷ 12 ∷ 2 ∷ 97 ∷ 41 ∷ []) (52 ∷ 50 ∷ []) 0 1000000 ≡ gives (answer 0 0 0 0 2 1 4) (written 12288 (1 ∷ 0 ∷ 0 ∷ 5 ∷ 0 ∷ 42 ∷ 2 ∷ 1 ∷ 2 ∷ 3 ∷ 0 ∷ 3 ∷ []) (replicate 12288 7)) (written 256 (2 ∷ 2 ∷ 2 ∷ 4 ∷ []) (replicate 256 7))
-  -- reading 1176
-  v105 : call 12288 256 (2 ∷ 1 ∷ 1 ∷ 95 ∷ 0 ∷ 1 ∷ 95 ∷ 4 ∷ 1 ∷ 1 ∷ 120 ∷ 0 ∷ 2 ∷ 105 ∷ 110 ∷ 2 ∷ 1 ∷ 97 ∷ 0 ∷ 1 ∷ 120 ∷ 1 ∷ 0 ∷ 1 ∷ 1 ∷ 2 ∷ 1 ∷ 0 ∷ 1 ∷ 1 ∷ 3 ∷ 0 ∷ 0 ∷ 0 ∷ []) (50 ∷ 32 ∷ 52 ∷ 50 ∷ []) 0 1000000 ≡ gives (answer 31 0 0 0 2 1 0) (written 12288 (1 ∷ 0 ∷ 0 ∷ 5 ∷ 0 ∷ 2 ∷ 2 ∷ 1 ∷ 2 ∷ 3 ∷ 0 ∷ 3 ∷ []) (replicate 12288 7)) (written 256 (1 ∷ 2 ∷ 1 ∷ 4 ∷ []) (replicate 256 7))
-  -- damaged 268
-  v106 : call 12288 256 (0 ∷ 1 ∷ 7 ∷ 15 ∷ 110 ∷ 110 ∷ 110 ∷ 110 ∷ 110 ∷ 110 ∷ 110 ∷ 110 ∷ 110 ∷ 110 ∷ 110 ∷ 110 ∷ 110 ∷ 110 ∷ 110 ∷ 1 ∷ 0 ∷ 1 ∷ 1 ∷ 255 ∷ 3 ∷ 1 ∷ 1 ∷ 1 ∷ 3 ∷ 0 ∷ 0 ∷ 0 ∷ []) (49 ∷ []) 0 1000000 ≡ gives (answer 0 0 0 0 2 1 4) (written 12288 (1 ∷ 0 ∷ 0 ∷ 5 ∷ 0 ∷ 1 ∷ 2 ∷ 1 ∷ 2 ∷ 3 ∷ 0 ∷ 3 ∷ []) (replicate 12288 7)) (written 256 (1 ∷ 255 ∷ 3 ∷ 4 ∷ []) (replicate 256 7))
-  -- reading 150
-  v107 : call 12288 256 (2 ∷ 0 ∷ 1 ∷ 95 ∷ 0 ∷ 3 ∷ 110 ∷ 111 ∷ 116 ∷ 2 ∷ 0 ∷ 1 ∷ 97 ∷ 2 ∷ 2 ∷ 118 ∷ 49 ∷ 2 ∷ 1 ∷ 1 ∷ 1 ∷ 2 ∷ 3 ∷ 0 ∷ 3 ∷ 0 ∷ 2 ∷ 2 ∷ 1 ∷ 1 ∷ 1 ∷ 2 ∷ 0 ∷ 1 ∷ 1 ∷ 4 ∷ 0 ∷ 61 ∷ 0 ∷ 0 ∷ 5 ∷ 2 ∷ 0 ∷ 0 ∷ 3 ∷ 0 ∷ 0 ∷ 0 ∷ 5 ∷ 2 ∷ 0 ∷ 0 ∷ []) (61 ∷ 118 ∷ 49 ∷ 9 ∷ []) 0 252 ≡ gives (answer 0 0 0 0 3 1 4) (written 12288 (1 ∷ 0 ∷ 0 ∷ 6 ∷ 1 ∷ 2 ∷ 2 ∷ 1 ∷ 2 ∷ 3 ∷ 0 ∷ 3 ∷ []) (replicate 12288 7)) (written 256 (3 ∷ 0 ∷ 3 ∷ 4 ∷ []) (replicate 256 7))
-  -- reading 544
-  v108 : call 12288 256 (1 ∷ 1 ∷ 2 ∷ 100 ∷ 111 ∷ 1 ∷ 2 ∷ 1 ∷ 84 ∷ 2 ∷ 0 ∷ 1 ∷ 1 ∷ 2 ∷ 3 ∷ 1 ∷ 3 ∷ 0 ∷ 2 ∷ 1 ∷ 0 ∷ 0 ∷ 1 ∷ 2 ∷ 0 ∷ 1 ∷ 0 ∷ 3 ∷ 13 ∷ 1 ∷ 40 ∷ 41 ∷ 0 ∷ 126 ∷ 0 ∷ 0 ∷ 3 ∷ 0 ∷ 0 ∷ 0 ∷ []) (126 ∷ []) 0 1000000 ≡ gives (answer 0 0 0 0 3 1 4) (written 12288 (1 ∷ 0 ∷ 0 ∷ 8 ∷ 1 ∷ 0 ∷ 2 ∷ 1 ∷ 2 ∷ 3 ∷ 0 ∷ 3 ∷ []) (replicate 12288 7)) (written 256 (1 ∷ 1 ∷ 3 ∷ 4 ∷ []) (replicate 256 7))
-  -- reading 974
-  v109 : call 12288 256 (1 ∷ 1 ∷ 2 ∷ 105 ∷ 110 ∷ 0 ∷ 1 ∷ 1 ∷ 2 ∷ 2 ∷ 255 ∷ 3 ∷ 1 ∷ 1 ∷ 2 ∷ 1 ∷ 1 ∷ 1 ∷ 2 ∷ 5 ∷ 0 ∷ 0 ∷ 0 ∷ 1 ∷ 0 ∷ 0 ∷ 0 ∷ []) [] 0 1000000 ≡ gives (answer 30 0 11 0 3 0 0) (written 12288 [] (replicate 12288 7)) (written 256 [] (replicate 256 7))
-  -- reading 1462
-  v110 : call 12288 256 (1 ∷ 1 ∷ 1 ∷ 97 ∷ 3 ∷ 7 ∷ 2 ∷ 105 ∷ 110 ∷ 0 ∷ 1 ∷ 98 ∷ 0 ∷ 2 ∷ 118 ∷ 49 ∷ 1 ∷ 0 ∷ 2 ∷ 2 ∷ 0 ∷ 3 ∷ 1 ∷ 2 ∷ 255 ∷ 3 ∷ 0 ∷ 1 ∷ 3 ∷ 0 ∷ 46 ∷ 0 ∷ 0 ∷ 8 ∷ 0 ∷ 0 ∷ 0 ∷ 3 ∷ 0 ∷ 0 ∷ 0 ∷ []) (47 ∷ 47 ∷ 10 ∷ 105 ∷ 110 ∷ []) 0 1000000 ≡ gives (answer 30 3 11 0 3 0 0) (written 12288 [] (replicate 12288 7)) (written 256 [] (replicate 256 7))
-  -- reading 66
-  v111 : call 12288 256 (2 ∷ 1 ∷ 2 ∷ 105 ∷ 102 ∷ 0 ∷ 3 ∷ 110 ∷ 111 ∷ 116 ∷ 1 ∷ 0 ∷ 1 ∷ 95 ∷ 2 ∷ 0 ∷ 2 ∷ 0 ∷ 3 ∷ 5 ∷ 1 ∷ 0 ∷ 1 ∷ 3 ∷ 2 ∷ 2 ∷ 1 ∷ 2 ∷ 1 ∷ 2 ∷ 0 ∷ 1 ∷ 1 ∷ 0 ∷ 1 ∷ 1 ∷ 2 ∷ 1 ∷ 1 ∷ 1 ∷ 8 ∷ 0 ∷ 124 ∷ 0 ∷ 0 ∷ 10 ∷ 1 ∷ 0 ∷ 0 ∷ 6 ∷ 0 ∷ 0 ∷ 0 ∷ 13 ∷ 0 ∷ 40 ∷ 41 ∷ 7 ∷ 0 ∷ 0 ∷ 0 ∷ 3 ∷ 0 ∷ 0 ∷ 0 ∷ 0 ∷ 44 ∷ 0 ∷ 0 ∷ 2 ∷ 0 ∷ 0 ∷ 0 ∷ []) (44 ∷ 44 ∷ []) 0 1000000 ≡ gives (answer 31 0 0 0 4 1 0) (written 12288 (1 ∷ 0 ∷ 0 ∷ 8 ∷ 1 ∷ 0 ∷ 2 ∷ 1 ∷ 2 ∷ 3 ∷ 1 ∷ 3 ∷ []) (replicate 12288 7)) (written 256 (0 ∷ 2 ∷ 2 ∷ 4 ∷ []) (replicate 256 7))
-  -- reading 733
-  v112 : call 12288 256 (2 ∷ 0 ∷ 2 ∷ 87 ∷ 49 ∷ 0 ∷ 1 ∷ 95 ∷ 2 ∷ 7 ∷ 1 ∷ 95 ∷ 0 ∷ 1 ∷ 121 ∷ 1 ∷ 0 ∷ 2 ∷ 2 ∷ 255 ∷ 3 ∷ 1 ∷ 1 ∷ 1 ∷ 1 ∷ 1 ∷ 2 ∷ 3 ∷ 5 ∷ 7 ∷ 0 ∷ 0 ∷ 8 ∷ 0 ∷ 0 ∷ 0 ∷ 8 ∷ 0 ∷ 0 ∷ 0 ∷ []) (48 ∷ 48 ∷ 55 ∷ 32 ∷ 32 ∷ 50 ∷ 32 ∷ 48 ∷ 48 ∷ 55 ∷ 9 ∷ 52 ∷ 50 ∷ []) 0 5556 ≡ gives (answer 30 0 11 0 4 0 0) (written 12288 [] (replicate 12288 7)) (written 256 [] (replicate 256 7))
-  -- reading 866
-  v113 : call 12288 256 (2 ∷ 1 ∷ 1 ∷ 95 ∷ 0 ∷ 2 ∷ 105 ∷ 110 ∷ 4 ∷ 2 ∷ 1 ∷ 121 ∷ 7 ∷ 1 ∷ 84 ∷ 0 ∷ 1 ∷ 95 ∷ 0 ∷ 1 ∷ 95 ∷ 2 ∷ 0 ∷ 3 ∷ 0 ∷ 1 ∷ 4 ∷ 3 ∷ 3 ∷ 1 ∷ 1 ∷ 255 ∷ 3 ∷ 1 ∷ 3 ∷ 2 ∷ 0 ∷ 1 ∷ 4 ∷ 1 ∷ 0 ∷ 1 ∷ 1 ∷ 9 ∷ 5 ∷ 7 ∷ 0 ∷ 0 ∷ 0 ∷ 123 ∷ 0 ∷ 0 ∷ 8 ∷ 0 ∷ 0 ∷ 0 ∷ 0 ∷ 125 ∷ 0 ∷ 0 ∷ 4 ∷ 0 ∷ 0 ∷ 0 ∷ 8 ∷ 0 ∷ 0 ∷ 0 ∷ 0 ∷ 47 ∷ 0 ∷ 0 ∷ 8 ∷ 0 ∷ 0 ∷ 0 ∷ 3 ∷ 0 ∷ 0 ∷ 0 ∷ []) (120 ∷ 123 ∷ 84 ∷ 125 ∷ 125 ∷ 32 ∷ 47 ∷ 47 ∷ 32 ∷ 99 ∷ 10 ∷ []) 0 1000000 ≡ gives (answer 30 0 11 0 4 0 0) (written 12288 [] (replicate 12288 7)) (written 256 [] (replicate 256 7))
-  -- reading 1107
-  v114 : call 12288 256 (1 ∷ 0 ∷ 3 ∷ 108 ∷ 101 ∷ 116 ∷ 3 ∷ 0 ∷ 1 ∷ 84 ∷ 2 ∷ 1 ∷ 120 ∷ 3 ∷ 1 ∷ 84 ∷ 1 ∷ 1 ∷ 2 ∷ 2 ∷ 0 ∷ 1 ∷ 1 ∷ 2 ∷ 2 ∷ 0 ∷ 1 ∷ 1 ∷ 3 ∷ 8 ∷ 0 ∷ 0 ∷ 0 ∷ 8 ∷ 0 ∷ 0 ∷ 0 ∷ 3 ∷ 0 ∷ 0 ∷ 0 ∷ []) (47 ∷ 47 ∷ 32 ∷ 101 ∷ 110 ∷ 100 ∷ []) 0 17794 ≡ gives (answer 30 6 11 0 4 0 0) (written 12288 [] (replicate 12288 7)) (written 256 [] (replicate 256 7))
-  -- deep 222
-  v115 : call 12288 256 (0 ∷ 0 ∷ 1 ∷ 0 ∷ 2 ∷ 2 ∷ 255 ∷ 3 ∷ 1 ∷ 1 ∷ 1 ∷ 1 ∷ 0 ∷ 1 ∷ 2 ∷ 3 ∷ 0 ∷ 0 ∷ 0 ∷ 8 ∷ 0 ∷ 0 ∷ 0 ∷ []) [] 0 5 ≡ gives (answer 30 0 11 0 4 0 0) (written 12288 [] (replicate 12288 7)) (written 256 [] (replicate 256 7))
-  -- reading 458
-  v116 : call 12288 256 (1 ∷ 1 ∷ 1 ∷ 120 ∷ 0 ∷ 2 ∷ 0 ∷ 2 ∷ 1 ∷ 3 ∷ 5 ∷ 1 ∷ 2 ∷ 1 ∷ 4 ∷ 0 ∷ 0 ∷ 1 ∷ 1 ∷ 255 ∷ 3 ∷ 0 ∷ 1 ∷ 255 ∷ 3 ∷ 1 ∷ 0 ∷ 1 ∷ 0 ∷ 0 ∷ 1 ∷ 7 ∷ 13 ∷ 1 ∷ 40 ∷ 41 ∷ 8 ∷ 0 ∷ 0 ∷ 0 ∷ 0 ∷ 94 ∷ 0 ∷ 0 ∷ 9 ∷ 1 ∷ 0 ∷ 0 ∷ 3 ∷ 0 ∷ 0 ∷ 0 ∷ 0 ∷ 37 ∷ 0 ∷ 0 ∷ 8 ∷ 0 ∷ 0 ∷ 0 ∷ []) (57 ∷ 57 ∷ 57 ∷ 57 ∷ 57 ∷ 57 ∷ 57 ∷ 57 ∷ 57 ∷ 57 ∷ 57 ∷ 57 ∷ 57 ∷ 57 ∷ 57 ∷ 57 ∷ 57 ∷ 57 ∷ 57 ∷ 57 ∷ 57 ∷ 57 ∷ 57 ∷ []) 0 1000000 ≡ gives (answer 30 0 11 0 5 0 0) (written 12288 [] (replicate 12288 7)) (written 256 [] (replicate 256 7))
-  -- reading 697
-  v117 : call 12288 256 (3 ∷ 1 ∷ 2 ∷ 102 ∷ 110 ∷ 1 ∷ 2 ∷ 87 ∷ 49 ∷ 0 ∷ 2 ∷ 105 ∷ 102 ∷ 2 ∷ 7 ∷ 1 ∷ 84 ∷ 0 ∷ 1 ∷ 97 ∷ 4 ∷ 0 ∷ 3 ∷ 0 ∷ 2 ∷ 1 ∷ 4 ∷ 2 ∷ 0 ∷ 9 ∷ 255 ∷ 3 ∷ 3 ∷ 1 ∷ 2 ∷ 0 ∷ 1 ∷ 1 ∷ 2 ∷ 0 ∷ 1 ∷ 1 ∷ 2 ∷ 0 ∷ 2 ∷ 1 ∷ 1 ∷ 2 ∷ 0 ∷ 2 ∷ 2 ∷ 0 ∷ 1 ∷ 1 ∷ 0 ∷ 0 ∷ 2 ∷ 1 ∷ 2 ∷ 0 ∷ 1 ∷ 2 ∷ 1 ∷ 0 ∷ 1 ∷ 3 ∷ 13 ∷ 8 ∷ 3 ∷ 0 ∷ 0 ∷ 12 ∷ 3 ∷ 123 ∷ 125 ∷ 5 ∷ 0 ∷ 0 ∷ 0 ∷ 8 ∷ 3 ∷ 0 ∷ 0 ∷ 9 ∷ 3 ∷ 0 ∷ 0 ∷ 8 ∷ 3 ∷ 0 ∷ 0 ∷ 8 ∷ 3 ∷ 0 ∷ 0 ∷ 8 ∷ 2 ∷ 0 ∷ 0 ∷ 7 ∷ 0 ∷ 0 ∷ 0 ∷ 8 ∷ 3 ∷ 0 ∷ 0 ∷ 0 ∷ 123 ∷ 0 ∷ 0 ∷ 8 ∷ 3 ∷ 0 ∷ 0 ∷ 0 ∷ 125 ∷ 0 ∷ 0 ∷ []) (97 ∷ []) 0 1000000 ≡ gives (answer 32 0 0 0 5 2 0) (written 12288 (4 ∷ 0 ∷ 1 ∷ 1 ∷ 0 ∷ 0 ∷ 6 ∷ 1 ∷ 0 ∷ 2 ∷ 2 ∷ 3 ∷ 3 ∷ 2 ∷ 4 ∷ []) (replicate 12288 7)) (written 256 (1 ∷ 255 ∷ 3 ∷ 1 ∷ 1 ∷ 2 ∷ 0 ∷ 5 ∷ []) (replicate 256 7))
-  -- reading 964
-  v118 : call 12288 256 (2 ∷ 0 ∷ 1 ∷ 97 ∷ 0 ∷ 3 ∷ 108 ∷ 101 ∷ 116 ∷ 2 ∷ 7 ∷ 1 ∷ 95 ∷ 0 ∷ 1 ∷ 97 ∷ 2 ∷ 0 ∷ 3 ∷ 0 ∷ 4 ∷ 7 ∷ 255 ∷ 3 ∷ 1 ∷ 1 ∷ 255 ∷ 3 ∷ 1 ∷ 1 ∷ 1 ∷ 0 ∷ 1 ∷ 2 ∷ 0 ∷ 2 ∷ 1 ∷ 0 ∷ 255 ∷ 3 ∷ 1 ∷ 3 ∷ 255 ∷ 3 ∷ 1 ∷ 2 ∷ 1 ∷ 2 ∷ 1 ∷ 2 ∷ 11 ∷ 1 ∷ 1 ∷ 0 ∷ 0 ∷ 0 ∷ 60 ∷ 0 ∷ 0 ∷ 7 ∷ 0 ∷ 0 ∷ 0 ∷ 2 ∷ 0 ∷ 0 ∷ 0 ∷ 8 ∷ 1 ∷ 0 ∷ 0 ∷ 6 ∷ 0 ∷ 0 ∷ 0 ∷ 8 ∷ 1 ∷ 0 ∷ 0 ∷ 7 ∷ 0 ∷ 0 ∷ 0 ∷ 2 ∷ 0 ∷ 0 ∷ 0 ∷ 7 ∷ 0 ∷ 0 ∷ 0 ∷ 2 ∷ 0 ∷ 0 ∷ 0 ∷ []) (108 ∷ 101 ∷ 116 ∷ []) 0 1000000 ≡ gives (answer 32 0 0 0 5 2 0) (written 12288 (1 ∷ 0 ∷ 0 ∷ 3 ∷ 0 ∷ 1 ∷ 4 ∷ 0 ∷ 3 ∷ 2 ∷ 1 ∷ 3 ∷ 3 ∷ 2 ∷ 4 ∷ []) (replicate 12288 7)) (written 256 (3 ∷ 255 ∷ 3 ∷ 2 ∷ 3 ∷ 1 ∷ 0 ∷ 5 ∷ []) (replicate 256 7))
-  -- damaged 167
-  v119 : call 12288 256 (2 ∷ 0 ∷ 2 ∷ 87 ∷ 49 ∷ 0 ∷ 2 ∷ 105 ∷ 102 ∷ 0 ∷ 2 ∷ 0 ∷ 1 ∷ 0 ∷ 1 ∷ 2 ∷ 255 ∷ 3 ∷ 1 ∷ 2 ∷ 127 ∷ 3 ∷ 1 ∷ 1 ∷ 3 ∷ 10 ∷ 1 ∷ 0 ∷ 0 ∷ 6 ∷ 0 ∷ 0 ∷ 0 ∷ 3 ∷ 0 ∷ 0 ∷ 0 ∷ []) (40 ∷ 49 ∷ []) 0 1000000 ≡ gives (answer 31 0 0 0 5 1 0) (written 12288 (1 ∷ 0 ∷ 0 ∷ 8 ∷ 1 ∷ 0 ∷ 2 ∷ 1 ∷ 2 ∷ 3 ∷ 0 ∷ 3 ∷ []) (replicate 12288 7)) (written 256 (0 ∷ 255 ∷ 3 ∷ 4 ∷ []) (replicate 256 7))
-  -- reading 111
-  v120 : call 12288 256 (1 ∷ 0 ∷ 2 ∷ 87 ∷ 49 ∷ 3 ∷ 2 ∷ 1 ∷ 84 ∷ 7 ∷ 2 ∷ 105 ∷ 110 ∷ 7 ∷ 1 ∷ 97 ∷ 2 ∷ 0 ∷ 4 ∷ 0 ∷ 2 ∷ 6 ∷ 2 ∷ 1 ∷ 1 ∷ 3 ∷ 0 ∷ 3 ∷ 0 ∷ 1 ∷ 1 ∷ 0 ∷ 0 ∷ 2 ∷ 1 ∷ 0 ∷ 1 ∷ 2 ∷ 1 ∷ 1 ∷ 1 ∷ 2 ∷ 1 ∷ 1 ∷ 3 ∷ 1 ∷ 11 ∷ 8 ∷ 0 ∷ 0 ∷ 0 ∷ 0 ∷ 59 ∷ 0 ∷ 0 ∷ 8 ∷ 0 ∷ 0 ∷ 0 ∷ 1 ∷ 0 ∷ 0 ∷ 0 ∷ 0 ∷ 59 ∷ 0 ∷ 0 ∷ 8 ∷ 0 ∷ 0 ∷ 0 ∷ 0 ∷ 37 ∷ 0 ∷ 0 ∷ 8 ∷ 0 ∷ 0 ∷ 0 ∷ 8 ∷ 1 ∷ 0 ∷ 0 ∷ 0 ∷ 37 ∷ 0 ∷ 0 ∷ 8 ∷ 0 ∷ 0 ∷ 0 ∷ []) (49 ∷ 59 ∷ 50 ∷ 59 ∷ 47 ∷ 47 ∷ []) 0 1000000 ≡ gives (answer 30 0 11 0 6 0 0) (written 12288 [] (replicate 12288 7)) (written 256 [] (replicate 256 7))
+  -- damaged 611
+  v101 : call 12288 256 (3 ∷ 1 ∷ 1 ∷ 97 ∷ 0 ∷ 1 ∷ 120 ∷ 1 ∷ 2 ∷ 102 ∷ []) (49 ∷ 45 ∷ 50 ∷ []) 0 1000000 ≡ gives (answer 3 10 0 0 0 0 0) (replicate 12288 7) (replicate 256 7)
+  -- damaged 630
+  v102 : call 12288 256 (0 ∷ 2 ∷ 0 ∷ 2 ∷ 118 ∷ 49 ∷ 1 ∷ 1 ∷ 97 ∷ 2 ∷ 4 ∷ 2 ∷ 1 ∷ 2 ∷ 4 ∷ 255 ∷ 3 ∷ 1 ∷ 1 ∷ 0 ∷ 2 ∷ 1 ∷ 4 ∷ 1 ∷ 0 ∷ 1 ∷ 1 ∷ 0 ∷ 1 ∷ 1 ∷ 2 ∷ 8 ∷ 3 ∷ 0 ∷ 0 ∷ 0 ∷ 7 ∷ 0 ∷ 0 ∷ 0 ∷ 8 ∷ 0 ∷ 0 ∷ 0 ∷ 0 ∷ 35 ∷ 0 ∷ 0 ∷ 8 ∷ 0 ∷ 0 ∷ 0 ∷ 0 ∷ 45 ∷ 0 ∷ 0 ∷ 8 ∷ 1 ∷ 0 ∷ 0 ∷ 0 ∷ 58 ∷ 0 ∷ 0 ∷ []) (40 ∷ 49 ∷ []) 0 1000000 ≡ gives (answer 6 10 0 0 0 0 0) (replicate 12288 7) (replicate 256 7)
+  -- damaged 654
+  v103 : call 12288 256 (0 ∷ 0 ∷ 1 ∷ 0 ∷ 1 ∷ 1 ∷ 255 ∷ 3 ∷ 1 ∷ 1 ∷ 1 ∷ 13 ∷ 1 ∷ 40 ∷ 41 ∷ []) (49 ∷ 45 ∷ 50 ∷ []) 0 1000000 ≡ gives (answer 6 12 0 0 0 0 0) (replicate 12288 7) (replicate 256 7)
+  -- damaged 675
+  v104 : call 12288 256 (1 ∷ 1 ∷ 1 ∷ 95 ∷ 0 ∷ 2 ∷ 0 ∷ 3 ∷ 0 ∷ 2 ∷ 5 ∷ 1 ∷ 1 ∷ 1 ∷ 1 ∷ 1 ∷ 1 ∷ 1 ∷ 3 ∷ 2 ∷ 2 ∷ 1 ∷ 1 ∷ 255 ∷ 3 ∷ 0 ∷ 1 ∷ 1 ∷ 1 ∷ 1 ∷ 2 ∷ 9 ∷ 8 ∷ 1 ∷ 0 ∷ 0 ∷ 7 ∷ 0 ∷ 0 ∷ 0 ∷ 6 ∷ 0 ∷ 0 ∷ 0 ∷ 8 ∷ 0 ∷ 0 ∷ 0 ∷ 9 ∷ 1 ∷ 0 ∷ 0 ∷ 3 ∷ 0 ∷ 0 ∷ 0 ∷ 0 ∷ 60 ∷ 0 ∷ 0 ∷ 8 ∷ 0 ∷ 0 ∷ 0 ∷ 0 ∷ 62 ∷ 0 ∷ 0 ∷ []) (40 ∷ 49 ∷ []) 0 1000000 ≡ gives (answer 4 31 0 0 0 0 0) (replicate 12288 7) (replicate 256 7)
+  -- reading 333
+  v105 : call 12288 256 (0 ∷ 2 ∷ 1 ∷ 1 ∷ 95 ∷ 7 ∷ 2 ∷ 105 ∷ 110 ∷ 2 ∷ 2 ∷ 0 ∷ 0 ∷ 2 ∷ 2 ∷ 255 ∷ 3 ∷ 1 ∷ 1 ∷ 1 ∷ 1 ∷ 1 ∷ 3 ∷ 4 ∷ 4 ∷ 0 ∷ 0 ∷ 0 ∷ 8 ∷ 1 ∷ 0 ∷ 0 ∷ 0 ∷ 38 ∷ 0 ∷ 0 ∷ 8 ∷ 1 ∷ 0 ∷ 0 ∷ []) (105 ∷ 110 ∷ []) 0 230 ≡ gives (answer 0 0 0 0 1 1 1) (4 ∷ 0 ∷ 2 ∷ zeros 12285 0) (2 ∷ 255 ∷ 3 ∷ 1 ∷ zeros 252 0)
+  -- reading 1400
+  v106 : call 12288 256 (3 ∷ 1 ∷ 3 ∷ 108 ∷ 101 ∷ 116 ∷ 0 ∷ 3 ∷ 110 ∷ 111 ∷ 116 ∷ 0 ∷ 1 ∷ 97 ∷ 3 ∷ 2 ∷ 1 ∷ 97 ∷ 0 ∷ 2 ∷ 105 ∷ 110 ∷ 0 ∷ 1 ∷ 121 ∷ 2 ∷ 0 ∷ 1 ∷ 1 ∷ 2 ∷ 3 ∷ 1 ∷ 1 ∷ 1 ∷ 0 ∷ 255 ∷ 3 ∷ 0 ∷ 1 ∷ 255 ∷ 3 ∷ 1 ∷ 0 ∷ 1 ∷ 3 ∷ 0 ∷ 0 ∷ 0 ∷ []) [] 0 1000000 ≡ gives (answer 0 0 0 0 1 1 2) (1 ∷ 0 ∷ 0 ∷ 3 ∷ 0 ∷ 1 ∷ zeros 12282 0) (0 ∷ 1 ∷ 1 ∷ 2 ∷ zeros 252 0)
+  -- deep 155
+  v107 : call 12288 256 (1 ∷ 1 ∷ 15 ∷ 120 ∷ 120 ∷ 120 ∷ 120 ∷ 120 ∷ 120 ∷ 120 ∷ 120 ∷ 120 ∷ 120 ∷ 120 ∷ 120 ∷ 120 ∷ 120 ∷ 120 ∷ 3 ∷ 0 ∷ 1 ∷ 120 ∷ 3 ∷ 1 ∷ 121 ∷ 1 ∷ 14 ∷ 120 ∷ 120 ∷ 120 ∷ 120 ∷ 120 ∷ 120 ∷ 120 ∷ 120 ∷ 120 ∷ 120 ∷ 120 ∷ 120 ∷ 120 ∷ 120 ∷ 2 ∷ 1 ∷ 3 ∷ 2 ∷ 0 ∷ 3 ∷ 255 ∷ 3 ∷ 1 ∷ 1 ∷ 255 ∷ 3 ∷ 2 ∷ 1 ∷ 1 ∷ 0 ∷ 1 ∷ 2 ∷ 4 ∷ 4 ∷ 0 ∷ 0 ∷ 0 ∷ 8 ∷ 1 ∷ 0 ∷ 0 ∷ 8 ∷ 0 ∷ 0 ∷ 0 ∷ 8 ∷ 0 ∷ 0 ∷ 0 ∷ []) (120 ∷ 120 ∷ 120 ∷ 120 ∷ 120 ∷ 120 ∷ 120 ∷ 120 ∷ 120 ∷ 120 ∷ 120 ∷ 120 ∷ 120 ∷ 120 ∷ 120 ∷ 120 ∷ 120 ∷ 120 ∷ 120 ∷ 32 ∷ 121 ∷ []) 1 1000000 ≡ gives (answer 31 0 0 0 1 1 0) (4 ∷ 0 ∷ 19 ∷ zeros 12285 0) (19 ∷ 255 ∷ 3 ∷ 1 ∷ zeros 252 0)
+  -- reading 512
+  v108 : call 12288 256 (0 ∷ 3 ∷ 0 ∷ 2 ∷ 105 ∷ 110 ∷ 0 ∷ 1 ∷ 97 ∷ 1 ∷ 2 ∷ 118 ∷ 49 ∷ 2 ∷ 1 ∷ 1 ∷ 0 ∷ 2 ∷ 3 ∷ 255 ∷ 3 ∷ 1 ∷ 1 ∷ 3 ∷ 1 ∷ 1 ∷ 1 ∷ 2 ∷ 2 ∷ 1 ∷ 3 ∷ 5 ∷ 0 ∷ 126 ∷ 0 ∷ 0 ∷ 4 ∷ 0 ∷ 0 ∷ 0 ∷ 8 ∷ 1 ∷ 0 ∷ 0 ∷ 0 ∷ 126 ∷ 0 ∷ 0 ∷ 8 ∷ 1 ∷ 0 ∷ 0 ∷ []) (41 ∷ 32 ∷ 65 ∷ 95 ∷ 98 ∷ 32 ∷ 84 ∷ 47 ∷ 47 ∷ []) 0 1000000 ≡ gives (answer 30 0 11 0 2 0 0) (zeros 12288 0) (zeros 256 0)
+  -- reading 1139
+  v109 : call 12288 256 (3 ∷ 1 ∷ 2 ∷ 105 ∷ 102 ∷ 1 ∷ 2 ∷ 100 ∷ 111 ∷ 1 ∷ 2 ∷ 87 ∷ 49 ∷ 0 ∷ 4 ∷ 0 ∷ 1 ∷ 0 ∷ 1 ∷ 0 ∷ 3 ∷ 0 ∷ 2 ∷ 7 ∷ 2 ∷ 2 ∷ 1 ∷ 1 ∷ 3 ∷ 0 ∷ 1 ∷ 1 ∷ 0 ∷ 3 ∷ 1 ∷ 1 ∷ 255 ∷ 3 ∷ 1 ∷ 3 ∷ 2 ∷ 3 ∷ 0 ∷ 1 ∷ 255 ∷ 3 ∷ 0 ∷ 4 ∷ 255 ∷ 3 ∷ 1 ∷ 0 ∷ 11 ∷ 3 ∷ 0 ∷ 0 ∷ 0 ∷ 5 ∷ 6 ∷ 0 ∷ 0 ∷ 4 ∷ 0 ∷ 0 ∷ 0 ∷ 0 ∷ 97 ∷ 0 ∷ 0 ∷ 8 ∷ 2 ∷ 0 ∷ 0 ∷ 0 ∷ 41 ∷ 0 ∷ 0 ∷ 3 ∷ 0 ∷ 0 ∷ 0 ∷ 11 ∷ 2 ∷ 0 ∷ 0 ∷ 3 ∷ 0 ∷ 0 ∷ 0 ∷ 9 ∷ 2 ∷ 0 ∷ 0 ∷ 12 ∷ 2 ∷ 97 ∷ 41 ∷ []) (55 ∷ []) 0 1000000 ≡ gives (answer 0 0 0 0 2 1 4) (1 ∷ 0 ∷ 0 ∷ 5 ∷ 0 ∷ 7 ∷ 2 ∷ 1 ∷ 2 ∷ 3 ∷ 0 ∷ 3 ∷ zeros 12276 0) (1 ∷ 2 ∷ 2 ∷ 4 ∷ zeros 252 0)
+  -- reading 1181
+  v110 : call 12288 256 (3 ∷ 1 ∷ 2 ∷ 105 ∷ 102 ∷ 1 ∷ 3 ∷ 110 ∷ 111 ∷ 116 ∷ 0 ∷ 1 ∷ 95 ∷ 2 ∷ 1 ∷ 2 ∷ 118 ∷ 49 ∷ 7 ∷ 2 ∷ 105 ∷ 110 ∷ 2 ∷ 1 ∷ 1 ∷ 0 ∷ 2 ∷ 3 ∷ 255 ∷ 3 ∷ 1 ∷ 1 ∷ 255 ∷ 3 ∷ 1 ∷ 1 ∷ 255 ∷ 3 ∷ 3 ∷ 1 ∷ 3 ∷ 3 ∷ 0 ∷ 0 ∷ 0 ∷ 0 ∷ 60 ∷ 0 ∷ 0 ∷ 8 ∷ 1 ∷ 0 ∷ 0 ∷ []) (49 ∷ 50 ∷ 9 ∷ 60 ∷ 47 ∷ 47 ∷ 10 ∷ 48 ∷ 48 ∷ 55 ∷ 32 ∷ 32 ∷ 60 ∷ 51 ∷ 47 ∷ 47 ∷ 120 ∷ 10 ∷ 47 ∷ 47 ∷ 121 ∷ 10 ∷ 32 ∷ 55 ∷ 47 ∷ 47 ∷ 10 ∷ 60 ∷ 32 ∷ 50 ∷ 9 ∷ []) 0 1000000 ≡ gives (answer 31 0 0 0 2 1 0) (1 ∷ 0 ∷ 0 ∷ 5 ∷ 0 ∷ 12 ∷ 2 ∷ 1 ∷ 2 ∷ 3 ∷ 0 ∷ 3 ∷ zeros 12276 0) (2 ∷ 255 ∷ 3 ∷ 4 ∷ zeros 252 0)
+  -- damaged 514
+  v111 : call 12288 256 (0 ∷ 63 ∷ 0 ∷ 2 ∷ 119 ∷ 48 ∷ 1 ∷ 2 ∷ 119 ∷ 49 ∷ 2 ∷ 2 ∷ 119 ∷ 50 ∷ 3 ∷ 2 ∷ 119 ∷ 51 ∷ 4 ∷ 2 ∷ 119 ∷ 52 ∷ 5 ∷ 2 ∷ 119 ∷ 53 ∷ 6 ∷ 2 ∷ 119 ∷ 54 ∷ 7 ∷ 2 ∷ 119 ∷ 55 ∷ 0 ∷ 2 ∷ 119 ∷ 56 ∷ 1 ∷ 2 ∷ 119 ∷ 57 ∷ 2 ∷ 3 ∷ 119 ∷ 49 ∷ 48 ∷ 3 ∷ 3 ∷ 119 ∷ 49 ∷ 49 ∷ 4 ∷ 3 ∷ 119 ∷ 49 ∷ 50 ∷ 5 ∷ 3 ∷ 119 ∷ 49 ∷ 51 ∷ 6 ∷ 3 ∷ 119 ∷ 49 ∷ 52 ∷ 7 ∷ 3 ∷ 119 ∷ 49 ∷ 53 ∷ 0 ∷ 3 ∷ 119 ∷ 49 ∷ 54 ∷ 1 ∷ 3 ∷ 119 ∷ 49 ∷ 55 ∷ 2 ∷ 3 ∷ 119 ∷ 49 ∷ 56 ∷ 3 ∷ 3 ∷ 119 ∷ 49 ∷ 57 ∷ 4 ∷ 3 ∷ 119 ∷ 50 ∷ 48 ∷ 5 ∷ 3 ∷ 119 ∷ 50 ∷ 49 ∷ 6 ∷ 3 ∷ 119 ∷ 50 ∷ 50 ∷ 7 ∷ 3 ∷ 119 ∷ 50 ∷ 51 ∷ 0 ∷ 3 ∷ 119 ∷ 50 ∷ 52 ∷ 1 ∷ 3 ∷ 119 ∷ 50 ∷ 53 ∷ 2 ∷ 3 ∷ 119 ∷ 50 ∷ 54 ∷ 3 ∷ 3 ∷ 119 ∷ 50 ∷ 55 ∷ 4 ∷ 3 ∷ 119 ∷ 50 ∷ 56 ∷ 5 ∷ 3 ∷ 119 ∷ 50 ∷ 57 ∷ 6 ∷ 3 ∷ 119 ∷ 51 ∷ 48 ∷ 7 ∷ 3 ∷ 119 ∷ 51 ∷ 49 ∷ 0 ∷ 3 ∷ 119 ∷ 51 ∷ 50 ∷ 1 ∷ 3 ∷ 119 ∷ 51 ∷ 51 ∷ 2 ∷ 3 ∷ 119 ∷ 51 ∷ 52 ∷ 3 ∷ 3 ∷ 119 ∷ 51 ∷ 53 ∷ 4 ∷ 3 ∷ 119 ∷ 51 ∷ 54 ∷ 5 ∷ 3 ∷ 119 ∷ 51 ∷ 55 ∷ 6 ∷ 3 ∷ 119 ∷ 51 ∷ 56 ∷ 7 ∷ 3 ∷ 119 ∷ 51 ∷ 57 ∷ 0 ∷ 3 ∷ 119 ∷ 52 ∷ 48 ∷ 1 ∷ 3 ∷ 119 ∷ 52 ∷ 49 ∷ 2 ∷ 3 ∷ 119 ∷ 52 ∷ 50 ∷ 3 ∷ 3 ∷ 119 ∷ 52 ∷ 51 ∷ 4 ∷ 3 ∷ 119 ∷ 52 ∷ 52 ∷ 5 ∷ 3 ∷ 119 ∷ 52 ∷ 53 ∷ 6 ∷ 3 ∷ 119 ∷ 52 ∷ 54 ∷ 7 ∷ 3 ∷ 119 ∷ 52 ∷ 55 ∷ 0 ∷ 3 ∷ 119 ∷ 52 ∷ 56 ∷ 1 ∷ 3 ∷ 119 ∷ 52 ∷ 57 ∷ 2 ∷ 3 ∷ 119 ∷ 53 ∷ 48 ∷ 3 ∷ 3 ∷ 119 ∷ 53 ∷ 49 ∷ 4 ∷ 3 ∷ 119 ∷ 53 ∷ 50 ∷ 5 ∷ 3 ∷ 119 ∷ 53 ∷ 51 ∷ 6 ∷ 3 ∷ 119 ∷ 53 ∷ 52 ∷ 7 ∷ 3 ∷ 119 ∷ 53 ∷ 53 ∷ 0 ∷ 3 ∷ 119 ∷ 53 ∷ 54 ∷ 1 ∷ 3 ∷ 119 ∷ 53 ∷ 55 ∷ 2 ∷ 3 ∷ 119 ∷ 53 ∷ 56 ∷ 3 ∷ 3 ∷ 119 ∷ 53 ∷ 57 ∷ 4 ∷ 3 ∷ 119 ∷ 54 ∷ 48 ∷ 5 ∷ 3 ∷ 119 ∷ 54 ∷ 49 ∷ 6 ∷ 3 ∷ 119 ∷ 54 ∷ 50 ∷ 1 ∷ 0 ∷ 1 ∷ 1 ∷ 255 ∷ 3 ∷ 1 ∷ 1 ∷ 1 ∷ 3 ∷ 0 ∷ 0 ∷ 0 ∷ []) [] 0 1000000 ≡ gives (answer 30 0 11 0 2 0 0) (zeros 12288 0) (zeros 256 0)
+  -- reading 226
+  v112 : call 12288 256 (3 ∷ 0 ∷ 2 ∷ 105 ∷ 110 ∷ 0 ∷ 1 ∷ 120 ∷ 1 ∷ 1 ∷ 121 ∷ 0 ∷ 3 ∷ 0 ∷ 2 ∷ 1 ∷ 3 ∷ 2 ∷ 0 ∷ 5 ∷ 255 ∷ 3 ∷ 1 ∷ 1 ∷ 2 ∷ 2 ∷ 1 ∷ 1 ∷ 1 ∷ 0 ∷ 1 ∷ 3 ∷ 0 ∷ 1 ∷ 1 ∷ 1 ∷ 2 ∷ 2 ∷ 2 ∷ 1 ∷ 7 ∷ 5 ∷ 0 ∷ 0 ∷ 0 ∷ 5 ∷ 1 ∷ 0 ∷ 0 ∷ 8 ∷ 1 ∷ 0 ∷ 0 ∷ 0 ∷ 59 ∷ 0 ∷ 0 ∷ 8 ∷ 0 ∷ 0 ∷ 0 ∷ 5 ∷ 0 ∷ 0 ∷ 0 ∷ 8 ∷ 2 ∷ 0 ∷ 0 ∷ []) (121 ∷ []) 0 1000000 ≡ gives (answer 30 0 11 0 3 0 0) (zeros 12288 0) (zeros 256 0)
+  -- reading 750
+  v113 : call 12288 256 (3 ∷ 1 ∷ 1 ∷ 97 ∷ 1 ∷ 1 ∷ 95 ∷ 1 ∷ 2 ∷ 100 ∷ 111 ∷ 0 ∷ 4 ∷ 0 ∷ 2 ∷ 1 ∷ 3 ∷ 1 ∷ 3 ∷ 1 ∷ 3 ∷ 11 ∷ 1 ∷ 1 ∷ 1 ∷ 1 ∷ 255 ∷ 3 ∷ 1 ∷ 1 ∷ 1 ∷ 0 ∷ 0 ∷ 3 ∷ 1 ∷ 0 ∷ 1 ∷ 3 ∷ 2 ∷ 3 ∷ 0 ∷ 3 ∷ 255 ∷ 3 ∷ 0 ∷ 0 ∷ 2 ∷ 0 ∷ 1 ∷ 3 ∷ 1 ∷ 1 ∷ 0 ∷ 0 ∷ 0 ∷ 3 ∷ 0 ∷ 1 ∷ 1 ∷ 0 ∷ 0 ∷ 1 ∷ 1 ∷ 0 ∷ 1 ∷ 2 ∷ 18 ∷ 3 ∷ 0 ∷ 0 ∷ 0 ∷ 3 ∷ 0 ∷ 0 ∷ 0 ∷ 3 ∷ 0 ∷ 0 ∷ 0 ∷ 6 ∷ 0 ∷ 0 ∷ 0 ∷ 2 ∷ 0 ∷ 0 ∷ 0 ∷ 0 ∷ 45 ∷ 0 ∷ 0 ∷ 12 ∷ 2 ∷ 60 ∷ 62 ∷ 9 ∷ 2 ∷ 0 ∷ 0 ∷ 9 ∷ 1 ∷ 0 ∷ 0 ∷ 10 ∷ 0 ∷ 0 ∷ 0 ∷ 0 ∷ 42 ∷ 0 ∷ 0 ∷ 9 ∷ 2 ∷ 0 ∷ 0 ∷ 0 ∷ 42 ∷ 0 ∷ 0 ∷ 8 ∷ 2 ∷ 0 ∷ 0 ∷ 0 ∷ 42 ∷ 0 ∷ 0 ∷ 3 ∷ 0 ∷ 0 ∷ 0 ∷ 8 ∷ 3 ∷ 0 ∷ 0 ∷ 8 ∷ 3 ∷ 0 ∷ 0 ∷ []) (97 ∷ 62 ∷ 32 ∷ 32 ∷ 97 ∷ []) 0 1000000 ≡ gives (answer 30 0 11 0 3 0 0) (zeros 12288 0) (zeros 256 0)
+  -- reading 1013
+  v114 : call 12288 256 (3 ∷ 1 ∷ 3 ∷ 108 ∷ 101 ∷ 116 ∷ 0 ∷ 1 ∷ 120 ∷ 0 ∷ 3 ∷ 108 ∷ 101 ∷ 116 ∷ 1 ∷ 7 ∷ 1 ∷ 120 ∷ 2 ∷ 0 ∷ 2 ∷ 1 ∷ 2 ∷ 4 ∷ 2 ∷ 2 ∷ 0 ∷ 2 ∷ 2 ∷ 1 ∷ 1 ∷ 2 ∷ 0 ∷ 0 ∷ 0 ∷ 1 ∷ 0 ∷ 1 ∷ 1 ∷ 1 ∷ 6 ∷ 0 ∷ 44 ∷ 0 ∷ 0 ∷ 11 ∷ 1 ∷ 0 ∷ 0 ∷ 12 ∷ 1 ∷ 91 ∷ 93 ∷ 0 ∷ 36 ∷ 0 ∷ 0 ∷ 0 ∷ 36 ∷ 0 ∷ 0 ∷ 2 ∷ 0 ∷ 0 ∷ 0 ∷ []) (36 ∷ []) 1 1000000 ≡ gives (answer 0 0 0 0 3 1 2) (1 ∷ 0 ∷ 0 ∷ 3 ∷ 2 ∷ 1 ∷ zeros 12282 0) (1 ∷ 0 ∷ 0 ∷ 2 ∷ zeros 252 0)
+  -- deep 152
+  v115 : call 12288 256 (0 ∷ 0 ∷ 2 ∷ 0 ∷ 1 ∷ 0 ∷ 2 ∷ 3 ∷ 255 ∷ 3 ∷ 1 ∷ 2 ∷ 255 ∷ 3 ∷ 1 ∷ 0 ∷ 255 ∷ 3 ∷ 1 ∷ 1 ∷ 3 ∷ 13 ∷ 1 ∷ 40 ∷ 41 ∷ 0 ∷ 59 ∷ 0 ∷ 0 ∷ 3 ∷ 0 ∷ 0 ∷ 0 ∷ []) (44 ∷ 44 ∷ 44 ∷ 59 ∷ []) 0 1000000 ≡ gives (answer 30 0 11 0 3 0 0) (zeros 12288 0) (zeros 256 0)
+  -- reading 331
+  v116 : call 12288 256 (0 ∷ 2 ∷ 1 ∷ 1 ∷ 95 ∷ 7 ∷ 2 ∷ 105 ∷ 110 ∷ 2 ∷ 2 ∷ 0 ∷ 0 ∷ 2 ∷ 2 ∷ 255 ∷ 3 ∷ 1 ∷ 1 ∷ 1 ∷ 1 ∷ 1 ∷ 3 ∷ 4 ∷ 4 ∷ 0 ∷ 0 ∷ 0 ∷ 8 ∷ 1 ∷ 0 ∷ 0 ∷ 0 ∷ 38 ∷ 0 ∷ 0 ∷ 8 ∷ 1 ∷ 0 ∷ 0 ∷ []) (32 ∷ 32 ∷ 105 ∷ 110 ∷ 95 ∷ 38 ∷ 105 ∷ 110 ∷ 38 ∷ 95 ∷ 32 ∷ 47 ∷ []) 1 1000000 ≡ gives (answer 30 2 11 1 4 0 0) (zeros 12288 0) (zeros 256 0)
+  -- reading 813
+  v117 : call 12288 256 (3 ∷ 0 ∷ 1 ∷ 95 ∷ 1 ∷ 3 ∷ 110 ∷ 111 ∷ 116 ∷ 1 ∷ 2 ∷ 105 ∷ 102 ∷ 1 ∷ 0 ∷ 2 ∷ 105 ∷ 110 ∷ 2 ∷ 0 ∷ 3 ∷ 1 ∷ 1 ∷ 4 ∷ 255 ∷ 3 ∷ 1 ∷ 1 ∷ 3 ∷ 3 ∷ 1 ∷ 2 ∷ 2 ∷ 0 ∷ 1 ∷ 1 ∷ 3 ∷ 0 ∷ 0 ∷ 1 ∷ 5 ∷ 13 ∷ 0 ∷ 123 ∷ 125 ∷ 12 ∷ 1 ∷ 123 ∷ 125 ∷ 10 ∷ 1 ∷ 0 ∷ 0 ∷ 3 ∷ 0 ∷ 0 ∷ 0 ∷ 3 ∷ 0 ∷ 0 ∷ 0 ∷ []) (49 ∷ 50 ∷ []) 0 1000000 ≡ gives (answer 0 0 0 0 4 2 7) (1 ∷ 0 ∷ 0 ∷ 8 ∷ 1 ∷ 0 ∷ 2 ∷ 1 ∷ 2 ∷ 3 ∷ 0 ∷ 3 ∷ 5 ∷ 0 ∷ 12 ∷ 2 ∷ 1 ∷ 5 ∷ 3 ∷ 2 ∷ 6 ∷ zeros 12267 0) (0 ∷ 255 ∷ 3 ∷ 4 ∷ 2 ∷ 2 ∷ 0 ∷ 7 ∷ zeros 248 0)
+  -- reading 946
+  v118 : call 12288 256 (2 ∷ 0 ∷ 1 ∷ 120 ∷ 1 ∷ 1 ∷ 97 ∷ 3 ∷ 7 ∷ 1 ∷ 121 ∷ 0 ∷ 1 ∷ 120 ∷ 1 ∷ 1 ∷ 84 ∷ 2 ∷ 0 ∷ 1 ∷ 0 ∷ 2 ∷ 3 ∷ 2 ∷ 2 ∷ 1 ∷ 2 ∷ 2 ∷ 0 ∷ 0 ∷ 1 ∷ 3 ∷ 1 ∷ 0 ∷ 2 ∷ 5 ∷ 13 ∷ 0 ∷ 123 ∷ 125 ∷ 9 ∷ 1 ∷ 0 ∷ 0 ∷ 3 ∷ 0 ∷ 0 ∷ 0 ∷ 8 ∷ 1 ∷ 0 ∷ 0 ∷ 0 ∷ 64 ∷ 0 ∷ 0 ∷ []) (123 ∷ 123 ∷ 52 ∷ 50 ∷ 44 ∷ 55 ∷ 125 ∷ 51 ∷ 64 ∷ 125 ∷ 50 ∷ []) 0 1000000 ≡ gives (answer 30 1 12 0 4 0 0) (zeros 12288 0) (zeros 256 0)
+  -- deep 193
+  v119 : call 12288 256 (0 ∷ 0 ∷ 1 ∷ 0 ∷ 2 ∷ 2 ∷ 255 ∷ 3 ∷ 1 ∷ 1 ∷ 1 ∷ 0 ∷ 3 ∷ 1 ∷ 2 ∷ 3 ∷ 0 ∷ 0 ∷ 0 ∷ 8 ∷ 0 ∷ 0 ∷ 0 ∷ []) [] 0 1000000 ≡ gives (answer 30 0 11 0 4 0 0) (zeros 12288 0) (zeros 256 0)
+  -- reading 441
+  v120 : call 12288 256 (2 ∷ 0 ∷ 3 ∷ 110 ∷ 111 ∷ 116 ∷ 0 ∷ 2 ∷ 100 ∷ 111 ∷ 2 ∷ 0 ∷ 1 ∷ 120 ∷ 0 ∷ 1 ∷ 84 ∷ 2 ∷ 0 ∷ 1 ∷ 1 ∷ 1 ∷ 2 ∷ 1 ∷ 0 ∷ 0 ∷ 2 ∷ 255 ∷ 3 ∷ 1 ∷ 1 ∷ 3 ∷ 11 ∷ 1 ∷ 0 ∷ 0 ∷ 0 ∷ 44 ∷ 0 ∷ 0 ∷ 0 ∷ 35 ∷ 0 ∷ 0 ∷ []) (32 ∷ 44 ∷ 9 ∷ 35 ∷ 32 ∷ 47 ∷ 47 ∷ 32 ∷ 99 ∷ 10 ∷ []) 0 1000000 ≡ gives (answer 31 0 0 0 5 1 0) (1 ∷ 0 ∷ 0 ∷ 8 ∷ 1 ∷ 0 ∷ 2 ∷ 1 ∷ 2 ∷ 3 ∷ 0 ∷ 3 ∷ zeros 12276 0) (2 ∷ 1 ∷ 0 ∷ 4 ∷ zeros 252 0)
 
 vectors101 : Vectors101
-unfolding classOf leading spanEnd commentAt commentEnd roundEnd rounds skipFrom identifierAt decimal numberOf numberAt same isReserved lookupFrom checked row spelling entry nonterminal variant stepOf step allPass ended whole checkBook outwards govern governor isSome isKind ofKind characterEnd identifierEnd reservedAt freeEnd variableAt tokenAt claimed afterElement closed numbersOf cellsIn identityOf findCell treeIn treesIn meaningOf meanings join beyond joinWith choiceError identifierError tokenError _>>=_ sameParse has allIn kept add addAll ask newest others spend make itemCell withCell withToken nested begin counted variants oneRun roundsRun failedCall runCall runIdentifier stored enter child either follow followed plainNext listNext chosen stops choice listing steps runner run cellNumbers parseNumbers written wholeValues allAre firstHigh byValues ending onBook answerOf
+unfolding classOf leading spanEnd commentAt commentEnd roundEnd rounds skipFrom identifierAt decimal numberOf numberAt same isReserved lookupFrom checked row spelling entry nonterminal variant stepOf step allPass ended whole checkBook outwards govern governor isSome isKind ofKind characterEnd identifierEnd reservedAt freeEnd variableAt tokenAt claimant afterElement closed numbersOf cellsIn identityOf findCell treeIn treesIn meaningOf meanings join beyond joinWith choiceError identifierError tokenError _>>=_ sameParse has allIn kept add addAll ask newest others spend make itemCell failedCall either chosen begin withCell withToken complete counted variants oneRun roundsRun runCall runIdentifier plainNext listNext stops nested reentry enter enterChild follow followed choice listing steps runner run cellNumbers parseNumbers written wholeValues allAre firstHigh byValues atEnd onBook answerOf
 vectors101 = record { v101 = refl; v102 = refl; v103 = refl; v104 = refl; v105 = refl; v106 = refl; v107 = refl; v108 = refl; v109 = refl; v110 = refl; v111 = refl; v112 = refl; v113 = refl; v114 = refl; v115 = refl; v116 = refl; v117 = refl; v118 = refl; v119 = refl; v120 = refl }
 
 record Vectors121 : Type 0 where
-  -- reading 393
-  v121 : call 12288 256 (1 ∷ 0 ∷ 1 ∷ 95 ∷ 2 ∷ 7 ∷ 1 ∷ 97 ∷ 0 ∷ 2 ∷ 105 ∷ 110 ∷ 3 ∷ 1 ∷ 3 ∷ 0 ∷ 3 ∷ 0 ∷ 1 ∷ 7 ∷ 2 ∷ 1 ∷ 1 ∷ 1 ∷ 2 ∷ 1 ∷ 1 ∷ 3 ∷ 2 ∷ 1 ∷ 3 ∷ 1 ∷ 2 ∷ 0 ∷ 1 ∷ 1 ∷ 1 ∷ 0 ∷ 1 ∷ 2 ∷ 2 ∷ 0 ∷ 3 ∷ 1 ∷ 1 ∷ 0 ∷ 3 ∷ 1 ∷ 10 ∷ 3 ∷ 0 ∷ 0 ∷ 0 ∷ 8 ∷ 0 ∷ 0 ∷ 0 ∷ 0 ∷ 64 ∷ 0 ∷ 0 ∷ 8 ∷ 0 ∷ 0 ∷ 0 ∷ 8 ∷ 0 ∷ 0 ∷ 0 ∷ 3 ∷ 0 ∷ 0 ∷ 0 ∷ 8 ∷ 2 ∷ 0 ∷ 0 ∷ 0 ∷ 64 ∷ 0 ∷ 0 ∷ 8 ∷ 0 ∷ 0 ∷ 0 ∷ 8 ∷ 0 ∷ 0 ∷ 0 ∷ []) (97 ∷ 64 ∷ 97 ∷ 64 ∷ 64 ∷ 105 ∷ 110 ∷ 64 ∷ 122 ∷ 57 ∷ 64 ∷ 47 ∷ 47 ∷ 10 ∷ []) 0 1000000 ≡ gives (answer 30 0 11 0 6 0 0) (written 12288 [] (replicate 12288 7)) (written 256 [] (replicate 256 7))
-  -- reading 657
-  v122 : call 12288 256 (2 ∷ 0 ∷ 2 ∷ 102 ∷ 110 ∷ 1 ∷ 2 ∷ 100 ∷ 111 ∷ 0 ∷ 1 ∷ 0 ∷ 3 ∷ 3 ∷ 255 ∷ 3 ∷ 1 ∷ 1 ∷ 1 ∷ 0 ∷ 1 ∷ 2 ∷ 1 ∷ 2 ∷ 1 ∷ 3 ∷ 6 ∷ 3 ∷ 0 ∷ 0 ∷ 0 ∷ 8 ∷ 0 ∷ 0 ∷ 0 ∷ 0 ∷ 61 ∷ 0 ∷ 0 ∷ 8 ∷ 0 ∷ 0 ∷ 0 ∷ 0 ∷ 63 ∷ 0 ∷ 0 ∷ 8 ∷ 0 ∷ 0 ∷ 0 ∷ []) (100 ∷ 111 ∷ 32 ∷ 61 ∷ 32 ∷ 100 ∷ 111 ∷ 32 ∷ 61 ∷ []) 0 1000000 ≡ gives (answer 30 0 11 0 6 0 0) (written 12288 [] (replicate 12288 7)) (written 256 [] (replicate 256 7))
-  -- reading 842
-  v123 : call 12288 256 (0 ∷ 2 ∷ 0 ∷ 1 ∷ 121 ∷ 2 ∷ 1 ∷ 84 ∷ 2 ∷ 0 ∷ 1 ∷ 1 ∷ 2 ∷ 3 ∷ 3 ∷ 0 ∷ 1 ∷ 2 ∷ 0 ∷ 1 ∷ 1 ∷ 1 ∷ 2 ∷ 1 ∷ 1 ∷ 1 ∷ 4 ∷ 10 ∷ 1 ∷ 0 ∷ 0 ∷ 7 ∷ 0 ∷ 0 ∷ 0 ∷ 4 ∷ 0 ∷ 0 ∷ 0 ∷ 2 ∷ 0 ∷ 0 ∷ 0 ∷ []) [] 0 1000000 ≡ gives (answer 0 0 0 0 6 1 4) (written 12288 (1 ∷ 0 ∷ 0 ∷ 8 ∷ 1 ∷ 0 ∷ 2 ∷ 1 ∷ 2 ∷ 3 ∷ 0 ∷ 3 ∷ []) (replicate 12288 7)) (written 256 (0 ∷ 3 ∷ 0 ∷ 4 ∷ []) (replicate 256 7))
-  -- reading 980
-  v124 : call 12288 256 (0 ∷ 3 ∷ 0 ∷ 1 ∷ 97 ∷ 7 ∷ 1 ∷ 120 ∷ 1 ∷ 1 ∷ 84 ∷ 2 ∷ 1 ∷ 2 ∷ 2 ∷ 0 ∷ 2 ∷ 2 ∷ 0 ∷ 1 ∷ 3 ∷ 2 ∷ 1 ∷ 1 ∷ 1 ∷ 4 ∷ 9 ∷ 0 ∷ 0 ∷ 0 ∷ 8 ∷ 0 ∷ 0 ∷ 0 ∷ 0 ∷ 94 ∷ 0 ∷ 0 ∷ 2 ∷ 0 ∷ 0 ∷ 0 ∷ []) (50 ∷ 32 ∷ 94 ∷ 32 ∷ 51 ∷ 32 ∷ 47 ∷ 32 ∷ 50 ∷ []) 0 1000000 ≡ gives (answer 30 0 11 0 6 0 0) (written 12288 [] (replicate 12288 7)) (written 256 [] (replicate 256 7))
-  -- reading 1059
-  v125 : call 12288 256 (2 ∷ 1 ∷ 3 ∷ 108 ∷ 101 ∷ 116 ∷ 1 ∷ 3 ∷ 110 ∷ 111 ∷ 116 ∷ 2 ∷ 1 ∷ 1 ∷ 97 ∷ 0 ∷ 1 ∷ 120 ∷ 3 ∷ 1 ∷ 3 ∷ 1 ∷ 3 ∷ 2 ∷ 0 ∷ 6 ∷ 3 ∷ 1 ∷ 1 ∷ 3 ∷ 3 ∷ 3 ∷ 1 ∷ 1 ∷ 2 ∷ 1 ∷ 1 ∷ 2 ∷ 2 ∷ 3 ∷ 1 ∷ 1 ∷ 255 ∷ 3 ∷ 1 ∷ 2 ∷ 3 ∷ 2 ∷ 1 ∷ 2 ∷ 11 ∷ 8 ∷ 0 ∷ 0 ∷ 0 ∷ 0 ∷ 47 ∷ 0 ∷ 0 ∷ 8 ∷ 0 ∷ 0 ∷ 0 ∷ 2 ∷ 0 ∷ 0 ∷ 0 ∷ 8 ∷ 0 ∷ 0 ∷ 0 ∷ 13 ∷ 2 ∷ 40 ∷ 41 ∷ 4 ∷ 0 ∷ 0 ∷ 0 ∷ 9 ∷ 1 ∷ 0 ∷ 0 ∷ 8 ∷ 1 ∷ 0 ∷ 0 ∷ 8 ∷ 1 ∷ 0 ∷ 0 ∷ 10 ∷ 2 ∷ 0 ∷ 0 ∷ []) [] 0 1000000 ≡ gives (answer 30 0 11 0 6 0 0) (written 12288 [] (replicate 12288 7)) (written 256 [] (replicate 256 7))
-  -- reading 1228
-  v126 : call 12288 256 (2 ∷ 1 ∷ 3 ∷ 110 ∷ 111 ∷ 116 ∷ 1 ∷ 2 ∷ 100 ∷ 111 ∷ 3 ∷ 1 ∷ 1 ∷ 95 ∷ 7 ∷ 1 ∷ 84 ∷ 0 ∷ 2 ∷ 105 ∷ 102 ∷ 3 ∷ 1 ∷ 4 ∷ 1 ∷ 3 ∷ 0 ∷ 3 ∷ 10 ∷ 2 ∷ 0 ∷ 1 ∷ 3 ∷ 255 ∷ 3 ∷ 0 ∷ 1 ∷ 2 ∷ 3 ∷ 1 ∷ 3 ∷ 2 ∷ 1 ∷ 1 ∷ 0 ∷ 255 ∷ 3 ∷ 1 ∷ 1 ∷ 3 ∷ 3 ∷ 0 ∷ 2 ∷ 2 ∷ 3 ∷ 0 ∷ 3 ∷ 0 ∷ 1 ∷ 1 ∷ 2 ∷ 0 ∷ 0 ∷ 0 ∷ 1 ∷ 255 ∷ 3 ∷ 1 ∷ 2 ∷ 18 ∷ 13 ∷ 1 ∷ 123 ∷ 125 ∷ 0 ∷ 64 ∷ 0 ∷ 0 ∷ 8 ∷ 0 ∷ 0 ∷ 0 ∷ 3 ∷ 0 ∷ 0 ∷ 0 ∷ 6 ∷ 0 ∷ 0 ∷ 0 ∷ 2 ∷ 0 ∷ 0 ∷ 0 ∷ 2 ∷ 0 ∷ 0 ∷ 0 ∷ 1 ∷ 0 ∷ 0 ∷ 0 ∷ 0 ∷ 59 ∷ 0 ∷ 0 ∷ 8 ∷ 1 ∷ 0 ∷ 0 ∷ 6 ∷ 0 ∷ 0 ∷ 0 ∷ 8 ∷ 1 ∷ 0 ∷ 0 ∷ 0 ∷ 42 ∷ 0 ∷ 0 ∷ 8 ∷ 2 ∷ 0 ∷ 0 ∷ 0 ∷ 64 ∷ 0 ∷ 0 ∷ 3 ∷ 0 ∷ 0 ∷ 0 ∷ 0 ∷ 64 ∷ 0 ∷ 0 ∷ 5 ∷ 7 ∷ 0 ∷ 0 ∷ []) (11 ∷ []) 0 1000000 ≡ gives (answer 0 0 0 0 6 1 4) (written 12288 (1 ∷ 0 ∷ 0 ∷ 8 ∷ 1 ∷ 0 ∷ 2 ∷ 1 ∷ 2 ∷ 3 ∷ 3 ∷ 1 ∷ []) (replicate 12288 7)) (written 256 (1 ∷ 2 ∷ 1 ∷ 4 ∷ []) (replicate 256 7))
-  -- damaged 49
-  v127 : call 12288 256 (1 ∷ 1 ∷ 2 ∷ 87 ∷ 49 ∷ 1 ∷ 1 ∷ 1 ∷ 120 ∷ 3 ∷ 0 ∷ 4 ∷ 0 ∷ 1 ∷ 0 ∷ 3 ∷ 8 ∷ 1 ∷ 3 ∷ 1 ∷ 3 ∷ 0 ∷ 3 ∷ 1 ∷ 3 ∷ 2 ∷ 0 ∷ 1 ∷ 4 ∷ 255 ∷ 3 ∷ 1 ∷ 1 ∷ 1 ∷ 1 ∷ 3 ∷ 1 ∷ 0 ∷ 2 ∷ 0 ∷ 3 ∷ 1 ∷ 1 ∷ 3 ∷ 1 ∷ 2 ∷ 0 ∷ 1 ∷ 2 ∷ 18 ∷ 8 ∷ 0 ∷ 0 ∷ 0 ∷ 0 ∷ 58 ∷ 0 ∷ 0 ∷ 8 ∷ 1 ∷ 0 ∷ 0 ∷ 8 ∷ 0 ∷ 0 ∷ 0 ∷ 0 ∷ 58 ∷ 0 ∷ 0 ∷ 8 ∷ 2 ∷ 0 ∷ 0 ∷ 8 ∷ 1 ∷ 0 ∷ 0 ∷ 0 ∷ 58 ∷ 0 ∷ 0 ∷ 8 ∷ 0 ∷ 0 ∷ 0 ∷ 0 ∷ 58 ∷ 0 ∷ 0 ∷ 3 ∷ 0 ∷ 0 ∷ 0 ∷ 8 ∷ 2 ∷ 0 ∷ 0 ∷ 0 ∷ 40 ∷ 0 ∷ 0 ∷ 8 ∷ 0 ∷ 0 ∷ 0 ∷ 0 ∷ 41 ∷ 0 ∷ 0 ∷ 8 ∷ 2 ∷ 0 ∷ 0 ∷ 8 ∷ 2 ∷ 0 ∷ 0 ∷ 0 ∷ 58 ∷ 0 ∷ 0 ∷ []) (120 ∷ []) 2 1000000 ≡ gives (answer 30 0 11 2 6 0 0) (written 12288 [] (replicate 12288 7)) (written 256 [] (replicate 256 7))
-  -- reading 30
-  v128 : call 12288 256 (2 ∷ 1 ∷ 2 ∷ 87 ∷ 49 ∷ 0 ∷ 3 ∷ 108 ∷ 101 ∷ 116 ∷ 3 ∷ 0 ∷ 1 ∷ 84 ∷ 1 ∷ 2 ∷ 118 ∷ 49 ∷ 2 ∷ 2 ∷ 105 ∷ 110 ∷ 3 ∷ 1 ∷ 2 ∷ 0 ∷ 1 ∷ 0 ∷ 2 ∷ 5 ∷ 1 ∷ 1 ∷ 1 ∷ 1 ∷ 2 ∷ 0 ∷ 0 ∷ 3 ∷ 1 ∷ 2 ∷ 2 ∷ 1 ∷ 0 ∷ 0 ∷ 1 ∷ 3 ∷ 0 ∷ 1 ∷ 3 ∷ 1 ∷ 9 ∷ 3 ∷ 0 ∷ 0 ∷ 0 ∷ 8 ∷ 0 ∷ 0 ∷ 0 ∷ 0 ∷ 46 ∷ 0 ∷ 0 ∷ 8 ∷ 0 ∷ 0 ∷ 0 ∷ 8 ∷ 0 ∷ 0 ∷ 0 ∷ 0 ∷ 123 ∷ 0 ∷ 0 ∷ 8 ∷ 0 ∷ 0 ∷ 0 ∷ 0 ∷ 125 ∷ 0 ∷ 0 ∷ 8 ∷ 2 ∷ 0 ∷ 0 ∷ []) (50 ∷ 9 ∷ []) 0 1000000 ≡ gives (answer 0 0 0 0 7 1 4) (written 12288 (1 ∷ 0 ∷ 0 ∷ 5 ∷ 0 ∷ 2 ∷ 2 ∷ 1 ∷ 2 ∷ 3 ∷ 0 ∷ 3 ∷ []) (replicate 12288 7)) (written 256 (1 ∷ 1 ∷ 1 ∷ 4 ∷ []) (replicate 256 7))
-  -- reading 252
-  v129 : call 12288 256 (1 ∷ 0 ∷ 2 ∷ 100 ∷ 111 ∷ 1 ∷ 0 ∷ 1 ∷ 95 ∷ 4 ∷ 0 ∷ 4 ∷ 0 ∷ 3 ∷ 1 ∷ 2 ∷ 2 ∷ 0 ∷ 9 ∷ 3 ∷ 3 ∷ 0 ∷ 1 ∷ 1 ∷ 0 ∷ 3 ∷ 1 ∷ 2 ∷ 2 ∷ 0 ∷ 1 ∷ 2 ∷ 2 ∷ 2 ∷ 1 ∷ 255 ∷ 3 ∷ 1 ∷ 1 ∷ 2 ∷ 1 ∷ 1 ∷ 3 ∷ 2 ∷ 3 ∷ 1 ∷ 1 ∷ 1 ∷ 0 ∷ 1 ∷ 2 ∷ 3 ∷ 0 ∷ 0 ∷ 1 ∷ 12 ∷ 13 ∷ 3 ∷ 91 ∷ 93 ∷ 8 ∷ 3 ∷ 0 ∷ 0 ∷ 12 ∷ 3 ∷ 91 ∷ 93 ∷ 8 ∷ 3 ∷ 0 ∷ 0 ∷ 8 ∷ 3 ∷ 0 ∷ 0 ∷ 8 ∷ 1 ∷ 0 ∷ 0 ∷ 0 ∷ 61 ∷ 0 ∷ 0 ∷ 8 ∷ 3 ∷ 0 ∷ 0 ∷ 4 ∷ 0 ∷ 0 ∷ 0 ∷ 6 ∷ 0 ∷ 0 ∷ 0 ∷ 8 ∷ 3 ∷ 0 ∷ 0 ∷ 5 ∷ 1 ∷ 0 ∷ 0 ∷ []) (65 ∷ 95 ∷ 98 ∷ []) 0 1000000 ≡ gives (answer 0 0 0 0 7 3 5) (written 12288 (1 ∷ 0 ∷ 0 ∷ 8 ∷ 1 ∷ 0 ∷ 2 ∷ 1 ∷ 2 ∷ 3 ∷ 0 ∷ 3 ∷ 4 ∷ 0 ∷ 3 ∷ []) (replicate 12288 7)) (written 256 (0 ∷ 3 ∷ 3 ∷ 4 ∷ 3 ∷ 1 ∷ 0 ∷ 5 ∷ 3 ∷ 2 ∷ 2 ∷ 5 ∷ []) (replicate 256 7))
-  -- reading 695
-  v130 : call 12288 256 (3 ∷ 0 ∷ 2 ∷ 105 ∷ 110 ∷ 0 ∷ 2 ∷ 102 ∷ 110 ∷ 1 ∷ 2 ∷ 105 ∷ 102 ∷ 3 ∷ 2 ∷ 2 ∷ 105 ∷ 102 ∷ 0 ∷ 1 ∷ 98 ∷ 0 ∷ 1 ∷ 95 ∷ 3 ∷ 0 ∷ 2 ∷ 2 ∷ 0 ∷ 0 ∷ 2 ∷ 4 ∷ 3 ∷ 0 ∷ 1 ∷ 3 ∷ 2 ∷ 1 ∷ 1 ∷ 1 ∷ 1 ∷ 1 ∷ 1 ∷ 1 ∷ 0 ∷ 3 ∷ 1 ∷ 1 ∷ 6 ∷ 9 ∷ 0 ∷ 0 ∷ 0 ∷ 0 ∷ 37 ∷ 0 ∷ 0 ∷ 8 ∷ 0 ∷ 0 ∷ 0 ∷ 3 ∷ 0 ∷ 0 ∷ 0 ∷ 4 ∷ 0 ∷ 0 ∷ 0 ∷ 3 ∷ 0 ∷ 0 ∷ 0 ∷ []) (37 ∷ 32 ∷ 32 ∷ 105 ∷ 110 ∷ 47 ∷ 47 ∷ 32 ∷ 101 ∷ 110 ∷ 100 ∷ []) 0 117 ≡ gives (answer 30 3 11 0 7 0 0) (written 12288 [] (replicate 12288 7)) (written 256 [] (replicate 256 7))
-  -- reading 1248
-  v131 : call 12288 256 (2 ∷ 1 ∷ 2 ∷ 105 ∷ 102 ∷ 1 ∷ 1 ∷ 97 ∷ 0 ∷ 2 ∷ 0 ∷ 2 ∷ 0 ∷ 3 ∷ 5 ∷ 3 ∷ 0 ∷ 1 ∷ 2 ∷ 0 ∷ 0 ∷ 1 ∷ 1 ∷ 255 ∷ 3 ∷ 1 ∷ 1 ∷ 255 ∷ 3 ∷ 1 ∷ 1 ∷ 255 ∷ 3 ∷ 1 ∷ 1 ∷ 6 ∷ 7 ∷ 0 ∷ 0 ∷ 0 ∷ 10 ∷ 1 ∷ 0 ∷ 0 ∷ 3 ∷ 0 ∷ 0 ∷ 0 ∷ 2 ∷ 0 ∷ 0 ∷ 0 ∷ 5 ∷ 2 ∷ 0 ∷ 0 ∷ 9 ∷ 0 ∷ 0 ∷ 0 ∷ []) (32 ∷ 97 ∷ 32 ∷ 105 ∷ 102 ∷ []) 1 1000000 ≡ gives (answer 31 0 0 0 7 1 0) (written 12288 (1 ∷ 0 ∷ 0 ∷ 7 ∷ 0 ∷ 0 ∷ 2 ∷ 1 ∷ 2 ∷ 3 ∷ 4 ∷ 3 ∷ []) (replicate 12288 7)) (written 256 (1 ∷ 255 ∷ 3 ∷ 4 ∷ []) (replicate 256 7))
-  -- reading 1495
-  v132 : call 12288 256 (1 ∷ 0 ∷ 1 ∷ 120 ∷ 2 ∷ 0 ∷ 2 ∷ 118 ∷ 49 ∷ 0 ∷ 1 ∷ 120 ∷ 1 ∷ 0 ∷ 4 ∷ 4 ∷ 255 ∷ 3 ∷ 1 ∷ 1 ∷ 0 ∷ 0 ∷ 1 ∷ 2 ∷ 2 ∷ 2 ∷ 1 ∷ 4 ∷ 1 ∷ 0 ∷ 0 ∷ 2 ∷ 9 ∷ 3 ∷ 0 ∷ 0 ∷ 0 ∷ 8 ∷ 0 ∷ 0 ∷ 0 ∷ 0 ∷ 58 ∷ 0 ∷ 0 ∷ 8 ∷ 0 ∷ 0 ∷ 0 ∷ 0 ∷ 42 ∷ 0 ∷ 0 ∷ 8 ∷ 0 ∷ 0 ∷ 0 ∷ 0 ∷ 58 ∷ 0 ∷ 0 ∷ 0 ∷ 58 ∷ 0 ∷ 0 ∷ 8 ∷ 0 ∷ 0 ∷ 0 ∷ []) (44 ∷ 12 ∷ []) 0 1000000 ≡ gives (answer 30 0 11 0 7 0 0) (written 12288 [] (replicate 12288 7)) (written 256 [] (replicate 256 7))
+  -- reading 694
+  v121 : call 12288 256 (3 ∷ 0 ∷ 2 ∷ 105 ∷ 110 ∷ 0 ∷ 2 ∷ 102 ∷ 110 ∷ 1 ∷ 2 ∷ 105 ∷ 102 ∷ 3 ∷ 2 ∷ 2 ∷ 105 ∷ 102 ∷ 0 ∷ 1 ∷ 98 ∷ 0 ∷ 1 ∷ 95 ∷ 3 ∷ 0 ∷ 2 ∷ 2 ∷ 0 ∷ 0 ∷ 2 ∷ 4 ∷ 3 ∷ 0 ∷ 1 ∷ 3 ∷ 2 ∷ 1 ∷ 1 ∷ 1 ∷ 1 ∷ 1 ∷ 1 ∷ 1 ∷ 0 ∷ 3 ∷ 1 ∷ 1 ∷ 6 ∷ 9 ∷ 0 ∷ 0 ∷ 0 ∷ 0 ∷ 37 ∷ 0 ∷ 0 ∷ 8 ∷ 0 ∷ 0 ∷ 0 ∷ 3 ∷ 0 ∷ 0 ∷ 0 ∷ 4 ∷ 0 ∷ 0 ∷ 0 ∷ 3 ∷ 0 ∷ 0 ∷ 0 ∷ []) (36 ∷ 37 ∷ 32 ∷ []) 0 1000000 ≡ gives (answer 30 0 11 0 5 0 0) (zeros 12288 0) (zeros 256 0)
+  -- reading 965
+  v122 : call 12288 256 (2 ∷ 0 ∷ 1 ∷ 97 ∷ 0 ∷ 3 ∷ 108 ∷ 101 ∷ 116 ∷ 2 ∷ 7 ∷ 1 ∷ 95 ∷ 0 ∷ 1 ∷ 97 ∷ 2 ∷ 0 ∷ 3 ∷ 0 ∷ 4 ∷ 7 ∷ 255 ∷ 3 ∷ 1 ∷ 1 ∷ 255 ∷ 3 ∷ 1 ∷ 1 ∷ 1 ∷ 0 ∷ 1 ∷ 2 ∷ 0 ∷ 2 ∷ 1 ∷ 0 ∷ 255 ∷ 3 ∷ 1 ∷ 3 ∷ 255 ∷ 3 ∷ 1 ∷ 2 ∷ 1 ∷ 2 ∷ 1 ∷ 2 ∷ 11 ∷ 1 ∷ 1 ∷ 0 ∷ 0 ∷ 0 ∷ 60 ∷ 0 ∷ 0 ∷ 7 ∷ 0 ∷ 0 ∷ 0 ∷ 2 ∷ 0 ∷ 0 ∷ 0 ∷ 8 ∷ 1 ∷ 0 ∷ 0 ∷ 6 ∷ 0 ∷ 0 ∷ 0 ∷ 8 ∷ 1 ∷ 0 ∷ 0 ∷ 7 ∷ 0 ∷ 0 ∷ 0 ∷ 2 ∷ 0 ∷ 0 ∷ 0 ∷ 7 ∷ 0 ∷ 0 ∷ 0 ∷ 2 ∷ 0 ∷ 0 ∷ 0 ∷ []) (60 ∷ []) 0 1000000 ≡ gives (answer 0 0 0 0 5 1 2) (1 ∷ 0 ∷ 0 ∷ 3 ∷ 1 ∷ 1 ∷ zeros 12282 0) (1 ∷ 255 ∷ 3 ∷ 2 ∷ zeros 252 0)
+  -- damaged 548
+  v123 : call 12288 256 (1 ∷ 0 ∷ 1 ∷ 97 ∷ 0 ∷ 1 ∷ 0 ∷ 3 ∷ 3 ∷ 255 ∷ 3 ∷ 1 ∷ 1 ∷ 1 ∷ 3 ∷ 1 ∷ 3 ∷ 2 ∷ 0 ∷ 1 ∷ 2 ∷ 6 ∷ 3 ∷ 0 ∷ 0 ∷ 0 ∷ 8 ∷ 0 ∷ 0 ∷ 0 ∷ 0 ∷ 124 ∷ 0 ∷ 0 ∷ 8 ∷ 0 ∷ 0 ∷ 0 ∷ 0 ∷ 124 ∷ 0 ∷ 0 ∷ 8 ∷ 0 ∷ 0 ∷ 0 ∷ []) (120 ∷ []) 0 1000000 ≡ gives (answer 30 0 11 0 5 0 0) (zeros 12288 0) (zeros 256 0)
+  -- reading 116
+  v124 : call 12288 256 (2 ∷ 0 ∷ 1 ∷ 120 ∷ 0 ∷ 2 ∷ 105 ∷ 110 ∷ 1 ∷ 0 ∷ 1 ∷ 98 ∷ 3 ∷ 0 ∷ 2 ∷ 0 ∷ 3 ∷ 0 ∷ 2 ∷ 7 ∷ 3 ∷ 3 ∷ 0 ∷ 3 ∷ 2 ∷ 2 ∷ 1 ∷ 2 ∷ 1 ∷ 0 ∷ 1 ∷ 1 ∷ 255 ∷ 3 ∷ 0 ∷ 3 ∷ 1 ∷ 0 ∷ 1 ∷ 3 ∷ 0 ∷ 1 ∷ 0 ∷ 3 ∷ 255 ∷ 3 ∷ 2 ∷ 1 ∷ 16 ∷ 9 ∷ 0 ∷ 0 ∷ 0 ∷ 0 ∷ 60 ∷ 0 ∷ 0 ∷ 8 ∷ 0 ∷ 0 ∷ 0 ∷ 6 ∷ 0 ∷ 0 ∷ 0 ∷ 2 ∷ 0 ∷ 0 ∷ 0 ∷ 3 ∷ 0 ∷ 0 ∷ 0 ∷ 0 ∷ 91 ∷ 0 ∷ 0 ∷ 8 ∷ 1 ∷ 0 ∷ 0 ∷ 0 ∷ 93 ∷ 0 ∷ 0 ∷ 10 ∷ 0 ∷ 0 ∷ 0 ∷ 8 ∷ 1 ∷ 0 ∷ 0 ∷ 0 ∷ 60 ∷ 0 ∷ 0 ∷ 2 ∷ 0 ∷ 0 ∷ 0 ∷ 6 ∷ 0 ∷ 0 ∷ 0 ∷ 2 ∷ 0 ∷ 0 ∷ 0 ∷ 8 ∷ 0 ∷ 0 ∷ 0 ∷ []) (91 ∷ 98 ∷ 60 ∷ 60 ∷ 60 ∷ []) 0 1000000 ≡ gives (answer 30 0 11 0 6 0 0) (zeros 12288 0) (zeros 256 0)
+  -- reading 448
+  v125 : call 12288 256 (1 ∷ 0 ∷ 2 ∷ 100 ∷ 111 ∷ 0 ∷ 3 ∷ 1 ∷ 4 ∷ 0 ∷ 4 ∷ 0 ∷ 2 ∷ 10 ∷ 255 ∷ 3 ∷ 0 ∷ 1 ∷ 255 ∷ 3 ∷ 1 ∷ 3 ∷ 3 ∷ 1 ∷ 0 ∷ 1 ∷ 3 ∷ 3 ∷ 1 ∷ 1 ∷ 255 ∷ 3 ∷ 1 ∷ 2 ∷ 0 ∷ 0 ∷ 1 ∷ 1 ∷ 3 ∷ 0 ∷ 1 ∷ 2 ∷ 2 ∷ 2 ∷ 1 ∷ 3 ∷ 255 ∷ 3 ∷ 1 ∷ 1 ∷ 1 ∷ 1 ∷ 1 ∷ 3 ∷ 18 ∷ 3 ∷ 0 ∷ 0 ∷ 0 ∷ 9 ∷ 0 ∷ 0 ∷ 0 ∷ 8 ∷ 0 ∷ 0 ∷ 0 ∷ 0 ∷ 35 ∷ 0 ∷ 0 ∷ 2 ∷ 0 ∷ 0 ∷ 0 ∷ 2 ∷ 0 ∷ 0 ∷ 0 ∷ 9 ∷ 1 ∷ 0 ∷ 0 ∷ 8 ∷ 1 ∷ 0 ∷ 0 ∷ 3 ∷ 0 ∷ 0 ∷ 0 ∷ 8 ∷ 1 ∷ 0 ∷ 0 ∷ 10 ∷ 1 ∷ 0 ∷ 0 ∷ 9 ∷ 1 ∷ 0 ∷ 0 ∷ 0 ∷ 60 ∷ 0 ∷ 0 ∷ 8 ∷ 1 ∷ 0 ∷ 0 ∷ 4 ∷ 0 ∷ 0 ∷ 0 ∷ 9 ∷ 2 ∷ 0 ∷ 0 ∷ 8 ∷ 2 ∷ 0 ∷ 0 ∷ 0 ∷ 35 ∷ 0 ∷ 0 ∷ []) (105 ∷ 102 ∷ 49 ∷ 32 ∷ 32 ∷ 100 ∷ 111 ∷ 10 ∷ 35 ∷ 32 ∷ 47 ∷ 47 ∷ 32 ∷ 99 ∷ 10 ∷ 35 ∷ []) 2 1000000 ≡ gives (answer 30 0 11 2 6 0 0) (zeros 12288 0) (zeros 256 0)
+  -- reading 728
+  v126 : call 12288 256 (2 ∷ 1 ∷ 2 ∷ 100 ∷ 111 ∷ 1 ∷ 2 ∷ 105 ∷ 102 ∷ 0 ∷ 2 ∷ 0 ∷ 2 ∷ 0 ∷ 1 ∷ 3 ∷ 255 ∷ 3 ∷ 0 ∷ 1 ∷ 2 ∷ 1 ∷ 0 ∷ 3 ∷ 1 ∷ 0 ∷ 3 ∷ 1 ∷ 5 ∷ 3 ∷ 0 ∷ 0 ∷ 0 ∷ 8 ∷ 1 ∷ 0 ∷ 0 ∷ 0 ∷ 61 ∷ 0 ∷ 0 ∷ 8 ∷ 0 ∷ 0 ∷ 0 ∷ 8 ∷ 1 ∷ 0 ∷ 0 ∷ []) [] 0 1000000 ≡ gives (answer 30 0 11 0 6 0 0) (zeros 12288 0) (zeros 256 0)
+  -- reading 901
+  v127 : call 12288 256 (2 ∷ 1 ∷ 1 ∷ 95 ∷ 0 ∷ 2 ∷ 100 ∷ 111 ∷ 0 ∷ 3 ∷ 1 ∷ 3 ∷ 1 ∷ 3 ∷ 2 ∷ 0 ∷ 6 ∷ 255 ∷ 3 ∷ 2 ∷ 1 ∷ 1 ∷ 2 ∷ 1 ∷ 2 ∷ 2 ∷ 0 ∷ 1 ∷ 1 ∷ 1 ∷ 1 ∷ 1 ∷ 2 ∷ 255 ∷ 3 ∷ 1 ∷ 2 ∷ 255 ∷ 3 ∷ 1 ∷ 2 ∷ 10 ∷ 8 ∷ 2 ∷ 0 ∷ 0 ∷ 7 ∷ 0 ∷ 0 ∷ 0 ∷ 2 ∷ 0 ∷ 0 ∷ 0 ∷ 5 ∷ 2 ∷ 0 ∷ 0 ∷ 2 ∷ 0 ∷ 0 ∷ 0 ∷ 9 ∷ 0 ∷ 0 ∷ 0 ∷ 8 ∷ 2 ∷ 0 ∷ 0 ∷ 0 ∷ 35 ∷ 0 ∷ 0 ∷ 9 ∷ 2 ∷ 0 ∷ 0 ∷ 8 ∷ 2 ∷ 0 ∷ 0 ∷ []) (100 ∷ 111 ∷ []) 0 1000000 ≡ gives (answer 32 0 0 0 6 2 0) (4 ∷ 0 ∷ 2 ∷ 1 ∷ 0 ∷ 0 ∷ 2 ∷ 2 ∷ 1 ∷ 3 ∷ 1 ∷ 3 ∷ zeros 12276 0) (2 ∷ 255 ∷ 3 ∷ 1 ∷ 2 ∷ 1 ∷ 2 ∷ 4 ∷ zeros 248 0)
+  -- reading 1029
+  v128 : call 12288 256 (3 ∷ 1 ∷ 1 ∷ 97 ∷ 1 ∷ 2 ∷ 102 ∷ 110 ∷ 1 ∷ 2 ∷ 118 ∷ 49 ∷ 0 ∷ 3 ∷ 1 ∷ 3 ∷ 1 ∷ 3 ∷ 2 ∷ 0 ∷ 6 ∷ 255 ∷ 3 ∷ 2 ∷ 1 ∷ 255 ∷ 3 ∷ 1 ∷ 3 ∷ 2 ∷ 1 ∷ 0 ∷ 1 ∷ 2 ∷ 1 ∷ 0 ∷ 1 ∷ 2 ∷ 2 ∷ 2 ∷ 1 ∷ 2 ∷ 1 ∷ 1 ∷ 2 ∷ 9 ∷ 8 ∷ 2 ∷ 0 ∷ 0 ∷ 0 ∷ 60 ∷ 0 ∷ 0 ∷ 8 ∷ 1 ∷ 0 ∷ 0 ∷ 0 ∷ 62 ∷ 0 ∷ 0 ∷ 8 ∷ 2 ∷ 0 ∷ 0 ∷ 8 ∷ 2 ∷ 0 ∷ 0 ∷ 8 ∷ 2 ∷ 0 ∷ 0 ∷ 7 ∷ 0 ∷ 0 ∷ 0 ∷ 8 ∷ 2 ∷ 0 ∷ 0 ∷ []) (62 ∷ 62 ∷ []) 0 1000000 ≡ gives (answer 30 0 11 0 6 0 0) (zeros 12288 0) (zeros 256 0)
+  -- reading 1186
+  v129 : call 12288 256 (2 ∷ 1 ∷ 2 ∷ 102 ∷ 110 ∷ 1 ∷ 2 ∷ 105 ∷ 110 ∷ 0 ∷ 1 ∷ 1 ∷ 3 ∷ 3 ∷ 255 ∷ 3 ∷ 1 ∷ 1 ∷ 1 ∷ 1 ∷ 1 ∷ 2 ∷ 0 ∷ 1 ∷ 1 ∷ 2 ∷ 5 ∷ 3 ∷ 0 ∷ 0 ∷ 0 ∷ 8 ∷ 0 ∷ 0 ∷ 0 ∷ 0 ∷ 37 ∷ 0 ∷ 0 ∷ 8 ∷ 0 ∷ 0 ∷ 0 ∷ 0 ∷ 37 ∷ 0 ∷ 0 ∷ []) (84 ∷ 37 ∷ 37 ∷ 105 ∷ 110 ∷ 37 ∷ 105 ∷ 110 ∷ 37 ∷ 105 ∷ 110 ∷ 37 ∷ []) 0 1000000 ≡ gives (answer 30 0 11 0 6 0 0) (zeros 12288 0) (zeros 256 0)
+  -- reading 1393
+  v130 : call 12288 256 (2 ∷ 1 ∷ 2 ∷ 87 ∷ 49 ∷ 1 ∷ 1 ∷ 95 ∷ 0 ∷ 1 ∷ 0 ∷ 3 ∷ 3 ∷ 255 ∷ 3 ∷ 1 ∷ 1 ∷ 1 ∷ 1 ∷ 0 ∷ 2 ∷ 1 ∷ 3 ∷ 0 ∷ 3 ∷ 6 ∷ 3 ∷ 0 ∷ 0 ∷ 0 ∷ 8 ∷ 0 ∷ 0 ∷ 0 ∷ 0 ∷ 42 ∷ 0 ∷ 0 ∷ 8 ∷ 0 ∷ 0 ∷ 0 ∷ 0 ∷ 94 ∷ 0 ∷ 0 ∷ 8 ∷ 0 ∷ 0 ∷ 0 ∷ []) (42 ∷ 9 ∷ 87 ∷ 49 ∷ 32 ∷ 95 ∷ 10 ∷ 44 ∷ 32 ∷ 118 ∷ 49 ∷ 32 ∷ 48 ∷ 48 ∷ 55 ∷ 32 ∷ 47 ∷ 10 ∷ 42 ∷ []) 0 1000000 ≡ gives (answer 30 0 11 0 6 0 0) (zeros 12288 0) (zeros 256 0)
+  -- deep 229
+  v131 : call 12288 256 (1 ∷ 1 ∷ 15 ∷ 120 ∷ 120 ∷ 120 ∷ 120 ∷ 120 ∷ 120 ∷ 120 ∷ 120 ∷ 120 ∷ 120 ∷ 120 ∷ 120 ∷ 120 ∷ 120 ∷ 120 ∷ 3 ∷ 0 ∷ 1 ∷ 120 ∷ 3 ∷ 1 ∷ 121 ∷ 1 ∷ 14 ∷ 120 ∷ 120 ∷ 120 ∷ 120 ∷ 120 ∷ 120 ∷ 120 ∷ 120 ∷ 120 ∷ 120 ∷ 120 ∷ 120 ∷ 120 ∷ 120 ∷ 2 ∷ 1 ∷ 3 ∷ 2 ∷ 0 ∷ 3 ∷ 255 ∷ 3 ∷ 1 ∷ 1 ∷ 255 ∷ 3 ∷ 2 ∷ 1 ∷ 1 ∷ 0 ∷ 1 ∷ 2 ∷ 4 ∷ 4 ∷ 0 ∷ 0 ∷ 0 ∷ 8 ∷ 1 ∷ 0 ∷ 0 ∷ 8 ∷ 0 ∷ 0 ∷ 0 ∷ 8 ∷ 0 ∷ 0 ∷ 0 ∷ []) (120 ∷ 120 ∷ 120 ∷ 120 ∷ 120 ∷ 120 ∷ 120 ∷ 120 ∷ 120 ∷ 120 ∷ 120 ∷ 120 ∷ 120 ∷ 120 ∷ 120 ∷ 32 ∷ 121 ∷ []) 0 1000000 ≡ gives (answer 30 0 11 0 6 0 0) (zeros 12288 0) (zeros 256 0)
+  -- reading 179
+  v132 : call 12288 256 (0 ∷ 0 ∷ 2 ∷ 0 ∷ 1 ∷ 0 ∷ 3 ∷ 4 ∷ 0 ∷ 0 ∷ 1 ∷ 1 ∷ 255 ∷ 3 ∷ 1 ∷ 1 ∷ 255 ∷ 3 ∷ 0 ∷ 2 ∷ 255 ∷ 3 ∷ 0 ∷ 2 ∷ 6 ∷ 10 ∷ 1 ∷ 0 ∷ 0 ∷ 3 ∷ 0 ∷ 0 ∷ 0 ∷ 3 ∷ 0 ∷ 0 ∷ 0 ∷ 3 ∷ 0 ∷ 0 ∷ 0 ∷ 8 ∷ 1 ∷ 0 ∷ 0 ∷ 0 ∷ 38 ∷ 0 ∷ 0 ∷ []) (102 ∷ 111 ∷ 111 ∷ 32 ∷ 38 ∷ 32 ∷ 38 ∷ 32 ∷ 122 ∷ 57 ∷ 32 ∷ 38 ∷ 32 ∷ []) 0 1000000 ≡ gives (answer 31 0 0 0 7 1 0) (1 ∷ 0 ∷ 0 ∷ 8 ∷ 1 ∷ 0 ∷ 2 ∷ 1 ∷ 2 ∷ 3 ∷ 0 ∷ 3 ∷ zeros 12276 0) (0 ∷ 0 ∷ 0 ∷ 4 ∷ zeros 252 0)
+  -- reading 542
+  v133 : call 12288 256 (1 ∷ 1 ∷ 2 ∷ 100 ∷ 111 ∷ 1 ∷ 2 ∷ 1 ∷ 84 ∷ 2 ∷ 0 ∷ 1 ∷ 1 ∷ 2 ∷ 3 ∷ 1 ∷ 3 ∷ 0 ∷ 2 ∷ 1 ∷ 0 ∷ 0 ∷ 1 ∷ 2 ∷ 0 ∷ 1 ∷ 0 ∷ 3 ∷ 13 ∷ 1 ∷ 40 ∷ 41 ∷ 0 ∷ 126 ∷ 0 ∷ 0 ∷ 3 ∷ 0 ∷ 0 ∷ 0 ∷ []) (32 ∷ 32 ∷ 40 ∷ 41 ∷ 126 ∷ 47 ∷ 47 ∷ []) 0 4807 ≡ gives (answer 32 0 0 0 7 2 0) (1 ∷ 0 ∷ 0 ∷ 8 ∷ 1 ∷ 0 ∷ 2 ∷ 1 ∷ 2 ∷ 3 ∷ 0 ∷ 3 ∷ 3 ∷ 2 ∷ 1 ∷ 2 ∷ 1 ∷ 5 ∷ 8 ∷ 6 ∷ 0 ∷ 2 ∷ 1 ∷ 7 ∷ 3 ∷ 0 ∷ 8 ∷ zeros 12261 0) (5 ∷ 1 ∷ 3 ∷ 4 ∷ 5 ∷ 1 ∷ 3 ∷ 9 ∷ zeros 248 0)
+  -- reading 1205
+  v134 : call 12288 256 (0 ∷ 2 ∷ 0 ∷ 2 ∷ 105 ∷ 110 ∷ 0 ∷ 1 ∷ 121 ∷ 2 ∷ 0 ∷ 1 ∷ 1 ∷ 2 ∷ 3 ∷ 1 ∷ 2 ∷ 1 ∷ 2 ∷ 2 ∷ 0 ∷ 1 ∷ 1 ∷ 0 ∷ 1 ∷ 1 ∷ 2 ∷ 5 ∷ 11 ∷ 0 ∷ 0 ∷ 0 ∷ 7 ∷ 0 ∷ 0 ∷ 0 ∷ 3 ∷ 0 ∷ 0 ∷ 0 ∷ 7 ∷ 0 ∷ 0 ∷ 0 ∷ 2 ∷ 0 ∷ 0 ∷ 0 ∷ []) (44 ∷ []) 0 1000000 ≡ gives (answer 31 0 0 0 7 1 0) (1 ∷ 0 ∷ 0 ∷ 8 ∷ 1 ∷ 0 ∷ 2 ∷ 1 ∷ 2 ∷ 3 ∷ 0 ∷ 3 ∷ zeros 12276 0) (0 ∷ 1 ∷ 2 ∷ 4 ∷ zeros 252 0)
+  -- reading 1457
+  v135 : call 12288 256 (3 ∷ 1 ∷ 2 ∷ 102 ∷ 110 ∷ 0 ∷ 1 ∷ 97 ∷ 0 ∷ 2 ∷ 102 ∷ 110 ∷ 2 ∷ 2 ∷ 2 ∷ 105 ∷ 102 ∷ 1 ∷ 1 ∷ 120 ∷ 4 ∷ 1 ∷ 3 ∷ 1 ∷ 3 ∷ 1 ∷ 4 ∷ 2 ∷ 0 ∷ 10 ∷ 3 ∷ 1 ∷ 1 ∷ 1 ∷ 2 ∷ 2 ∷ 3 ∷ 1 ∷ 255 ∷ 3 ∷ 1 ∷ 1 ∷ 2 ∷ 3 ∷ 0 ∷ 1 ∷ 1 ∷ 0 ∷ 0 ∷ 2 ∷ 3 ∷ 0 ∷ 1 ∷ 1 ∷ 1 ∷ 1 ∷ 3 ∷ 1 ∷ 1 ∷ 2 ∷ 1 ∷ 1 ∷ 1 ∷ 0 ∷ 1 ∷ 3 ∷ 1 ∷ 1 ∷ 1 ∷ 1 ∷ 13 ∷ 8 ∷ 3 ∷ 0 ∷ 0 ∷ 8 ∷ 3 ∷ 0 ∷ 0 ∷ 8 ∷ 3 ∷ 0 ∷ 0 ∷ 4 ∷ 0 ∷ 0 ∷ 0 ∷ 2 ∷ 0 ∷ 0 ∷ 0 ∷ 9 ∷ 3 ∷ 0 ∷ 0 ∷ 8 ∷ 3 ∷ 0 ∷ 0 ∷ 8 ∷ 3 ∷ 0 ∷ 0 ∷ 4 ∷ 0 ∷ 0 ∷ 0 ∷ 8 ∷ 2 ∷ 0 ∷ 0 ∷ 0 ∷ 42 ∷ 0 ∷ 0 ∷ 8 ∷ 2 ∷ 0 ∷ 0 ∷ 5 ∷ 2 ∷ 0 ∷ 0 ∷ []) (105 ∷ 102 ∷ 47 ∷ 47 ∷ 32 ∷ 101 ∷ 110 ∷ 100 ∷ []) 0 1000000 ≡ gives (answer 30 0 11 0 7 0 0) (zeros 12288 0) (zeros 256 0)
   -- reading 95
-  v133 : call 12288 256 (3 ∷ 1 ∷ 2 ∷ 105 ∷ 110 ∷ 0 ∷ 2 ∷ 100 ∷ 111 ∷ 0 ∷ 2 ∷ 105 ∷ 110 ∷ 3 ∷ 1 ∷ 1 ∷ 98 ∷ 0 ∷ 1 ∷ 95 ∷ 1 ∷ 1 ∷ 95 ∷ 2 ∷ 0 ∷ 2 ∷ 0 ∷ 1 ∷ 3 ∷ 0 ∷ 3 ∷ 0 ∷ 4 ∷ 1 ∷ 0 ∷ 1 ∷ 1 ∷ 1 ∷ 0 ∷ 3 ∷ 1 ∷ 6 ∷ 8 ∷ 0 ∷ 0 ∷ 0 ∷ 0 ∷ 62 ∷ 0 ∷ 0 ∷ 8 ∷ 0 ∷ 0 ∷ 0 ∷ 0 ∷ 62 ∷ 0 ∷ 0 ∷ 3 ∷ 0 ∷ 0 ∷ 0 ∷ 8 ∷ 0 ∷ 0 ∷ 0 ∷ []) (50 ∷ []) 0 1000000 ≡ gives (answer 0 0 0 0 8 1 4) (written 12288 (1 ∷ 0 ∷ 0 ∷ 5 ∷ 0 ∷ 2 ∷ 2 ∷ 1 ∷ 2 ∷ 3 ∷ 1 ∷ 3 ∷ 2 ∷ 1 ∷ 4 ∷ []) (replicate 12288 7)) (written 256 (1 ∷ 1 ∷ 0 ∷ 4 ∷ []) (replicate 256 7))
-  -- reading 460
-  v134 : call 12288 256 (1 ∷ 1 ∷ 1 ∷ 120 ∷ 0 ∷ 2 ∷ 0 ∷ 2 ∷ 1 ∷ 3 ∷ 5 ∷ 1 ∷ 2 ∷ 1 ∷ 4 ∷ 0 ∷ 0 ∷ 1 ∷ 1 ∷ 255 ∷ 3 ∷ 0 ∷ 1 ∷ 255 ∷ 3 ∷ 1 ∷ 0 ∷ 1 ∷ 0 ∷ 0 ∷ 1 ∷ 7 ∷ 13 ∷ 1 ∷ 40 ∷ 41 ∷ 8 ∷ 0 ∷ 0 ∷ 0 ∷ 0 ∷ 94 ∷ 0 ∷ 0 ∷ 9 ∷ 1 ∷ 0 ∷ 0 ∷ 3 ∷ 0 ∷ 0 ∷ 0 ∷ 0 ∷ 37 ∷ 0 ∷ 0 ∷ 8 ∷ 0 ∷ 0 ∷ 0 ∷ []) (40 ∷ 32 ∷ 40 ∷ 32 ∷ 37 ∷ 32 ∷ 44 ∷ 32 ∷ 44 ∷ 32 ∷ 41 ∷ 32 ∷ 49 ∷ 50 ∷ 32 ∷ 94 ∷ 32 ∷ 37 ∷ []) 0 1000000 ≡ gives (answer 30 2 12 0 8 0 0) (written 12288 [] (replicate 12288 7)) (written 256 [] (replicate 256 7))
-  -- reading 937
-  v135 : call 12288 256 (3 ∷ 1 ∷ 2 ∷ 100 ∷ 111 ∷ 1 ∷ 1 ∷ 97 ∷ 1 ∷ 1 ∷ 95 ∷ 0 ∷ 3 ∷ 0 ∷ 2 ∷ 1 ∷ 4 ∷ 0 ∷ 2 ∷ 8 ∷ 3 ∷ 2 ∷ 0 ∷ 1 ∷ 1 ∷ 0 ∷ 1 ∷ 3 ∷ 1 ∷ 0 ∷ 1 ∷ 3 ∷ 2 ∷ 3 ∷ 0 ∷ 3 ∷ 2 ∷ 3 ∷ 1 ∷ 1 ∷ 2 ∷ 0 ∷ 0 ∷ 3 ∷ 2 ∷ 0 ∷ 1 ∷ 3 ∷ 1 ∷ 1 ∷ 0 ∷ 2 ∷ 19 ∷ 3 ∷ 0 ∷ 0 ∷ 0 ∷ 8 ∷ 0 ∷ 0 ∷ 0 ∷ 0 ∷ 37 ∷ 0 ∷ 0 ∷ 8 ∷ 0 ∷ 0 ∷ 0 ∷ 10 ∷ 1 ∷ 0 ∷ 0 ∷ 8 ∷ 1 ∷ 0 ∷ 0 ∷ 0 ∷ 63 ∷ 0 ∷ 0 ∷ 6 ∷ 0 ∷ 0 ∷ 0 ∷ 8 ∷ 1 ∷ 0 ∷ 0 ∷ 0 ∷ 37 ∷ 0 ∷ 0 ∷ 3 ∷ 0 ∷ 0 ∷ 0 ∷ 0 ∷ 126 ∷ 0 ∷ 0 ∷ 0 ∷ 126 ∷ 0 ∷ 0 ∷ 9 ∷ 1 ∷ 0 ∷ 0 ∷ 7 ∷ 0 ∷ 0 ∷ 0 ∷ 8 ∷ 2 ∷ 0 ∷ 0 ∷ 0 ∷ 63 ∷ 0 ∷ 0 ∷ 8 ∷ 2 ∷ 0 ∷ 0 ∷ 8 ∷ 2 ∷ 0 ∷ 0 ∷ []) (49 ∷ 56 ∷ 52 ∷ 52 ∷ 54 ∷ 55 ∷ 52 ∷ 52 ∷ 48 ∷ 55 ∷ 51 ∷ 55 ∷ 48 ∷ 57 ∷ 53 ∷ 53 ∷ 49 ∷ 54 ∷ 49 ∷ 53 ∷ 47 ∷ 47 ∷ 10 ∷ []) 0 1000000 ≡ gives (answer 0 0 0 0 8 1 4) (written 12288 (1 ∷ 0 ∷ 0 ∷ 5 ∷ 4294967295 ∷ 4294967295 ∷ 2 ∷ 1 ∷ 2 ∷ 3 ∷ 0 ∷ 3 ∷ 2 ∷ 1 ∷ 4 ∷ []) (replicate 12288 7)) (written 256 (20 ∷ 3 ∷ 2 ∷ 4 ∷ []) (replicate 256 7))
-  -- reading 1208
-  v136 : call 12288 256 (3 ∷ 1 ∷ 3 ∷ 110 ∷ 111 ∷ 116 ∷ 1 ∷ 1 ∷ 97 ∷ 0 ∷ 1 ∷ 95 ∷ 2 ∷ 1 ∷ 1 ∷ 97 ∷ 0 ∷ 1 ∷ 98 ∷ 3 ∷ 0 ∷ 4 ∷ 0 ∷ 1 ∷ 0 ∷ 3 ∷ 8 ∷ 0 ∷ 2 ∷ 1 ∷ 3 ∷ 1 ∷ 1 ∷ 1 ∷ 3 ∷ 1 ∷ 3 ∷ 1 ∷ 2 ∷ 255 ∷ 3 ∷ 1 ∷ 1 ∷ 1 ∷ 1 ∷ 3 ∷ 1 ∷ 1 ∷ 2 ∷ 1 ∷ 2 ∷ 2 ∷ 3 ∷ 2 ∷ 1 ∷ 255 ∷ 3 ∷ 1 ∷ 1 ∷ 14 ∷ 8 ∷ 0 ∷ 0 ∷ 0 ∷ 0 ∷ 59 ∷ 0 ∷ 0 ∷ 8 ∷ 0 ∷ 0 ∷ 0 ∷ 8 ∷ 0 ∷ 0 ∷ 0 ∷ 0 ∷ 58 ∷ 0 ∷ 0 ∷ 8 ∷ 0 ∷ 0 ∷ 0 ∷ 8 ∷ 0 ∷ 0 ∷ 0 ∷ 0 ∷ 58 ∷ 0 ∷ 0 ∷ 3 ∷ 0 ∷ 0 ∷ 0 ∷ 8 ∷ 2 ∷ 0 ∷ 0 ∷ 8 ∷ 0 ∷ 0 ∷ 0 ∷ 0 ∷ 58 ∷ 0 ∷ 0 ∷ 8 ∷ 1 ∷ 0 ∷ 0 ∷ 3 ∷ 0 ∷ 0 ∷ 0 ∷ []) (59 ∷ 48 ∷ 41 ∷ 84 ∷ 59 ∷ []) 0 1000000 ≡ gives (answer 30 0 11 0 8 0 0) (written 12288 [] (replicate 12288 7)) (written 256 [] (replicate 256 7))
-  -- damaged 333
-  v137 : call 12288 256 (3 ∷ 0 ∷ 2 ∷ 100 ∷ 111 ∷ 0 ∷ 1 ∷ 120 ∷ 0 ∷ 1 ∷ 97 ∷ 3 ∷ 7 ∷ 1 ∷ 95 ∷ 0 ∷ 1 ∷ 97 ∷ 1 ∷ 2 ∷ 118 ∷ 49 ∷ 3 ∷ 0 ∷ 2 ∷ 1 ∷ 1 ∷ 2 ∷ 0 ∷ 3 ∷ 3 ∷ 3 ∷ 1 ∷ 2 ∷ 3 ∷ 0 ∷ 1 ∷ 1 ∷ 2 ∷ 3 ∷ 3 ∷ 1 ∷ 4 ∷ 10 ∷ 1 ∷ 0 ∷ 0 ∷ 0 ∷ 64 ∷ 0 ∷ 0 ∷ 8 ∷ 2 ∷ 0 ∷ 0 ∷ 8 ∷ 0 ∷ 0 ∷ 0 ∷ []) (32 ∷ 49 ∷ 32 ∷ 47 ∷ 47 ∷ 32 ∷ 99 ∷ []) 0 1000000 ≡ gives (answer 30 1 11 0 8 0 0) (written 12288 [] (replicate 12288 7)) (written 256 [] (replicate 256 7))
-  -- reading 246
-  v138 : call 12288 256 (1 ∷ 1 ∷ 2 ∷ 105 ∷ 102 ∷ 1 ∷ 0 ∷ 1 ∷ 120 ∷ 3 ∷ 0 ∷ 4 ∷ 0 ∷ 2 ∷ 0 ∷ 2 ∷ 8 ∷ 1 ∷ 3 ∷ 1 ∷ 3 ∷ 2 ∷ 1 ∷ 1 ∷ 3 ∷ 2 ∷ 2 ∷ 1 ∷ 3 ∷ 0 ∷ 1 ∷ 1 ∷ 1 ∷ 0 ∷ 0 ∷ 1 ∷ 2 ∷ 2 ∷ 0 ∷ 3 ∷ 1 ∷ 0 ∷ 0 ∷ 3 ∷ 1 ∷ 255 ∷ 3 ∷ 1 ∷ 3 ∷ 17 ∷ 9 ∷ 0 ∷ 0 ∷ 0 ∷ 0 ∷ 44 ∷ 0 ∷ 0 ∷ 8 ∷ 0 ∷ 0 ∷ 0 ∷ 8 ∷ 0 ∷ 0 ∷ 0 ∷ 0 ∷ 61 ∷ 0 ∷ 0 ∷ 8 ∷ 0 ∷ 0 ∷ 0 ∷ 8 ∷ 0 ∷ 0 ∷ 0 ∷ 0 ∷ 61 ∷ 0 ∷ 0 ∷ 8 ∷ 0 ∷ 0 ∷ 0 ∷ 3 ∷ 0 ∷ 0 ∷ 0 ∷ 8 ∷ 0 ∷ 0 ∷ 0 ∷ 0 ∷ 61 ∷ 0 ∷ 0 ∷ 8 ∷ 0 ∷ 0 ∷ 0 ∷ 8 ∷ 2 ∷ 0 ∷ 0 ∷ 0 ∷ 40 ∷ 0 ∷ 0 ∷ 8 ∷ 0 ∷ 0 ∷ 0 ∷ 0 ∷ 41 ∷ 0 ∷ 0 ∷ []) (13 ∷ 10 ∷ []) 0 1000000 ≡ gives (answer 30 2 11 0 9 0 0) (written 12288 [] (replicate 12288 7)) (written 256 [] (replicate 256 7))
-  -- reading 430
-  v139 : call 12288 256 (1 ∷ 1 ∷ 2 ∷ 102 ∷ 110 ∷ 3 ∷ 0 ∷ 2 ∷ 105 ∷ 110 ∷ 1 ∷ 2 ∷ 105 ∷ 102 ∷ 0 ∷ 1 ∷ 121 ∷ 2 ∷ 1 ∷ 3 ∷ 1 ∷ 4 ∷ 7 ∷ 2 ∷ 1 ∷ 1 ∷ 2 ∷ 1 ∷ 1 ∷ 1 ∷ 2 ∷ 0 ∷ 2 ∷ 0 ∷ 2 ∷ 2 ∷ 1 ∷ 1 ∷ 2 ∷ 0 ∷ 0 ∷ 3 ∷ 1 ∷ 1 ∷ 1 ∷ 3 ∷ 1 ∷ 1 ∷ 3 ∷ 0 ∷ 2 ∷ 12 ∷ 7 ∷ 0 ∷ 0 ∷ 0 ∷ 2 ∷ 0 ∷ 0 ∷ 0 ∷ 8 ∷ 0 ∷ 0 ∷ 0 ∷ 8 ∷ 0 ∷ 0 ∷ 0 ∷ 6 ∷ 0 ∷ 0 ∷ 0 ∷ 2 ∷ 0 ∷ 0 ∷ 0 ∷ 7 ∷ 0 ∷ 0 ∷ 0 ∷ 2 ∷ 0 ∷ 0 ∷ 0 ∷ 8 ∷ 1 ∷ 0 ∷ 0 ∷ 8 ∷ 1 ∷ 0 ∷ 0 ∷ 7 ∷ 0 ∷ 0 ∷ 0 ∷ 2 ∷ 0 ∷ 0 ∷ 0 ∷ []) (50 ∷ 32 ∷ 50 ∷ 32 ∷ 50 ∷ 32 ∷ 48 ∷ 48 ∷ 55 ∷ 32 ∷ 120 ∷ 120 ∷ 32 ∷ 97 ∷ 32 ∷ 102 ∷ 110 ∷ 32 ∷ 118 ∷ 49 ∷ 32 ∷ 51 ∷ 44 ∷ 49 ∷ 50 ∷ 32 ∷ 105 ∷ 110 ∷ []) 1 291 ≡ gives (answer 30 0 11 1 9 0 0) (written 12288 [] (replicate 12288 7)) (written 256 [] (replicate 256 7))
-  -- reading 716
-  v140 : call 12288 256 (2 ∷ 1 ∷ 2 ∷ 100 ∷ 111 ∷ 0 ∷ 2 ∷ 105 ∷ 110 ∷ 0 ∷ 2 ∷ 0 ∷ 3 ∷ 2 ∷ 0 ∷ 3 ∷ 3 ∷ 1 ∷ 0 ∷ 3 ∷ 2 ∷ 3 ∷ 0 ∷ 1 ∷ 1 ∷ 2 ∷ 1 ∷ 1 ∷ 5 ∷ 8 ∷ 0 ∷ 0 ∷ 0 ∷ 0 ∷ 38 ∷ 0 ∷ 0 ∷ 8 ∷ 0 ∷ 0 ∷ 0 ∷ 3 ∷ 0 ∷ 0 ∷ 0 ∷ 1 ∷ 1 ∷ 0 ∷ 0 ∷ []) (105 ∷ 110 ∷ []) 0 1000000 ≡ gives (answer 0 0 0 0 9 1 2) (written 12288 (1 ∷ 0 ∷ 0 ∷ 3 ∷ 2 ∷ 1 ∷ []) (replicate 12288 7)) (written 256 (2 ∷ 1 ∷ 2 ∷ 2 ∷ []) (replicate 256 7))
+  v136 : call 12288 256 (3 ∷ 1 ∷ 2 ∷ 105 ∷ 110 ∷ 0 ∷ 2 ∷ 100 ∷ 111 ∷ 0 ∷ 2 ∷ 105 ∷ 110 ∷ 3 ∷ 1 ∷ 1 ∷ 98 ∷ 0 ∷ 1 ∷ 95 ∷ 1 ∷ 1 ∷ 95 ∷ 2 ∷ 0 ∷ 2 ∷ 0 ∷ 1 ∷ 3 ∷ 0 ∷ 3 ∷ 0 ∷ 4 ∷ 1 ∷ 0 ∷ 1 ∷ 1 ∷ 1 ∷ 0 ∷ 3 ∷ 1 ∷ 6 ∷ 8 ∷ 0 ∷ 0 ∷ 0 ∷ 0 ∷ 62 ∷ 0 ∷ 0 ∷ 8 ∷ 0 ∷ 0 ∷ 0 ∷ 0 ∷ 62 ∷ 0 ∷ 0 ∷ 3 ∷ 0 ∷ 0 ∷ 0 ∷ 8 ∷ 0 ∷ 0 ∷ 0 ∷ []) (50 ∷ []) 0 1000000 ≡ gives (answer 0 0 0 0 8 1 4) (1 ∷ 0 ∷ 0 ∷ 5 ∷ 0 ∷ 2 ∷ 2 ∷ 1 ∷ 2 ∷ 3 ∷ 1 ∷ 3 ∷ 2 ∷ 1 ∷ 4 ∷ zeros 12273 0) (1 ∷ 1 ∷ 0 ∷ 4 ∷ zeros 252 0)
+  -- reading 513
+  v137 : call 12288 256 (0 ∷ 3 ∷ 0 ∷ 2 ∷ 105 ∷ 110 ∷ 0 ∷ 1 ∷ 97 ∷ 1 ∷ 2 ∷ 118 ∷ 49 ∷ 2 ∷ 1 ∷ 1 ∷ 0 ∷ 2 ∷ 3 ∷ 255 ∷ 3 ∷ 1 ∷ 1 ∷ 3 ∷ 1 ∷ 1 ∷ 1 ∷ 2 ∷ 2 ∷ 1 ∷ 3 ∷ 5 ∷ 0 ∷ 126 ∷ 0 ∷ 0 ∷ 4 ∷ 0 ∷ 0 ∷ 0 ∷ 8 ∷ 1 ∷ 0 ∷ 0 ∷ 0 ∷ 126 ∷ 0 ∷ 0 ∷ 8 ∷ 1 ∷ 0 ∷ 0 ∷ []) (105 ∷ 110 ∷ []) 1 1000000 ≡ gives (answer 0 0 0 0 8 1 4) (1 ∷ 0 ∷ 0 ∷ 6 ∷ 0 ∷ 0 ∷ 2 ∷ 1 ∷ 2 ∷ 3 ∷ 1 ∷ 3 ∷ 2 ∷ 1 ∷ 4 ∷ zeros 12273 0) (2 ∷ 3 ∷ 1 ∷ 4 ∷ zeros 252 0)
+  -- reading 954
+  v138 : call 12288 256 (1 ∷ 0 ∷ 1 ∷ 97 ∷ 0 ∷ 1 ∷ 0 ∷ 3 ∷ 3 ∷ 1 ∷ 2 ∷ 0 ∷ 4 ∷ 255 ∷ 3 ∷ 1 ∷ 2 ∷ 255 ∷ 3 ∷ 0 ∷ 3 ∷ 9 ∷ 3 ∷ 0 ∷ 0 ∷ 0 ∷ 6 ∷ 0 ∷ 0 ∷ 0 ∷ 0 ∷ 60 ∷ 0 ∷ 0 ∷ 0 ∷ 60 ∷ 0 ∷ 0 ∷ 8 ∷ 0 ∷ 0 ∷ 0 ∷ 10 ∷ 0 ∷ 0 ∷ 0 ∷ 10 ∷ 0 ∷ 0 ∷ 0 ∷ 8 ∷ 0 ∷ 0 ∷ 0 ∷ 0 ∷ 38 ∷ 0 ∷ 0 ∷ []) (97 ∷ 60 ∷ []) 0 1000000 ≡ gives (answer 30 0 11 0 8 0 0) (zeros 12288 0) (zeros 256 0)
+  -- reading 1240
+  v139 : call 12288 256 (2 ∷ 0 ∷ 2 ∷ 87 ∷ 49 ∷ 0 ∷ 1 ∷ 120 ∷ 0 ∷ 4 ∷ 0 ∷ 3 ∷ 0 ∷ 1 ∷ 0 ∷ 2 ∷ 0 ∷ 2 ∷ 8 ∷ 255 ∷ 3 ∷ 0 ∷ 1 ∷ 1 ∷ 2 ∷ 1 ∷ 1 ∷ 1 ∷ 0 ∷ 3 ∷ 1 ∷ 255 ∷ 3 ∷ 1 ∷ 3 ∷ 1 ∷ 2 ∷ 0 ∷ 1 ∷ 1 ∷ 1 ∷ 1 ∷ 3 ∷ 0 ∷ 2 ∷ 1 ∷ 1 ∷ 1 ∷ 0 ∷ 1 ∷ 1 ∷ 12 ∷ 13 ∷ 1 ∷ 60 ∷ 62 ∷ 5 ∷ 0 ∷ 0 ∷ 0 ∷ 8 ∷ 1 ∷ 0 ∷ 0 ∷ 6 ∷ 0 ∷ 0 ∷ 0 ∷ 2 ∷ 0 ∷ 0 ∷ 0 ∷ 4 ∷ 0 ∷ 0 ∷ 0 ∷ 5 ∷ 0 ∷ 0 ∷ 0 ∷ 8 ∷ 1 ∷ 0 ∷ 0 ∷ 0 ∷ 62 ∷ 0 ∷ 0 ∷ 8 ∷ 2 ∷ 0 ∷ 0 ∷ 3 ∷ 0 ∷ 0 ∷ 0 ∷ 3 ∷ 0 ∷ 0 ∷ 0 ∷ []) (120 ∷ 32 ∷ 120 ∷ 120 ∷ 10 ∷ []) 0 1000000 ≡ gives (answer 31 0 0 0 8 1 0) (1 ∷ 0 ∷ 0 ∷ 8 ∷ 1 ∷ 0 ∷ 2 ∷ 1 ∷ 2 ∷ 3 ∷ 0 ∷ 3 ∷ 4 ∷ 0 ∷ 1 ∷ 2 ∷ 1 ∷ 5 ∷ zeros 12270 0) (0 ∷ 255 ∷ 3 ∷ 4 ∷ zeros 252 0)
+  -- reading 37
+  v140 : call 12288 256 (1 ∷ 1 ∷ 3 ∷ 108 ∷ 101 ∷ 116 ∷ 0 ∷ 2 ∷ 1 ∷ 4 ∷ 0 ∷ 1 ∷ 5 ∷ 1 ∷ 1 ∷ 1 ∷ 2 ∷ 255 ∷ 3 ∷ 1 ∷ 1 ∷ 1 ∷ 2 ∷ 1 ∷ 3 ∷ 0 ∷ 1 ∷ 0 ∷ 2 ∷ 1 ∷ 2 ∷ 2 ∷ 1 ∷ 9 ∷ 8 ∷ 0 ∷ 0 ∷ 0 ∷ 0 ∷ 126 ∷ 0 ∷ 0 ∷ 2 ∷ 0 ∷ 0 ∷ 0 ∷ 9 ∷ 0 ∷ 0 ∷ 0 ∷ 0 ∷ 126 ∷ 0 ∷ 0 ∷ 8 ∷ 0 ∷ 0 ∷ 0 ∷ 8 ∷ 0 ∷ 0 ∷ 0 ∷ 0 ∷ 126 ∷ 0 ∷ 0 ∷ 8 ∷ 1 ∷ 0 ∷ 0 ∷ []) (108 ∷ 101 ∷ 116 ∷ []) 0 1000000 ≡ gives (answer 30 0 11 0 9 0 0) (zeros 12288 0) (zeros 256 0)
 
 vectors121 : Vectors121
-unfolding classOf leading spanEnd commentAt commentEnd roundEnd rounds skipFrom identifierAt decimal numberOf numberAt same isReserved lookupFrom checked row spelling entry nonterminal variant stepOf step allPass ended whole checkBook outwards govern governor isSome isKind ofKind characterEnd identifierEnd reservedAt freeEnd variableAt tokenAt claimed afterElement closed numbersOf cellsIn identityOf findCell treeIn treesIn meaningOf meanings join beyond joinWith choiceError identifierError tokenError _>>=_ sameParse has allIn kept add addAll ask newest others spend make itemCell withCell withToken nested begin counted variants oneRun roundsRun failedCall runCall runIdentifier stored enter child either follow followed plainNext listNext chosen stops choice listing steps runner run cellNumbers parseNumbers written wholeValues allAre firstHigh byValues ending onBook answerOf
+unfolding classOf leading spanEnd commentAt commentEnd roundEnd rounds skipFrom identifierAt decimal numberOf numberAt same isReserved lookupFrom checked row spelling entry nonterminal variant stepOf step allPass ended whole checkBook outwards govern governor isSome isKind ofKind characterEnd identifierEnd reservedAt freeEnd variableAt tokenAt claimant afterElement closed numbersOf cellsIn identityOf findCell treeIn treesIn meaningOf meanings join beyond joinWith choiceError identifierError tokenError _>>=_ sameParse has allIn kept add addAll ask newest others spend make itemCell failedCall either chosen begin withCell withToken complete counted variants oneRun roundsRun runCall runIdentifier plainNext listNext stops nested reentry enter enterChild follow followed choice listing steps runner run cellNumbers parseNumbers written wholeValues allAre firstHigh byValues atEnd onBook answerOf
 vectors121 = record { v121 = refl; v122 = refl; v123 = refl; v124 = refl; v125 = refl; v126 = refl; v127 = refl; v128 = refl; v129 = refl; v130 = refl; v131 = refl; v132 = refl; v133 = refl; v134 = refl; v135 = refl; v136 = refl; v137 = refl; v138 = refl; v139 = refl; v140 = refl }
 
 record Vectors141 : Type 0 where
-  -- reading 1124
-  v141 : call 12288 256 (1 ∷ 1 ∷ 2 ∷ 100 ∷ 111 ∷ 1 ∷ 7 ∷ 1 ∷ 97 ∷ 2 ∷ 0 ∷ 2 ∷ 0 ∷ 1 ∷ 3 ∷ 1 ∷ 2 ∷ 1 ∷ 3 ∷ 1 ∷ 0 ∷ 1 ∷ 2 ∷ 3 ∷ 2 ∷ 1 ∷ 1 ∷ 6 ∷ 7 ∷ 0 ∷ 0 ∷ 0 ∷ 10 ∷ 1 ∷ 0 ∷ 0 ∷ 3 ∷ 0 ∷ 0 ∷ 0 ∷ 8 ∷ 1 ∷ 0 ∷ 0 ∷ 13 ∷ 0 ∷ 91 ∷ 93 ∷ 3 ∷ 0 ∷ 0 ∷ 0 ∷ []) (13 ∷ 10 ∷ []) 0 1000000 ≡ gives (answer 30 2 11 0 9 0 0) (written 12288 [] (replicate 12288 7)) (written 256 [] (replicate 256 7))
-  -- reading 1338
-  v142 : call 12288 256 (0 ∷ 3 ∷ 0 ∷ 2 ∷ 105 ∷ 110 ∷ 0 ∷ 1 ∷ 95 ∷ 1 ∷ 1 ∷ 95 ∷ 3 ∷ 0 ∷ 3 ∷ 1 ∷ 3 ∷ 2 ∷ 0 ∷ 6 ∷ 1 ∷ 0 ∷ 1 ∷ 1 ∷ 3 ∷ 0 ∷ 1 ∷ 2 ∷ 255 ∷ 3 ∷ 0 ∷ 2 ∷ 2 ∷ 1 ∷ 3 ∷ 1 ∷ 1 ∷ 1 ∷ 2 ∷ 1 ∷ 1 ∷ 1 ∷ 1 ∷ 2 ∷ 9 ∷ 5 ∷ 0 ∷ 0 ∷ 0 ∷ 7 ∷ 0 ∷ 0 ∷ 0 ∷ 8 ∷ 2 ∷ 0 ∷ 0 ∷ 9 ∷ 2 ∷ 0 ∷ 0 ∷ 8 ∷ 2 ∷ 0 ∷ 0 ∷ 8 ∷ 0 ∷ 0 ∷ 0 ∷ 8 ∷ 2 ∷ 0 ∷ 0 ∷ 9 ∷ 2 ∷ 0 ∷ 0 ∷ 8 ∷ 2 ∷ 0 ∷ 0 ∷ []) (55 ∷ 32 ∷ 50 ∷ 32 ∷ 47 ∷ 47 ∷ 32 ∷ 99 ∷ 10 ∷ 49 ∷ 50 ∷ []) 0 1000000 ≡ gives (answer 30 0 11 0 9 0 0) (written 12288 [] (replicate 12288 7)) (written 256 [] (replicate 256 7))
-  -- reading 48
-  v143 : call 12288 256 (2 ∷ 1 ∷ 1 ∷ 120 ∷ 0 ∷ 3 ∷ 108 ∷ 101 ∷ 116 ∷ 0 ∷ 1 ∷ 0 ∷ 3 ∷ 3 ∷ 0 ∷ 0 ∷ 1 ∷ 3 ∷ 0 ∷ 0 ∷ 0 ∷ 3 ∷ 255 ∷ 3 ∷ 1 ∷ 2 ∷ 8 ∷ 9 ∷ 0 ∷ 0 ∷ 0 ∷ 0 ∷ 62 ∷ 0 ∷ 0 ∷ 8 ∷ 0 ∷ 0 ∷ 0 ∷ 8 ∷ 0 ∷ 0 ∷ 0 ∷ 0 ∷ 64 ∷ 0 ∷ 0 ∷ 8 ∷ 0 ∷ 0 ∷ 0 ∷ 9 ∷ 0 ∷ 0 ∷ 0 ∷ 8 ∷ 0 ∷ 0 ∷ 0 ∷ []) [] 0 1000000 ≡ gives (answer 30 0 11 0 10 0 0) (written 12288 [] (replicate 12288 7)) (written 256 [] (replicate 256 7))
-  -- reading 586
-  v144 : call 12288 256 (3 ∷ 0 ∷ 1 ∷ 120 ∷ 0 ∷ 3 ∷ 110 ∷ 111 ∷ 116 ∷ 1 ∷ 2 ∷ 102 ∷ 110 ∷ 2 ∷ 0 ∷ 1 ∷ 95 ∷ 0 ∷ 2 ∷ 105 ∷ 102 ∷ 2 ∷ 1 ∷ 4 ∷ 0 ∷ 4 ∷ 8 ∷ 1 ∷ 2 ∷ 1 ∷ 2 ∷ 255 ∷ 3 ∷ 1 ∷ 3 ∷ 2 ∷ 2 ∷ 0 ∷ 3 ∷ 1 ∷ 1 ∷ 1 ∷ 3 ∷ 0 ∷ 2 ∷ 1 ∷ 1 ∷ 3 ∷ 0 ∷ 0 ∷ 3 ∷ 255 ∷ 3 ∷ 1 ∷ 1 ∷ 3 ∷ 1 ∷ 1 ∷ 2 ∷ 18 ∷ 8 ∷ 0 ∷ 0 ∷ 0 ∷ 11 ∷ 1 ∷ 0 ∷ 0 ∷ 8 ∷ 0 ∷ 0 ∷ 0 ∷ 0 ∷ 61 ∷ 0 ∷ 0 ∷ 8 ∷ 0 ∷ 0 ∷ 0 ∷ 8 ∷ 0 ∷ 0 ∷ 0 ∷ 0 ∷ 61 ∷ 0 ∷ 0 ∷ 8 ∷ 0 ∷ 0 ∷ 0 ∷ 6 ∷ 0 ∷ 0 ∷ 0 ∷ 8 ∷ 0 ∷ 0 ∷ 0 ∷ 0 ∷ 97 ∷ 0 ∷ 0 ∷ 3 ∷ 0 ∷ 0 ∷ 0 ∷ 0 ∷ 60 ∷ 0 ∷ 0 ∷ 8 ∷ 1 ∷ 0 ∷ 0 ∷ 0 ∷ 62 ∷ 0 ∷ 0 ∷ 3 ∷ 0 ∷ 0 ∷ 0 ∷ 4 ∷ 0 ∷ 0 ∷ 0 ∷ 4 ∷ 0 ∷ 0 ∷ 0 ∷ []) (102 ∷ 111 ∷ 111 ∷ []) 0 1000000 ≡ gives (answer 30 0 11 0 10 0 0) (written 12288 [] (replicate 12288 7)) (written 256 [] (replicate 256 7))
-  -- reading 993
-  v145 : call 12288 256 (0 ∷ 1 ∷ 0 ∷ 2 ∷ 105 ∷ 102 ∷ 3 ∷ 1 ∷ 3 ∷ 1 ∷ 2 ∷ 1 ∷ 3 ∷ 8 ∷ 255 ∷ 3 ∷ 1 ∷ 1 ∷ 2 ∷ 2 ∷ 1 ∷ 2 ∷ 1 ∷ 0 ∷ 1 ∷ 1 ∷ 2 ∷ 0 ∷ 0 ∷ 3 ∷ 255 ∷ 3 ∷ 1 ∷ 2 ∷ 1 ∷ 0 ∷ 1 ∷ 2 ∷ 255 ∷ 3 ∷ 1 ∷ 2 ∷ 255 ∷ 3 ∷ 1 ∷ 2 ∷ 15 ∷ 13 ∷ 2 ∷ 123 ∷ 125 ∷ 8 ∷ 0 ∷ 0 ∷ 0 ∷ 0 ∷ 45 ∷ 0 ∷ 0 ∷ 3 ∷ 0 ∷ 0 ∷ 0 ∷ 7 ∷ 0 ∷ 0 ∷ 0 ∷ 2 ∷ 0 ∷ 0 ∷ 0 ∷ 3 ∷ 0 ∷ 0 ∷ 0 ∷ 9 ∷ 1 ∷ 0 ∷ 0 ∷ 8 ∷ 1 ∷ 0 ∷ 0 ∷ 7 ∷ 0 ∷ 0 ∷ 0 ∷ 2 ∷ 0 ∷ 0 ∷ 0 ∷ 8 ∷ 2 ∷ 0 ∷ 0 ∷ 0 ∷ 35 ∷ 0 ∷ 0 ∷ 3 ∷ 0 ∷ 0 ∷ 0 ∷ 0 ∷ 37 ∷ 0 ∷ 0 ∷ []) (37 ∷ 45 ∷ 49 ∷ 35 ∷ 50 ∷ 123 ∷ []) 0 1000000 ≡ gives (answer 31 0 0 0 10 1 0) (written 12288 (1 ∷ 0 ∷ 0 ∷ 8 ∷ 1 ∷ 0 ∷ 2 ∷ 1 ∷ 2 ∷ 3 ∷ 0 ∷ 3 ∷ 2 ∷ 1 ∷ 4 ∷ []) (replicate 12288 7)) (written 256 (0 ∷ 255 ∷ 3 ∷ 4 ∷ []) (replicate 256 7))
-  -- reading 1468
-  v146 : call 12288 256 (1 ∷ 0 ∷ 3 ∷ 110 ∷ 111 ∷ 116 ∷ 2 ∷ 1 ∷ 2 ∷ 105 ∷ 110 ∷ 2 ∷ 1 ∷ 120 ∷ 2 ∷ 0 ∷ 2 ∷ 2 ∷ 0 ∷ 2 ∷ 1 ∷ 0 ∷ 1 ∷ 3 ∷ 3 ∷ 0 ∷ 3 ∷ 1 ∷ 4 ∷ 8 ∷ 0 ∷ 0 ∷ 0 ∷ 0 ∷ 37 ∷ 0 ∷ 0 ∷ 8 ∷ 1 ∷ 0 ∷ 0 ∷ 8 ∷ 1 ∷ 0 ∷ 0 ∷ []) (120 ∷ []) 0 1000000 ≡ gives (answer 0 0 0 0 10 1 2) (written 12288 (1 ∷ 0 ∷ 0 ∷ 4 ∷ 0 ∷ 1 ∷ 2 ∷ 1 ∷ 2 ∷ []) (replicate 12288 7)) (written 256 (1 ∷ 3 ∷ 0 ∷ 2 ∷ []) (replicate 256 7))
-  -- reading 391
-  v147 : call 12288 256 (1 ∷ 0 ∷ 1 ∷ 95 ∷ 2 ∷ 7 ∷ 1 ∷ 97 ∷ 0 ∷ 2 ∷ 105 ∷ 110 ∷ 3 ∷ 1 ∷ 3 ∷ 0 ∷ 3 ∷ 0 ∷ 1 ∷ 7 ∷ 2 ∷ 1 ∷ 1 ∷ 1 ∷ 2 ∷ 1 ∷ 1 ∷ 3 ∷ 2 ∷ 1 ∷ 3 ∷ 1 ∷ 2 ∷ 0 ∷ 1 ∷ 1 ∷ 1 ∷ 0 ∷ 1 ∷ 2 ∷ 2 ∷ 0 ∷ 3 ∷ 1 ∷ 1 ∷ 0 ∷ 3 ∷ 1 ∷ 10 ∷ 3 ∷ 0 ∷ 0 ∷ 0 ∷ 8 ∷ 0 ∷ 0 ∷ 0 ∷ 0 ∷ 64 ∷ 0 ∷ 0 ∷ 8 ∷ 0 ∷ 0 ∷ 0 ∷ 8 ∷ 0 ∷ 0 ∷ 0 ∷ 3 ∷ 0 ∷ 0 ∷ 0 ∷ 8 ∷ 2 ∷ 0 ∷ 0 ∷ 0 ∷ 64 ∷ 0 ∷ 0 ∷ 8 ∷ 0 ∷ 0 ∷ 0 ∷ 8 ∷ 0 ∷ 0 ∷ 0 ∷ []) (32 ∷ 49 ∷ 50 ∷ 32 ∷ 64 ∷ []) 0 1000000 ≡ gives (answer 31 0 0 0 11 1 0) (written 12288 (1 ∷ 0 ∷ 0 ∷ 5 ∷ 0 ∷ 12 ∷ 2 ∷ 1 ∷ 2 ∷ 3 ∷ 0 ∷ 3 ∷ []) (replicate 12288 7)) (written 256 (3 ∷ 2 ∷ 1 ∷ 4 ∷ []) (replicate 256 7))
-  -- reading 1014
-  v148 : call 12288 256 (3 ∷ 1 ∷ 3 ∷ 108 ∷ 101 ∷ 116 ∷ 0 ∷ 1 ∷ 120 ∷ 0 ∷ 3 ∷ 108 ∷ 101 ∷ 116 ∷ 1 ∷ 7 ∷ 1 ∷ 120 ∷ 2 ∷ 0 ∷ 2 ∷ 1 ∷ 2 ∷ 4 ∷ 2 ∷ 2 ∷ 0 ∷ 2 ∷ 2 ∷ 1 ∷ 1 ∷ 2 ∷ 0 ∷ 0 ∷ 0 ∷ 1 ∷ 0 ∷ 1 ∷ 1 ∷ 1 ∷ 6 ∷ 0 ∷ 44 ∷ 0 ∷ 0 ∷ 11 ∷ 1 ∷ 0 ∷ 0 ∷ 12 ∷ 1 ∷ 91 ∷ 93 ∷ 0 ∷ 36 ∷ 0 ∷ 0 ∷ 0 ∷ 36 ∷ 0 ∷ 0 ∷ 2 ∷ 0 ∷ 0 ∷ 0 ∷ []) (91 ∷ 10 ∷ 120 ∷ 44 ∷ 47 ∷ 47 ∷ 120 ∷ 10 ∷ 47 ∷ 47 ∷ 121 ∷ 10 ∷ 32 ∷ 108 ∷ 101 ∷ 116 ∷ 93 ∷ 32 ∷ 32 ∷ 36 ∷ []) 0 1000000 ≡ gives (answer 30 13 12 0 11 0 0) (written 12288 [] (replicate 12288 7)) (written 256 [] (replicate 256 7))
+  -- reading 291
+  v141 : call 12288 256 (2 ∷ 1 ∷ 3 ∷ 110 ∷ 111 ∷ 116 ∷ 0 ∷ 2 ∷ 102 ∷ 110 ∷ 1 ∷ 0 ∷ 2 ∷ 105 ∷ 102 ∷ 2 ∷ 0 ∷ 1 ∷ 0 ∷ 2 ∷ 3 ∷ 1 ∷ 1 ∷ 1 ∷ 2 ∷ 0 ∷ 2 ∷ 0 ∷ 1 ∷ 0 ∷ 1 ∷ 1 ∷ 1 ∷ 4 ∷ 11 ∷ 1 ∷ 0 ∷ 0 ∷ 11 ∷ 1 ∷ 0 ∷ 0 ∷ 3 ∷ 0 ∷ 0 ∷ 0 ∷ 0 ∷ 44 ∷ 0 ∷ 0 ∷ []) [] 0 1000000 ≡ gives (answer 0 0 0 0 9 1 5) (1 ∷ 0 ∷ 0 ∷ 8 ∷ 1 ∷ 0 ∷ 2 ∷ 1 ∷ 2 ∷ 2 ∷ 3 ∷ 2 ∷ 3 ∷ 0 ∷ 4 ∷ zeros 12273 0) (0 ∷ 1 ∷ 1 ∷ 5 ∷ zeros 252 0)
+  -- reading 526
+  v142 : call 12288 256 (3 ∷ 0 ∷ 2 ∷ 87 ∷ 49 ∷ 1 ∷ 2 ∷ 102 ∷ 110 ∷ 0 ∷ 2 ∷ 105 ∷ 102 ∷ 2 ∷ 2 ∷ 1 ∷ 98 ∷ 2 ∷ 2 ∷ 105 ∷ 102 ∷ 2 ∷ 1 ∷ 2 ∷ 0 ∷ 2 ∷ 4 ∷ 0 ∷ 1 ∷ 1 ∷ 2 ∷ 2 ∷ 2 ∷ 1 ∷ 2 ∷ 1 ∷ 1 ∷ 3 ∷ 1 ∷ 0 ∷ 0 ∷ 1 ∷ 2 ∷ 7 ∷ 8 ∷ 1 ∷ 0 ∷ 0 ∷ 0 ∷ 47 ∷ 0 ∷ 0 ∷ 6 ∷ 0 ∷ 0 ∷ 0 ∷ 2 ∷ 0 ∷ 0 ∷ 0 ∷ 8 ∷ 0 ∷ 0 ∷ 0 ∷ 8 ∷ 1 ∷ 0 ∷ 0 ∷ 0 ∷ 60 ∷ 0 ∷ 0 ∷ []) (48 ∷ 48 ∷ 55 ∷ 32 ∷ 47 ∷ 32 ∷ 48 ∷ 48 ∷ 55 ∷ 32 ∷ 60 ∷ 32 ∷ 51 ∷ 32 ∷ 48 ∷ 48 ∷ 48 ∷ 48 ∷ 48 ∷ 48 ∷ 48 ∷ 48 ∷ 48 ∷ 48 ∷ 48 ∷ 48 ∷ 48 ∷ 48 ∷ 48 ∷ 48 ∷ 48 ∷ 48 ∷ 48 ∷ 48 ∷ 48 ∷ 48 ∷ 48 ∷ 49 ∷ 32 ∷ 47 ∷ []) 0 1000000 ≡ gives (answer 30 0 11 0 9 0 0) (zeros 12288 0) (zeros 256 0)
+  -- reading 848
+  v143 : call 12288 256 (2 ∷ 1 ∷ 2 ∷ 105 ∷ 102 ∷ 0 ∷ 2 ∷ 100 ∷ 111 ∷ 2 ∷ 1 ∷ 1 ∷ 98 ∷ 2 ∷ 1 ∷ 95 ∷ 2 ∷ 1 ∷ 3 ∷ 0 ∷ 2 ∷ 5 ∷ 2 ∷ 3 ∷ 1 ∷ 4 ∷ 0 ∷ 0 ∷ 1 ∷ 3 ∷ 1 ∷ 2 ∷ 1 ∷ 1 ∷ 1 ∷ 0 ∷ 1 ∷ 1 ∷ 2 ∷ 3 ∷ 0 ∷ 0 ∷ 9 ∷ 6 ∷ 0 ∷ 0 ∷ 0 ∷ 8 ∷ 0 ∷ 0 ∷ 0 ∷ 0 ∷ 64 ∷ 0 ∷ 0 ∷ 9 ∷ 1 ∷ 0 ∷ 0 ∷ 9 ∷ 0 ∷ 0 ∷ 0 ∷ 8 ∷ 0 ∷ 0 ∷ 0 ∷ 9 ∷ 1 ∷ 0 ∷ 0 ∷ 3 ∷ 0 ∷ 0 ∷ 0 ∷ 0 ∷ 64 ∷ 0 ∷ 0 ∷ []) (64 ∷ 64 ∷ []) 0 261 ≡ gives (answer 30 0 11 0 9 0 0) (zeros 12288 0) (zeros 256 0)
+  -- reading 1268
+  v144 : call 12288 256 (1 ∷ 1 ∷ 2 ∷ 100 ∷ 111 ∷ 2 ∷ 7 ∷ 1 ∷ 84 ∷ 0 ∷ 2 ∷ 105 ∷ 110 ∷ 4 ∷ 0 ∷ 4 ∷ 0 ∷ 2 ∷ 2 ∷ 0 ∷ 2 ∷ 0 ∷ 6 ∷ 1 ∷ 2 ∷ 1 ∷ 3 ∷ 255 ∷ 3 ∷ 0 ∷ 2 ∷ 1 ∷ 1 ∷ 1 ∷ 3 ∷ 255 ∷ 3 ∷ 1 ∷ 1 ∷ 255 ∷ 3 ∷ 3 ∷ 1 ∷ 1 ∷ 1 ∷ 1 ∷ 1 ∷ 11 ∷ 6 ∷ 0 ∷ 0 ∷ 0 ∷ 8 ∷ 0 ∷ 0 ∷ 0 ∷ 0 ∷ 58 ∷ 0 ∷ 0 ∷ 0 ∷ 58 ∷ 0 ∷ 0 ∷ 1 ∷ 0 ∷ 0 ∷ 0 ∷ 9 ∷ 0 ∷ 0 ∷ 0 ∷ 0 ∷ 58 ∷ 0 ∷ 0 ∷ 8 ∷ 0 ∷ 0 ∷ 0 ∷ 1 ∷ 0 ∷ 0 ∷ 0 ∷ 8 ∷ 3 ∷ 0 ∷ 0 ∷ 3 ∷ 0 ∷ 0 ∷ 0 ∷ []) (44 ∷ 47 ∷ 47 ∷ 10 ∷ 58 ∷ 47 ∷ 47 ∷ 10 ∷ 44 ∷ 13 ∷ 10 ∷ 58 ∷ 9 ∷ 58 ∷ 9 ∷ 50 ∷ 9 ∷ 105 ∷ 102 ∷ 49 ∷ 13 ∷ 10 ∷ 58 ∷ 58 ∷ 10 ∷ 58 ∷ 32 ∷ 58 ∷ 47 ∷ 47 ∷ 120 ∷ 10 ∷ 47 ∷ 47 ∷ 121 ∷ 10 ∷ 32 ∷ 100 ∷ 111 ∷ []) 0 1000000 ≡ gives (answer 30 0 11 0 9 0 0) (zeros 12288 0) (zeros 256 0)
+  -- reading 24
+  v145 : call 12288 256 (2 ∷ 0 ∷ 3 ∷ 110 ∷ 111 ∷ 116 ∷ 0 ∷ 3 ∷ 108 ∷ 101 ∷ 116 ∷ 3 ∷ 2 ∷ 1 ∷ 121 ∷ 0 ∷ 2 ∷ 118 ∷ 49 ∷ 7 ∷ 1 ∷ 97 ∷ 3 ∷ 0 ∷ 2 ∷ 0 ∷ 2 ∷ 0 ∷ 4 ∷ 8 ∷ 1 ∷ 3 ∷ 1 ∷ 2 ∷ 255 ∷ 3 ∷ 1 ∷ 2 ∷ 255 ∷ 3 ∷ 1 ∷ 2 ∷ 255 ∷ 3 ∷ 1 ∷ 1 ∷ 2 ∷ 0 ∷ 1 ∷ 2 ∷ 255 ∷ 3 ∷ 1 ∷ 2 ∷ 255 ∷ 3 ∷ 1 ∷ 1 ∷ 2 ∷ 1 ∷ 1 ∷ 3 ∷ 15 ∷ 7 ∷ 0 ∷ 0 ∷ 0 ∷ 2 ∷ 0 ∷ 0 ∷ 0 ∷ 8 ∷ 0 ∷ 0 ∷ 0 ∷ 0 ∷ 43 ∷ 0 ∷ 0 ∷ 5 ∷ 0 ∷ 0 ∷ 0 ∷ 2 ∷ 0 ∷ 0 ∷ 0 ∷ 10 ∷ 2 ∷ 0 ∷ 0 ∷ 7 ∷ 0 ∷ 0 ∷ 0 ∷ 2 ∷ 0 ∷ 0 ∷ 0 ∷ 6 ∷ 0 ∷ 0 ∷ 0 ∷ 2 ∷ 0 ∷ 0 ∷ 0 ∷ 3 ∷ 0 ∷ 0 ∷ 0 ∷ 8 ∷ 2 ∷ 0 ∷ 0 ∷ 0 ∷ 43 ∷ 0 ∷ 0 ∷ 8 ∷ 2 ∷ 0 ∷ 0 ∷ []) (10 ∷ 97 ∷ 32 ∷ 102 ∷ 111 ∷ 111 ∷ []) 0 1000000 ≡ gives (answer 31 0 0 0 10 1 0) (1 ∷ 0 ∷ 0 ∷ 4 ∷ 1 ∷ 1 ∷ 2 ∷ 1 ∷ 2 ∷ 3 ∷ 0 ∷ 3 ∷ 2 ∷ 1 ∷ 4 ∷ zeros 12273 0) (2 ∷ 1 ∷ 3 ∷ 4 ∷ zeros 252 0)
+  -- reading 552
+  v146 : call 12288 256 (2 ∷ 0 ∷ 1 ∷ 95 ∷ 1 ∷ 2 ∷ 100 ∷ 111 ∷ 3 ∷ 7 ∷ 1 ∷ 120 ∷ 2 ∷ 1 ∷ 98 ∷ 2 ∷ 2 ∷ 105 ∷ 102 ∷ 4 ∷ 0 ∷ 4 ∷ 0 ∷ 2 ∷ 0 ∷ 0 ∷ 0 ∷ 2 ∷ 8 ∷ 2 ∷ 1 ∷ 1 ∷ 2 ∷ 1 ∷ 3 ∷ 1 ∷ 3 ∷ 2 ∷ 0 ∷ 0 ∷ 3 ∷ 255 ∷ 3 ∷ 1 ∷ 1 ∷ 1 ∷ 1 ∷ 0 ∷ 2 ∷ 255 ∷ 3 ∷ 0 ∷ 1 ∷ 2 ∷ 0 ∷ 1 ∷ 2 ∷ 1 ∷ 3 ∷ 1 ∷ 2 ∷ 16 ∷ 8 ∷ 0 ∷ 0 ∷ 0 ∷ 10 ∷ 3 ∷ 0 ∷ 0 ∷ 10 ∷ 0 ∷ 0 ∷ 0 ∷ 8 ∷ 0 ∷ 0 ∷ 0 ∷ 0 ∷ 38 ∷ 0 ∷ 0 ∷ 8 ∷ 0 ∷ 0 ∷ 0 ∷ 0 ∷ 38 ∷ 0 ∷ 0 ∷ 8 ∷ 0 ∷ 0 ∷ 0 ∷ 4 ∷ 0 ∷ 0 ∷ 0 ∷ 8 ∷ 3 ∷ 0 ∷ 0 ∷ 8 ∷ 1 ∷ 0 ∷ 0 ∷ 3 ∷ 0 ∷ 0 ∷ 0 ∷ 8 ∷ 3 ∷ 0 ∷ 0 ∷ 8 ∷ 3 ∷ 0 ∷ 0 ∷ 5 ∷ 7 ∷ 0 ∷ 0 ∷ 2 ∷ 0 ∷ 0 ∷ 0 ∷ []) (44 ∷ 36 ∷ 32 ∷ 38 ∷ 32 ∷ 32 ∷ 48 ∷ 13 ∷ 10 ∷ 93 ∷ 32 ∷ 47 ∷ 47 ∷ 32 ∷ 99 ∷ 10 ∷ 120 ∷ 120 ∷ []) 0 1000000 ≡ gives (answer 30 0 11 0 10 0 0) (zeros 12288 0) (zeros 256 0)
+  -- reading 832
+  v147 : call 12288 256 (2 ∷ 1 ∷ 2 ∷ 100 ∷ 111 ∷ 1 ∷ 2 ∷ 105 ∷ 102 ∷ 2 ∷ 7 ∷ 1 ∷ 84 ∷ 1 ∷ 1 ∷ 98 ∷ 1 ∷ 0 ∷ 2 ∷ 2 ∷ 0 ∷ 1 ∷ 0 ∷ 3 ∷ 255 ∷ 3 ∷ 1 ∷ 1 ∷ 4 ∷ 9 ∷ 0 ∷ 0 ∷ 0 ∷ 0 ∷ 58 ∷ 0 ∷ 0 ∷ 8 ∷ 0 ∷ 0 ∷ 0 ∷ 3 ∷ 0 ∷ 0 ∷ 0 ∷ []) (52 ∷ 50 ∷ 32 ∷ 50 ∷ []) 0 1000000 ≡ gives (answer 31 0 0 0 10 1 0) (1 ∷ 0 ∷ 0 ∷ 7 ∷ 0 ∷ 0 ∷ 2 ∷ 1 ∷ 2 ∷ 5 ∷ 0 ∷ 42 ∷ 2 ∷ 1 ∷ 4 ∷ 3 ∷ 1 ∷ 5 ∷ 2 ∷ 1 ∷ 6 ∷ zeros 12267 0) (2 ∷ 255 ∷ 3 ∷ 6 ∷ zeros 252 0)
+  -- reading 1407
+  v148 : call 12288 256 (2 ∷ 1 ∷ 1 ∷ 95 ∷ 0 ∷ 3 ∷ 108 ∷ 101 ∷ 116 ∷ 3 ∷ 1 ∷ 2 ∷ 105 ∷ 110 ∷ 0 ∷ 1 ∷ 98 ∷ 1 ∷ 2 ∷ 105 ∷ 110 ∷ 2 ∷ 1 ∷ 3 ∷ 1 ∷ 3 ∷ 6 ∷ 1 ∷ 2 ∷ 0 ∷ 3 ∷ 2 ∷ 1 ∷ 1 ∷ 1 ∷ 255 ∷ 3 ∷ 1 ∷ 3 ∷ 255 ∷ 3 ∷ 1 ∷ 3 ∷ 255 ∷ 3 ∷ 1 ∷ 3 ∷ 2 ∷ 1 ∷ 1 ∷ 1 ∷ 14 ∷ 6 ∷ 0 ∷ 0 ∷ 0 ∷ 8 ∷ 0 ∷ 0 ∷ 0 ∷ 0 ∷ 33 ∷ 0 ∷ 0 ∷ 4 ∷ 0 ∷ 0 ∷ 0 ∷ 8 ∷ 0 ∷ 0 ∷ 0 ∷ 0 ∷ 64 ∷ 0 ∷ 0 ∷ 8 ∷ 0 ∷ 0 ∷ 0 ∷ 9 ∷ 0 ∷ 0 ∷ 0 ∷ 8 ∷ 1 ∷ 0 ∷ 0 ∷ 0 ∷ 33 ∷ 0 ∷ 0 ∷ 9 ∷ 1 ∷ 0 ∷ 0 ∷ 0 ∷ 60 ∷ 0 ∷ 0 ∷ 8 ∷ 1 ∷ 0 ∷ 0 ∷ 5 ∷ 1 ∷ 0 ∷ 0 ∷ []) (105 ∷ 110 ∷ 33 ∷ []) 0 1000000 ≡ gives (answer 31 0 0 0 10 1 0) (1 ∷ 0 ∷ 0 ∷ 6 ∷ 2 ∷ 1 ∷ 2 ∷ 1 ∷ 2 ∷ 3 ∷ 1 ∷ 3 ∷ 2 ∷ 1 ∷ 4 ∷ zeros 12273 0) (2 ∷ 2 ∷ 1 ∷ 4 ∷ zeros 252 0)
+  -- reading 109
+  v149 : call 12288 256 (1 ∷ 0 ∷ 2 ∷ 87 ∷ 49 ∷ 3 ∷ 2 ∷ 1 ∷ 84 ∷ 7 ∷ 2 ∷ 105 ∷ 110 ∷ 7 ∷ 1 ∷ 97 ∷ 2 ∷ 0 ∷ 4 ∷ 0 ∷ 2 ∷ 6 ∷ 2 ∷ 1 ∷ 1 ∷ 3 ∷ 0 ∷ 3 ∷ 0 ∷ 1 ∷ 1 ∷ 0 ∷ 0 ∷ 2 ∷ 1 ∷ 0 ∷ 1 ∷ 2 ∷ 1 ∷ 1 ∷ 1 ∷ 2 ∷ 1 ∷ 1 ∷ 3 ∷ 1 ∷ 11 ∷ 8 ∷ 0 ∷ 0 ∷ 0 ∷ 0 ∷ 59 ∷ 0 ∷ 0 ∷ 8 ∷ 0 ∷ 0 ∷ 0 ∷ 1 ∷ 0 ∷ 0 ∷ 0 ∷ 0 ∷ 59 ∷ 0 ∷ 0 ∷ 8 ∷ 0 ∷ 0 ∷ 0 ∷ 0 ∷ 37 ∷ 0 ∷ 0 ∷ 8 ∷ 0 ∷ 0 ∷ 0 ∷ 8 ∷ 1 ∷ 0 ∷ 0 ∷ 0 ∷ 37 ∷ 0 ∷ 0 ∷ 8 ∷ 0 ∷ 0 ∷ 0 ∷ []) (87 ∷ 49 ∷ []) 0 1000000 ≡ gives (answer 0 0 0 0 11 1 2) (1 ∷ 0 ∷ 0 ∷ 3 ∷ 1 ∷ 1 ∷ zeros 12282 0) (2 ∷ 0 ∷ 3 ∷ 2 ∷ zeros 252 0)
+  -- reading 952
+  v150 : call 12288 256 (1 ∷ 0 ∷ 1 ∷ 97 ∷ 0 ∷ 1 ∷ 0 ∷ 3 ∷ 3 ∷ 1 ∷ 2 ∷ 0 ∷ 4 ∷ 255 ∷ 3 ∷ 1 ∷ 2 ∷ 255 ∷ 3 ∷ 0 ∷ 3 ∷ 9 ∷ 3 ∷ 0 ∷ 0 ∷ 0 ∷ 6 ∷ 0 ∷ 0 ∷ 0 ∷ 0 ∷ 60 ∷ 0 ∷ 0 ∷ 0 ∷ 60 ∷ 0 ∷ 0 ∷ 8 ∷ 0 ∷ 0 ∷ 0 ∷ 10 ∷ 0 ∷ 0 ∷ 0 ∷ 10 ∷ 0 ∷ 0 ∷ 0 ∷ 8 ∷ 0 ∷ 0 ∷ 0 ∷ 0 ∷ 38 ∷ 0 ∷ 0 ∷ []) (50 ∷ 60 ∷ 51 ∷ []) 0 1000000 ≡ gives (answer 30 0 11 0 11 0 0) (zeros 12288 0) (zeros 256 0)
   -- reading 128
-  v149 : call 12288 256 (2 ∷ 0 ∷ 2 ∷ 105 ∷ 110 ∷ 1 ∷ 2 ∷ 87 ∷ 49 ∷ 3 ∷ 0 ∷ 1 ∷ 121 ∷ 7 ∷ 1 ∷ 84 ∷ 2 ∷ 2 ∷ 105 ∷ 110 ∷ 2 ∷ 0 ∷ 2 ∷ 0 ∷ 1 ∷ 3 ∷ 0 ∷ 2 ∷ 0 ∷ 3 ∷ 255 ∷ 3 ∷ 1 ∷ 1 ∷ 1 ∷ 3 ∷ 2 ∷ 1 ∷ 5 ∷ 8 ∷ 1 ∷ 0 ∷ 0 ∷ 0 ∷ 63 ∷ 0 ∷ 0 ∷ 8 ∷ 0 ∷ 0 ∷ 0 ∷ 3 ∷ 0 ∷ 0 ∷ 0 ∷ 8 ∷ 0 ∷ 0 ∷ 0 ∷ []) (55 ∷ []) 0 1000000 ≡ gives (answer 0 0 0 0 12 1 4) (written 12288 (1 ∷ 0 ∷ 0 ∷ 5 ∷ 0 ∷ 7 ∷ 2 ∷ 1 ∷ 2 ∷ 3 ∷ 1 ∷ 3 ∷ 2 ∷ 1 ∷ 4 ∷ []) (replicate 12288 7)) (written 256 (1 ∷ 255 ∷ 3 ∷ 4 ∷ []) (replicate 256 7))
-  -- reading 534
-  v150 : call 12288 256 (4 ∷ 1 ∷ 2 ∷ 105 ∷ 110 ∷ 1 ∷ 2 ∷ 105 ∷ 102 ∷ 1 ∷ 1 ∷ 95 ∷ 0 ∷ 2 ∷ 105 ∷ 110 ∷ 2 ∷ 0 ∷ 1 ∷ 84 ∷ 0 ∷ 1 ∷ 98 ∷ 1 ∷ 0 ∷ 4 ∷ 4 ∷ 1 ∷ 0 ∷ 0 ∷ 2 ∷ 1 ∷ 0 ∷ 1 ∷ 3 ∷ 255 ∷ 3 ∷ 1 ∷ 1 ∷ 1 ∷ 1 ∷ 0 ∷ 2 ∷ 8 ∷ 0 ∷ 63 ∷ 0 ∷ 0 ∷ 8 ∷ 0 ∷ 0 ∷ 0 ∷ 8 ∷ 0 ∷ 0 ∷ 0 ∷ 0 ∷ 63 ∷ 0 ∷ 0 ∷ 8 ∷ 0 ∷ 0 ∷ 0 ∷ 3 ∷ 0 ∷ 0 ∷ 0 ∷ 0 ∷ 47 ∷ 0 ∷ 0 ∷ 8 ∷ 0 ∷ 0 ∷ 0 ∷ []) (49 ∷ []) 0 1000000 ≡ gives (answer 0 0 0 0 12 1 4) (written 12288 (1 ∷ 0 ∷ 0 ∷ 5 ∷ 0 ∷ 1 ∷ 2 ∷ 1 ∷ 2 ∷ 3 ∷ 2 ∷ 3 ∷ 2 ∷ 1 ∷ 4 ∷ []) (replicate 12288 7)) (written 256 (1 ∷ 255 ∷ 3 ∷ 4 ∷ []) (replicate 256 7))
-  -- reading 1353
-  v151 : call 12288 256 (0 ∷ 0 ∷ 2 ∷ 0 ∷ 2 ∷ 0 ∷ 3 ∷ 5 ∷ 255 ∷ 3 ∷ 1 ∷ 2 ∷ 2 ∷ 1 ∷ 1 ∷ 1 ∷ 255 ∷ 3 ∷ 0 ∷ 1 ∷ 0 ∷ 0 ∷ 1 ∷ 1 ∷ 3 ∷ 1 ∷ 1 ∷ 2 ∷ 7 ∷ 10 ∷ 1 ∷ 0 ∷ 0 ∷ 9 ∷ 1 ∷ 0 ∷ 0 ∷ 0 ∷ 61 ∷ 0 ∷ 0 ∷ 4 ∷ 0 ∷ 0 ∷ 0 ∷ 4 ∷ 0 ∷ 0 ∷ 0 ∷ 3 ∷ 0 ∷ 0 ∷ 0 ∷ 3 ∷ 0 ∷ 0 ∷ 0 ∷ []) [] 0 1000000 ≡ gives (answer 0 0 0 0 12 1 6) (written 12288 (1 ∷ 0 ∷ 0 ∷ 8 ∷ 1 ∷ 0 ∷ 2 ∷ 1 ∷ 2 ∷ 7 ∷ 0 ∷ 0 ∷ 2 ∷ 3 ∷ 4 ∷ 3 ∷ 0 ∷ 5 ∷ []) (replicate 12288 7)) (written 256 (0 ∷ 255 ∷ 3 ∷ 6 ∷ []) (replicate 256 7))
-  -- reading 185
-  v152 : call 12288 256 (2 ∷ 0 ∷ 1 ∷ 120 ∷ 1 ∷ 1 ∷ 95 ∷ 2 ∷ 0 ∷ 1 ∷ 120 ∷ 3 ∷ 1 ∷ 120 ∷ 3 ∷ 1 ∷ 2 ∷ 0 ∷ 2 ∷ 0 ∷ 2 ∷ 6 ∷ 255 ∷ 3 ∷ 1 ∷ 1 ∷ 1 ∷ 0 ∷ 1 ∷ 2 ∷ 0 ∷ 1 ∷ 3 ∷ 1 ∷ 0 ∷ 0 ∷ 1 ∷ 3 ∷ 0 ∷ 1 ∷ 0 ∷ 2 ∷ 1 ∷ 0 ∷ 3 ∷ 1 ∷ 10 ∷ 3 ∷ 0 ∷ 0 ∷ 0 ∷ 8 ∷ 0 ∷ 0 ∷ 0 ∷ 0 ∷ 49 ∷ 0 ∷ 0 ∷ 8 ∷ 1 ∷ 0 ∷ 0 ∷ 0 ∷ 123 ∷ 0 ∷ 0 ∷ 8 ∷ 0 ∷ 0 ∷ 0 ∷ 0 ∷ 125 ∷ 0 ∷ 0 ∷ 8 ∷ 1 ∷ 0 ∷ 0 ∷ 0 ∷ 45 ∷ 0 ∷ 0 ∷ 8 ∷ 2 ∷ 0 ∷ 0 ∷ []) (49 ∷ 50 ∷ 32 ∷ 49 ∷ []) 0 1000000 ≡ gives (answer 0 0 0 0 13 2 6) (written 12288 (1 ∷ 0 ∷ 0 ∷ 5 ∷ 0 ∷ 12 ∷ 2 ∷ 1 ∷ 2 ∷ 3 ∷ 0 ∷ 3 ∷ 2 ∷ 1 ∷ 4 ∷ 3 ∷ 1 ∷ 5 ∷ 2 ∷ 1 ∷ 6 ∷ []) (replicate 12288 7)) (written 256 (2 ∷ 255 ∷ 3 ∷ 4 ∷ 4 ∷ 1 ∷ 0 ∷ 6 ∷ []) (replicate 256 7))
-  -- reading 608
-  v153 : call 12288 256 (2 ∷ 0 ∷ 2 ∷ 105 ∷ 102 ∷ 0 ∷ 2 ∷ 100 ∷ 111 ∷ 3 ∷ 1 ∷ 1 ∷ 120 ∷ 7 ∷ 2 ∷ 105 ∷ 110 ∷ 0 ∷ 1 ∷ 98 ∷ 2 ∷ 0 ∷ 1 ∷ 0 ∷ 2 ∷ 3 ∷ 2 ∷ 2 ∷ 1 ∷ 3 ∷ 255 ∷ 3 ∷ 1 ∷ 1 ∷ 2 ∷ 1 ∷ 1 ∷ 2 ∷ 6 ∷ 6 ∷ 0 ∷ 0 ∷ 0 ∷ 12 ∷ 1 ∷ 124 ∷ 124 ∷ 0 ∷ 95 ∷ 0 ∷ 0 ∷ 2 ∷ 0 ∷ 0 ∷ 0 ∷ 8 ∷ 1 ∷ 0 ∷ 0 ∷ 0 ∷ 33 ∷ 0 ∷ 0 ∷ []) (124 ∷ 32 ∷ 120 ∷ 32 ∷ 124 ∷ 32 ∷ 95 ∷ []) 0 142 ≡ gives (answer 0 0 0 0 13 1 9) (written 12288 (1 ∷ 0 ∷ 0 ∷ 8 ∷ 1 ∷ 0 ∷ 4 ∷ 2 ∷ 1 ∷ 2 ∷ 1 ∷ 3 ∷ 3 ∷ 1 ∷ 4 ∷ 2 ∷ 1 ∷ 5 ∷ 8 ∷ 6 ∷ 0 ∷ 2 ∷ 1 ∷ 7 ∷ 3 ∷ 0 ∷ 8 ∷ []) (replicate 12288 7)) (written 256 (7 ∷ 2 ∷ 2 ∷ 9 ∷ []) (replicate 256 7))
-  -- reading 1000
-  v154 : call 12288 256 (1 ∷ 0 ∷ 3 ∷ 108 ∷ 101 ∷ 116 ∷ 2 ∷ 2 ∷ 2 ∷ 105 ∷ 102 ∷ 1 ∷ 1 ∷ 97 ∷ 2 ∷ 0 ∷ 3 ∷ 0 ∷ 3 ∷ 6 ∷ 1 ∷ 0 ∷ 0 ∷ 1 ∷ 255 ∷ 3 ∷ 1 ∷ 1 ∷ 255 ∷ 3 ∷ 1 ∷ 2 ∷ 1 ∷ 3 ∷ 1 ∷ 1 ∷ 255 ∷ 3 ∷ 0 ∷ 2 ∷ 2 ∷ 1 ∷ 1 ∷ 1 ∷ 8 ∷ 11 ∷ 1 ∷ 0 ∷ 0 ∷ 10 ∷ 1 ∷ 0 ∷ 0 ∷ 7 ∷ 0 ∷ 0 ∷ 0 ∷ 2 ∷ 0 ∷ 0 ∷ 0 ∷ 3 ∷ 0 ∷ 0 ∷ 0 ∷ 3 ∷ 0 ∷ 0 ∷ 0 ∷ 3 ∷ 0 ∷ 0 ∷ 0 ∷ 3 ∷ 0 ∷ 0 ∷ 0 ∷ []) (108 ∷ 101 ∷ 116 ∷ 13 ∷ 10 ∷ []) 0 1000000 ≡ gives (answer 0 0 0 0 13 3 8) (written 12288 (1 ∷ 0 ∷ 0 ∷ 8 ∷ 1 ∷ 0 ∷ 2 ∷ 1 ∷ 2 ∷ 3 ∷ 0 ∷ 3 ∷ 3 ∷ 1 ∷ 3 ∷ 4 ∷ 0 ∷ 3 ∷ 2 ∷ 1 ∷ 6 ∷ 3 ∷ 2 ∷ 7 ∷ []) (replicate 12288 7)) (written 256 (0 ∷ 1 ∷ 0 ∷ 4 ∷ 0 ∷ 255 ∷ 3 ∷ 5 ∷ 3 ∷ 255 ∷ 3 ∷ 8 ∷ []) (replicate 256 7))
-  -- reading 1383
-  v155 : call 12288 256 (3 ∷ 0 ∷ 3 ∷ 108 ∷ 101 ∷ 116 ∷ 0 ∷ 2 ∷ 105 ∷ 102 ∷ 1 ∷ 3 ∷ 110 ∷ 111 ∷ 116 ∷ 3 ∷ 2 ∷ 1 ∷ 121 ∷ 2 ∷ 2 ∷ 105 ∷ 110 ∷ 7 ∷ 1 ∷ 95 ∷ 1 ∷ 0 ∷ 2 ∷ 2 ∷ 255 ∷ 3 ∷ 1 ∷ 1 ∷ 1 ∷ 1 ∷ 0 ∷ 3 ∷ 4 ∷ 3 ∷ 0 ∷ 0 ∷ 0 ∷ 8 ∷ 0 ∷ 0 ∷ 0 ∷ 0 ∷ 64 ∷ 0 ∷ 0 ∷ 8 ∷ 0 ∷ 0 ∷ 0 ∷ []) (48 ∷ 32 ∷ 64 ∷ 32 ∷ 64 ∷ 32 ∷ 64 ∷ 32 ∷ 52 ∷ 50 ∷ 32 ∷ 55 ∷ 32 ∷ 49 ∷ 32 ∷ 64 ∷ 32 ∷ 50 ∷ []) 0 1000000 ≡ gives (answer 31 0 0 0 13 1 0) (written 12288 (1 ∷ 0 ∷ 0 ∷ 5 ∷ 0 ∷ 0 ∷ 2 ∷ 1 ∷ 2 ∷ 3 ∷ 0 ∷ 3 ∷ 2 ∷ 1 ∷ 4 ∷ []) (replicate 12288 7)) (written 256 (1 ∷ 255 ∷ 3 ∷ 4 ∷ []) (replicate 256 7))
-  -- reading 134
-  v156 : call 12288 256 (3 ∷ 0 ∷ 1 ∷ 97 ∷ 0 ∷ 2 ∷ 105 ∷ 102 ∷ 1 ∷ 1 ∷ 95 ∷ 1 ∷ 0 ∷ 1 ∷ 98 ∷ 2 ∷ 0 ∷ 3 ∷ 0 ∷ 2 ∷ 5 ∷ 255 ∷ 3 ∷ 0 ∷ 1 ∷ 1 ∷ 1 ∷ 1 ∷ 1 ∷ 1 ∷ 0 ∷ 1 ∷ 4 ∷ 3 ∷ 2 ∷ 0 ∷ 1 ∷ 0 ∷ 0 ∷ 0 ∷ 1 ∷ 8 ∷ 3 ∷ 0 ∷ 0 ∷ 0 ∷ 8 ∷ 1 ∷ 0 ∷ 0 ∷ 10 ∷ 1 ∷ 0 ∷ 0 ∷ 8 ∷ 0 ∷ 0 ∷ 0 ∷ 0 ∷ 37 ∷ 0 ∷ 0 ∷ 9 ∷ 1 ∷ 0 ∷ 0 ∷ 0 ∷ 33 ∷ 0 ∷ 0 ∷ 8 ∷ 0 ∷ 0 ∷ 0 ∷ []) (98 ∷ 33 ∷ 65 ∷ 95 ∷ 98 ∷ 37 ∷ 97 ∷ 37 ∷ []) 0 1000000 ≡ gives (answer 30 0 11 0 14 0 0) (written 12288 [] (replicate 12288 7)) (written 256 [] (replicate 256 7))
-  -- reading 1127
-  v157 : call 12288 256 (1 ∷ 1 ∷ 2 ∷ 100 ∷ 111 ∷ 1 ∷ 7 ∷ 1 ∷ 97 ∷ 2 ∷ 0 ∷ 2 ∷ 0 ∷ 1 ∷ 3 ∷ 1 ∷ 2 ∷ 1 ∷ 3 ∷ 1 ∷ 0 ∷ 1 ∷ 2 ∷ 3 ∷ 2 ∷ 1 ∷ 1 ∷ 6 ∷ 7 ∷ 0 ∷ 0 ∷ 0 ∷ 10 ∷ 1 ∷ 0 ∷ 0 ∷ 3 ∷ 0 ∷ 0 ∷ 0 ∷ 8 ∷ 1 ∷ 0 ∷ 0 ∷ 13 ∷ 0 ∷ 91 ∷ 93 ∷ 3 ∷ 0 ∷ 0 ∷ 0 ∷ []) (49 ∷ 50 ∷ 55 ∷ 32 ∷ 93 ∷ 32 ∷ 48 ∷ 48 ∷ 32 ∷ 91 ∷ 32 ∷ 48 ∷ 48 ∷ 55 ∷ 32 ∷ 93 ∷ 12 ∷ []) 0 1000000 ≡ gives (answer 31 0 0 0 14 2 0) (written 12288 (1 ∷ 0 ∷ 0 ∷ 8 ∷ 1 ∷ 0 ∷ 2 ∷ 1 ∷ 2 ∷ 5 ∷ 0 ∷ 127 ∷ 2 ∷ 3 ∷ 4 ∷ 3 ∷ 0 ∷ 5 ∷ 2 ∷ 1 ∷ 4 ∷ 3 ∷ 2 ∷ 7 ∷ 2 ∷ 1 ∷ 8 ∷ 8 ∷ 9 ∷ 0 ∷ 2 ∷ 1 ∷ 10 ∷ 2 ∷ 9 ∷ 2 ∷ 3 ∷ 1 ∷ 12 ∷ []) (replicate 12288 7)) (written 256 (3 ∷ 1 ∷ 2 ∷ 6 ∷ 4 ∷ 1 ∷ 0 ∷ 13 ∷ []) (replicate 256 7))
-  -- reading 503
-  v158 : call 12288 256 (2 ∷ 1 ∷ 1 ∷ 95 ∷ 1 ∷ 2 ∷ 105 ∷ 110 ∷ 4 ∷ 0 ∷ 2 ∷ 118 ∷ 49 ∷ 0 ∷ 2 ∷ 105 ∷ 110 ∷ 1 ∷ 1 ∷ 97 ∷ 0 ∷ 1 ∷ 97 ∷ 4 ∷ 0 ∷ 2 ∷ 0 ∷ 3 ∷ 1 ∷ 4 ∷ 2 ∷ 0 ∷ 9 ∷ 0 ∷ 3 ∷ 1 ∷ 2 ∷ 2 ∷ 0 ∷ 0 ∷ 1 ∷ 1 ∷ 0 ∷ 2 ∷ 1 ∷ 3 ∷ 0 ∷ 3 ∷ 1 ∷ 2 ∷ 0 ∷ 1 ∷ 2 ∷ 0 ∷ 0 ∷ 2 ∷ 1 ∷ 3 ∷ 1 ∷ 0 ∷ 2 ∷ 1 ∷ 1 ∷ 1 ∷ 1 ∷ 255 ∷ 3 ∷ 2 ∷ 1 ∷ 12 ∷ 9 ∷ 2 ∷ 0 ∷ 0 ∷ 8 ∷ 3 ∷ 0 ∷ 0 ∷ 8 ∷ 0 ∷ 0 ∷ 0 ∷ 8 ∷ 3 ∷ 0 ∷ 0 ∷ 8 ∷ 3 ∷ 0 ∷ 0 ∷ 2 ∷ 0 ∷ 0 ∷ 0 ∷ 6 ∷ 0 ∷ 0 ∷ 0 ∷ 8 ∷ 0 ∷ 0 ∷ 0 ∷ 7 ∷ 0 ∷ 0 ∷ 0 ∷ 8 ∷ 2 ∷ 0 ∷ 0 ∷ 4 ∷ 0 ∷ 0 ∷ 0 ∷ 8 ∷ 3 ∷ 0 ∷ 0 ∷ []) [] 0 1000000 ≡ gives (answer 30 0 11 0 15 0 0) (written 12288 [] (replicate 12288 7)) (written 256 [] (replicate 256 7))
-  -- reading 1052
-  v159 : call 12288 256 (1 ∷ 1 ∷ 2 ∷ 100 ∷ 111 ∷ 3 ∷ 0 ∷ 1 ∷ 97 ∷ 0 ∷ 1 ∷ 98 ∷ 7 ∷ 1 ∷ 121 ∷ 2 ∷ 0 ∷ 3 ∷ 1 ∷ 2 ∷ 5 ∷ 1 ∷ 0 ∷ 1 ∷ 1 ∷ 255 ∷ 3 ∷ 1 ∷ 1 ∷ 2 ∷ 1 ∷ 0 ∷ 3 ∷ 1 ∷ 3 ∷ 0 ∷ 1 ∷ 0 ∷ 0 ∷ 1 ∷ 0 ∷ 6 ∷ 8 ∷ 1 ∷ 0 ∷ 0 ∷ 3 ∷ 0 ∷ 0 ∷ 0 ∷ 13 ∷ 1 ∷ 91 ∷ 93 ∷ 8 ∷ 0 ∷ 0 ∷ 0 ∷ 9 ∷ 1 ∷ 0 ∷ 0 ∷ 0 ∷ 33 ∷ 0 ∷ 0 ∷ []) (32 ∷ 44 ∷ 100 ∷ 111 ∷ []) 0 1000000 ≡ gives (answer 31 0 0 0 15 1 0) (written 12288 (1 ∷ 0 ∷ 0 ∷ 3 ∷ 4 ∷ 1 ∷ 2 ∷ 1 ∷ 2 ∷ 3 ∷ 0 ∷ 3 ∷ 8 ∷ 1 ∷ 0 ∷ 2 ∷ 1 ∷ 5 ∷ []) (replicate 12288 7)) (written 256 (1 ∷ 1 ∷ 0 ∷ 4 ∷ []) (replicate 256 7))
-  -- reading 19
-  v160 : call 12288 256 (2 ∷ 0 ∷ 3 ∷ 110 ∷ 111 ∷ 116 ∷ 0 ∷ 3 ∷ 108 ∷ 101 ∷ 116 ∷ 3 ∷ 2 ∷ 1 ∷ 121 ∷ 0 ∷ 2 ∷ 118 ∷ 49 ∷ 7 ∷ 1 ∷ 97 ∷ 3 ∷ 0 ∷ 2 ∷ 0 ∷ 2 ∷ 0 ∷ 4 ∷ 8 ∷ 1 ∷ 3 ∷ 1 ∷ 2 ∷ 255 ∷ 3 ∷ 1 ∷ 2 ∷ 255 ∷ 3 ∷ 1 ∷ 2 ∷ 255 ∷ 3 ∷ 1 ∷ 1 ∷ 2 ∷ 0 ∷ 1 ∷ 2 ∷ 255 ∷ 3 ∷ 1 ∷ 2 ∷ 255 ∷ 3 ∷ 1 ∷ 1 ∷ 2 ∷ 1 ∷ 1 ∷ 3 ∷ 15 ∷ 7 ∷ 0 ∷ 0 ∷ 0 ∷ 2 ∷ 0 ∷ 0 ∷ 0 ∷ 8 ∷ 0 ∷ 0 ∷ 0 ∷ 0 ∷ 43 ∷ 0 ∷ 0 ∷ 5 ∷ 0 ∷ 0 ∷ 0 ∷ 2 ∷ 0 ∷ 0 ∷ 0 ∷ 10 ∷ 2 ∷ 0 ∷ 0 ∷ 7 ∷ 0 ∷ 0 ∷ 0 ∷ 2 ∷ 0 ∷ 0 ∷ 0 ∷ 6 ∷ 0 ∷ 0 ∷ 0 ∷ 2 ∷ 0 ∷ 0 ∷ 0 ∷ 3 ∷ 0 ∷ 0 ∷ 0 ∷ 8 ∷ 2 ∷ 0 ∷ 0 ∷ 0 ∷ 43 ∷ 0 ∷ 0 ∷ 8 ∷ 2 ∷ 0 ∷ 0 ∷ []) (97 ∷ 43 ∷ 84 ∷ 43 ∷ 120 ∷ 120 ∷ 43 ∷ 43 ∷ 108 ∷ 101 ∷ 116 ∷ 43 ∷ 65 ∷ 95 ∷ 98 ∷ 43 ∷ 43 ∷ []) 0 1000000 ≡ gives (answer 31 0 0 0 16 2 0) (written 12288 (1 ∷ 0 ∷ 0 ∷ 4 ∷ 0 ∷ 1 ∷ 2 ∷ 1 ∷ 2 ∷ 3 ∷ 0 ∷ 3 ∷ 2 ∷ 1 ∷ 4 ∷ 3 ∷ 1 ∷ 5 ∷ 2 ∷ 1 ∷ 6 ∷ []) (replicate 12288 7)) (written 256 (1 ∷ 1 ∷ 3 ∷ 4 ∷ 2 ∷ 255 ∷ 3 ∷ 6 ∷ []) (replicate 256 7))
+  v151 : call 12288 256 (2 ∷ 0 ∷ 2 ∷ 105 ∷ 110 ∷ 1 ∷ 2 ∷ 87 ∷ 49 ∷ 3 ∷ 0 ∷ 1 ∷ 121 ∷ 7 ∷ 1 ∷ 84 ∷ 2 ∷ 2 ∷ 105 ∷ 110 ∷ 2 ∷ 0 ∷ 2 ∷ 0 ∷ 1 ∷ 3 ∷ 0 ∷ 2 ∷ 0 ∷ 3 ∷ 255 ∷ 3 ∷ 1 ∷ 1 ∷ 1 ∷ 3 ∷ 2 ∷ 1 ∷ 5 ∷ 8 ∷ 1 ∷ 0 ∷ 0 ∷ 0 ∷ 63 ∷ 0 ∷ 0 ∷ 8 ∷ 0 ∷ 0 ∷ 0 ∷ 3 ∷ 0 ∷ 0 ∷ 0 ∷ 8 ∷ 0 ∷ 0 ∷ 0 ∷ []) (55 ∷ []) 0 1000000 ≡ gives (answer 0 0 0 0 12 1 4) (1 ∷ 0 ∷ 0 ∷ 5 ∷ 0 ∷ 7 ∷ 2 ∷ 1 ∷ 2 ∷ 3 ∷ 1 ∷ 3 ∷ 2 ∷ 1 ∷ 4 ∷ zeros 12273 0) (1 ∷ 255 ∷ 3 ∷ 4 ∷ zeros 252 0)
+  -- reading 626
+  v152 : call 12288 256 (3 ∷ 0 ∷ 2 ∷ 102 ∷ 110 ∷ 0 ∷ 3 ∷ 108 ∷ 101 ∷ 116 ∷ 1 ∷ 3 ∷ 110 ∷ 111 ∷ 116 ∷ 3 ∷ 0 ∷ 1 ∷ 84 ∷ 7 ∷ 2 ∷ 105 ∷ 110 ∷ 2 ∷ 2 ∷ 118 ∷ 49 ∷ 3 ∷ 1 ∷ 4 ∷ 0 ∷ 1 ∷ 0 ∷ 1 ∷ 6 ∷ 1 ∷ 2 ∷ 1 ∷ 3 ∷ 2 ∷ 3 ∷ 2 ∷ 1 ∷ 2 ∷ 0 ∷ 1 ∷ 3 ∷ 255 ∷ 3 ∷ 0 ∷ 1 ∷ 1 ∷ 0 ∷ 3 ∷ 1 ∷ 1 ∷ 0 ∷ 3 ∷ 1 ∷ 10 ∷ 8 ∷ 0 ∷ 0 ∷ 0 ∷ 0 ∷ 42 ∷ 0 ∷ 0 ∷ 8 ∷ 0 ∷ 0 ∷ 0 ∷ 8 ∷ 2 ∷ 0 ∷ 0 ∷ 8 ∷ 0 ∷ 0 ∷ 0 ∷ 0 ∷ 63 ∷ 0 ∷ 0 ∷ 8 ∷ 0 ∷ 0 ∷ 0 ∷ 3 ∷ 0 ∷ 0 ∷ 0 ∷ 8 ∷ 1 ∷ 0 ∷ 0 ∷ 8 ∷ 1 ∷ 0 ∷ 0 ∷ []) (63 ∷ 48 ∷ 48 ∷ 55 ∷ 10 ∷ 52 ∷ 50 ∷ 32 ∷ 32 ∷ 63 ∷ 47 ∷ 47 ∷ 120 ∷ 10 ∷ 47 ∷ 47 ∷ 121 ∷ 10 ∷ 32 ∷ 50 ∷ 32 ∷ []) 0 64 ≡ gives (answer 30 0 11 0 12 0 0) (zeros 12288 0) (zeros 256 0)
+  -- reading 1355
+  v153 : call 12288 256 (0 ∷ 0 ∷ 2 ∷ 0 ∷ 2 ∷ 0 ∷ 3 ∷ 5 ∷ 255 ∷ 3 ∷ 1 ∷ 2 ∷ 2 ∷ 1 ∷ 1 ∷ 1 ∷ 255 ∷ 3 ∷ 0 ∷ 1 ∷ 0 ∷ 0 ∷ 1 ∷ 1 ∷ 3 ∷ 1 ∷ 1 ∷ 2 ∷ 7 ∷ 10 ∷ 1 ∷ 0 ∷ 0 ∷ 9 ∷ 1 ∷ 0 ∷ 0 ∷ 0 ∷ 61 ∷ 0 ∷ 0 ∷ 4 ∷ 0 ∷ 0 ∷ 0 ∷ 4 ∷ 0 ∷ 0 ∷ 0 ∷ 3 ∷ 0 ∷ 0 ∷ 0 ∷ 3 ∷ 0 ∷ 0 ∷ 0 ∷ []) (61 ∷ 61 ∷ 32 ∷ 47 ∷ 47 ∷ 32 ∷ 99 ∷ 10 ∷ 95 ∷ 65 ∷ 95 ∷ 98 ∷ 122 ∷ 57 ∷ 47 ∷ 47 ∷ 120 ∷ 10 ∷ 47 ∷ 47 ∷ 121 ∷ 10 ∷ 32 ∷ 61 ∷ 61 ∷ 32 ∷ 47 ∷ 47 ∷ 32 ∷ 99 ∷ 10 ∷ 61 ∷ []) 0 1000000 ≡ gives (answer 31 0 0 0 12 2 0) (1 ∷ 0 ∷ 0 ∷ 8 ∷ 1 ∷ 0 ∷ 2 ∷ 1 ∷ 2 ∷ 7 ∷ 0 ∷ 0 ∷ 2 ∷ 3 ∷ 4 ∷ 3 ∷ 0 ∷ 5 ∷ 3 ∷ 1 ∷ 1 ∷ zeros 12267 0) (0 ∷ 255 ∷ 3 ∷ 6 ∷ 1 ∷ 2 ∷ 1 ∷ 7 ∷ zeros 248 0)
+  -- reading 442
+  v154 : call 12288 256 (2 ∷ 0 ∷ 3 ∷ 110 ∷ 111 ∷ 116 ∷ 0 ∷ 2 ∷ 100 ∷ 111 ∷ 2 ∷ 0 ∷ 1 ∷ 120 ∷ 0 ∷ 1 ∷ 84 ∷ 2 ∷ 0 ∷ 1 ∷ 1 ∷ 1 ∷ 2 ∷ 1 ∷ 0 ∷ 0 ∷ 2 ∷ 255 ∷ 3 ∷ 1 ∷ 1 ∷ 3 ∷ 11 ∷ 1 ∷ 0 ∷ 0 ∷ 0 ∷ 44 ∷ 0 ∷ 0 ∷ 0 ∷ 35 ∷ 0 ∷ 0 ∷ []) (35 ∷ 44 ∷ 35 ∷ 44 ∷ []) 0 1000000 ≡ gives (answer 30 0 11 0 13 0 0) (zeros 12288 0) (zeros 256 0)
+  -- reading 658
+  v155 : call 12288 256 (2 ∷ 0 ∷ 2 ∷ 102 ∷ 110 ∷ 1 ∷ 2 ∷ 100 ∷ 111 ∷ 0 ∷ 1 ∷ 0 ∷ 3 ∷ 3 ∷ 255 ∷ 3 ∷ 1 ∷ 1 ∷ 1 ∷ 0 ∷ 1 ∷ 2 ∷ 1 ∷ 2 ∷ 1 ∷ 3 ∷ 6 ∷ 3 ∷ 0 ∷ 0 ∷ 0 ∷ 8 ∷ 0 ∷ 0 ∷ 0 ∷ 0 ∷ 61 ∷ 0 ∷ 0 ∷ 8 ∷ 0 ∷ 0 ∷ 0 ∷ 0 ∷ 63 ∷ 0 ∷ 0 ∷ 8 ∷ 0 ∷ 0 ∷ 0 ∷ []) (32 ∷ 32 ∷ 48 ∷ 48 ∷ 55 ∷ 32 ∷ 32 ∷ []) 0 1000000 ≡ gives (answer 0 0 0 0 13 1 4) (1 ∷ 0 ∷ 0 ∷ 5 ∷ 0 ∷ 7 ∷ 2 ∷ 1 ∷ 2 ∷ 3 ∷ 0 ∷ 3 ∷ 2 ∷ 1 ∷ 4 ∷ zeros 12273 0) (5 ∷ 255 ∷ 3 ∷ 4 ∷ zeros 252 0)
+  -- reading 1095
+  v156 : call 12288 256 (2 ∷ 0 ∷ 1 ∷ 120 ∷ 1 ∷ 2 ∷ 102 ∷ 110 ∷ 0 ∷ 3 ∷ 0 ∷ 4 ∷ 1 ∷ 3 ∷ 2 ∷ 0 ∷ 7 ∷ 255 ∷ 3 ∷ 1 ∷ 2 ∷ 255 ∷ 3 ∷ 1 ∷ 2 ∷ 2 ∷ 0 ∷ 0 ∷ 2 ∷ 255 ∷ 3 ∷ 1 ∷ 1 ∷ 255 ∷ 3 ∷ 1 ∷ 1 ∷ 3 ∷ 3 ∷ 1 ∷ 3 ∷ 0 ∷ 1 ∷ 0 ∷ 2 ∷ 13 ∷ 9 ∷ 2 ∷ 0 ∷ 0 ∷ 8 ∷ 2 ∷ 0 ∷ 0 ∷ 2 ∷ 0 ∷ 0 ∷ 0 ∷ 7 ∷ 0 ∷ 0 ∷ 0 ∷ 2 ∷ 0 ∷ 0 ∷ 0 ∷ 6 ∷ 0 ∷ 0 ∷ 0 ∷ 8 ∷ 2 ∷ 0 ∷ 0 ∷ 13 ∷ 2 ∷ 123 ∷ 125 ∷ 8 ∷ 1 ∷ 0 ∷ 0 ∷ 0 ∷ 35 ∷ 0 ∷ 0 ∷ 8 ∷ 0 ∷ 0 ∷ 0 ∷ 9 ∷ 2 ∷ 0 ∷ 0 ∷ 8 ∷ 2 ∷ 0 ∷ 0 ∷ []) (9 ∷ 122 ∷ 57 ∷ 47 ∷ 47 ∷ 32 ∷ 101 ∷ 110 ∷ 100 ∷ []) 0 90 ≡ gives (answer 32 0 0 0 13 4 0) (1 ∷ 0 ∷ 0 ∷ 7 ∷ 0 ∷ 0 ∷ 2 ∷ 1 ∷ 2 ∷ 4 ∷ 1 ∷ 2 ∷ 2 ∷ 3 ∷ 4 ∷ 3 ∷ 0 ∷ 5 ∷ 2 ∷ 1 ∷ 4 ∷ 3 ∷ 1 ∷ 7 ∷ 3 ∷ 2 ∷ 7 ∷ 3 ∷ 3 ∷ 7 ∷ zeros 12258 0) (3 ∷ 255 ∷ 3 ∷ 6 ∷ 3 ∷ 255 ∷ 3 ∷ 8 ∷ 3 ∷ 2 ∷ 0 ∷ 9 ∷ 3 ∷ 255 ∷ 3 ∷ 10 ∷ zeros 240 0)
+  -- reading 1471
+  v157 : call 12288 256 (2 ∷ 1 ∷ 1 ∷ 120 ∷ 0 ∷ 3 ∷ 110 ∷ 111 ∷ 116 ∷ 1 ∷ 1 ∷ 2 ∷ 105 ∷ 102 ∷ 2 ∷ 0 ∷ 2 ∷ 0 ∷ 2 ∷ 4 ∷ 1 ∷ 0 ∷ 0 ∷ 2 ∷ 1 ∷ 2 ∷ 1 ∷ 2 ∷ 0 ∷ 1 ∷ 1 ∷ 1 ∷ 1 ∷ 0 ∷ 1 ∷ 1 ∷ 6 ∷ 12 ∷ 0 ∷ 60 ∷ 62 ∷ 7 ∷ 0 ∷ 0 ∷ 0 ∷ 11 ∷ 0 ∷ 0 ∷ 0 ∷ 7 ∷ 0 ∷ 0 ∷ 0 ∷ 3 ∷ 0 ∷ 0 ∷ 0 ∷ 9 ∷ 0 ∷ 0 ∷ 0 ∷ []) (60 ∷ 60 ∷ 62 ∷ 44 ∷ 44 ∷ 62 ∷ 44 ∷ 44 ∷ 60 ∷ 62 ∷ []) 0 1000000 ≡ gives (answer 31 0 0 0 13 1 0) (1 ∷ 0 ∷ 0 ∷ 8 ∷ 1 ∷ 0 ∷ 2 ∷ 1 ∷ 2 ∷ 3 ∷ 1 ∷ 3 ∷ zeros 12276 0) (0 ∷ 1 ∷ 2 ∷ 4 ∷ zeros 252 0)
+  -- reading 869
+  v158 : call 12288 256 (2 ∷ 1 ∷ 1 ∷ 95 ∷ 0 ∷ 2 ∷ 105 ∷ 110 ∷ 4 ∷ 2 ∷ 1 ∷ 121 ∷ 7 ∷ 1 ∷ 84 ∷ 0 ∷ 1 ∷ 95 ∷ 0 ∷ 1 ∷ 95 ∷ 2 ∷ 0 ∷ 3 ∷ 0 ∷ 1 ∷ 4 ∷ 3 ∷ 3 ∷ 1 ∷ 1 ∷ 255 ∷ 3 ∷ 1 ∷ 3 ∷ 2 ∷ 0 ∷ 1 ∷ 4 ∷ 1 ∷ 0 ∷ 1 ∷ 1 ∷ 9 ∷ 5 ∷ 7 ∷ 0 ∷ 0 ∷ 0 ∷ 123 ∷ 0 ∷ 0 ∷ 8 ∷ 0 ∷ 0 ∷ 0 ∷ 0 ∷ 125 ∷ 0 ∷ 0 ∷ 4 ∷ 0 ∷ 0 ∷ 0 ∷ 8 ∷ 0 ∷ 0 ∷ 0 ∷ 0 ∷ 47 ∷ 0 ∷ 0 ∷ 8 ∷ 0 ∷ 0 ∷ 0 ∷ 3 ∷ 0 ∷ 0 ∷ 0 ∷ []) (123 ∷ 32 ∷ 84 ∷ 32 ∷ 125 ∷ []) 0 1000000 ≡ gives (answer 0 0 0 0 14 1 6) (1 ∷ 0 ∷ 0 ∷ 6 ∷ 1 ∷ 7 ∷ 2 ∷ 1 ∷ 2 ∷ 3 ∷ 0 ∷ 3 ∷ 2 ∷ 1 ∷ 4 ∷ 3 ∷ 1 ∷ 5 ∷ zeros 12270 0) (5 ∷ 255 ∷ 3 ∷ 6 ∷ zeros 252 0)
+  -- reading 1487
+  v159 : call 12288 256 (3 ∷ 0 ∷ 2 ∷ 87 ∷ 49 ∷ 0 ∷ 1 ∷ 97 ∷ 0 ∷ 1 ∷ 95 ∷ 0 ∷ 2 ∷ 1 ∷ 4 ∷ 0 ∷ 2 ∷ 6 ∷ 1 ∷ 1 ∷ 1 ∷ 1 ∷ 1 ∷ 3 ∷ 1 ∷ 1 ∷ 0 ∷ 0 ∷ 1 ∷ 2 ∷ 2 ∷ 1 ∷ 1 ∷ 4 ∷ 2 ∷ 3 ∷ 1 ∷ 1 ∷ 2 ∷ 2 ∷ 0 ∷ 1 ∷ 10 ∷ 3 ∷ 0 ∷ 0 ∷ 0 ∷ 8 ∷ 1 ∷ 0 ∷ 0 ∷ 13 ∷ 1 ∷ 123 ∷ 125 ∷ 8 ∷ 0 ∷ 0 ∷ 0 ∷ 13 ∷ 1 ∷ 123 ∷ 125 ∷ 6 ∷ 0 ∷ 0 ∷ 0 ∷ 8 ∷ 0 ∷ 0 ∷ 0 ∷ 0 ∷ 33 ∷ 0 ∷ 0 ∷ 0 ∷ 33 ∷ 0 ∷ 0 ∷ 8 ∷ 0 ∷ 0 ∷ 0 ∷ []) (32 ∷ 47 ∷ 47 ∷ 32 ∷ 99 ∷ 10 ∷ 87 ∷ 49 ∷ 125 ∷ 97 ∷ 125 ∷ 47 ∷ 47 ∷ []) 0 1769 ≡ gives (answer 30 6 11 0 14 0 0) (zeros 12288 0) (zeros 256 0)
+  -- reading 925
+  v160 : call 12288 256 (1 ∷ 0 ∷ 2 ∷ 102 ∷ 110 ∷ 2 ∷ 7 ∷ 2 ∷ 118 ∷ 49 ∷ 7 ∷ 1 ∷ 121 ∷ 2 ∷ 0 ∷ 2 ∷ 0 ∷ 2 ∷ 4 ∷ 2 ∷ 2 ∷ 1 ∷ 2 ∷ 2 ∷ 0 ∷ 0 ∷ 1 ∷ 2 ∷ 2 ∷ 1 ∷ 1 ∷ 0 ∷ 1 ∷ 1 ∷ 1 ∷ 5 ∷ 13 ∷ 1 ∷ 123 ∷ 125 ∷ 8 ∷ 1 ∷ 0 ∷ 0 ∷ 3 ∷ 0 ∷ 0 ∷ 0 ∷ 0 ∷ 124 ∷ 0 ∷ 0 ∷ 9 ∷ 0 ∷ 0 ∷ 0 ∷ []) (48 ∷ 48 ∷ 55 ∷ 32 ∷ 48 ∷ 48 ∷ 55 ∷ 32 ∷ 47 ∷ []) 0 1000000 ≡ gives (answer 31 0 0 0 15 2 0) (1 ∷ 0 ∷ 0 ∷ 8 ∷ 1 ∷ 0 ∷ 2 ∷ 1 ∷ 2 ∷ 7 ∷ 0 ∷ 0 ∷ 2 ∷ 1 ∷ 4 ∷ 3 ∷ 3 ∷ 5 ∷ 2 ∷ 3 ∷ 6 ∷ 3 ∷ 0 ∷ 7 ∷ 5 ∷ 0 ∷ 7 ∷ 2 ∷ 1 ∷ 9 ∷ 3 ∷ 1 ∷ 10 ∷ zeros 12255 0) (0 ∷ 2 ∷ 2 ∷ 8 ∷ 3 ∷ 2 ∷ 0 ∷ 11 ∷ zeros 248 0)
 
 vectors141 : Vectors141
-unfolding classOf leading spanEnd commentAt commentEnd roundEnd rounds skipFrom identifierAt decimal numberOf numberAt same isReserved lookupFrom checked row spelling entry nonterminal variant stepOf step allPass ended whole checkBook outwards govern governor isSome isKind ofKind characterEnd identifierEnd reservedAt freeEnd variableAt tokenAt claimed afterElement closed numbersOf cellsIn identityOf findCell treeIn treesIn meaningOf meanings join beyond joinWith choiceError identifierError tokenError _>>=_ sameParse has allIn kept add addAll ask newest others spend make itemCell withCell withToken nested begin counted variants oneRun roundsRun failedCall runCall runIdentifier stored enter child either follow followed plainNext listNext chosen stops choice listing steps runner run cellNumbers parseNumbers written wholeValues allAre firstHigh byValues ending onBook answerOf
+unfolding classOf leading spanEnd commentAt commentEnd roundEnd rounds skipFrom identifierAt decimal numberOf numberAt same isReserved lookupFrom checked row spelling entry nonterminal variant stepOf step allPass ended whole checkBook outwards govern governor isSome isKind ofKind characterEnd identifierEnd reservedAt freeEnd variableAt tokenAt claimant afterElement closed numbersOf cellsIn identityOf findCell treeIn treesIn meaningOf meanings join beyond joinWith choiceError identifierError tokenError _>>=_ sameParse has allIn kept add addAll ask newest others spend make itemCell failedCall either chosen begin withCell withToken complete counted variants oneRun roundsRun runCall runIdentifier plainNext listNext stops nested reentry enter enterChild follow followed choice listing steps runner run cellNumbers parseNumbers written wholeValues allAre firstHigh byValues atEnd onBook answerOf
 vectors141 = record { v141 = refl; v142 = refl; v143 = refl; v144 = refl; v145 = refl; v146 = refl; v147 = refl; v148 = refl; v149 = refl; v150 = refl; v151 = refl; v152 = refl; v153 = refl; v154 = refl; v155 = refl; v156 = refl; v157 = refl; v158 = refl; v159 = refl; v160 = refl }
 
 record Vectors161 : Type 0 where
-  -- reading 617
-  v161 : call 12288 256 (3 ∷ 1 ∷ 2 ∷ 102 ∷ 110 ∷ 0 ∷ 3 ∷ 110 ∷ 111 ∷ 116 ∷ 1 ∷ 2 ∷ 105 ∷ 110 ∷ 2 ∷ 0 ∷ 1 ∷ 120 ∷ 7 ∷ 2 ∷ 118 ∷ 49 ∷ 2 ∷ 0 ∷ 3 ∷ 0 ∷ 1 ∷ 4 ∷ 2 ∷ 2 ∷ 0 ∷ 3 ∷ 255 ∷ 3 ∷ 0 ∷ 1 ∷ 2 ∷ 0 ∷ 1 ∷ 3 ∷ 0 ∷ 1 ∷ 3 ∷ 1 ∷ 8 ∷ 8 ∷ 0 ∷ 0 ∷ 0 ∷ 0 ∷ 64 ∷ 0 ∷ 0 ∷ 8 ∷ 1 ∷ 0 ∷ 0 ∷ 3 ∷ 0 ∷ 0 ∷ 0 ∷ 8 ∷ 0 ∷ 0 ∷ 0 ∷ 0 ∷ 38 ∷ 0 ∷ 0 ∷ 8 ∷ 0 ∷ 0 ∷ 0 ∷ 8 ∷ 1 ∷ 0 ∷ 0 ∷ []) (32 ∷ 32 ∷ 48 ∷ 48 ∷ 55 ∷ 38 ∷ []) 0 1000000 ≡ gives (answer 31 0 0 0 16 1 0) (written 12288 (1 ∷ 0 ∷ 0 ∷ 5 ∷ 0 ∷ 7 ∷ 2 ∷ 1 ∷ 2 ∷ 3 ∷ 1 ∷ 3 ∷ 2 ∷ 1 ∷ 4 ∷ []) (replicate 12288 7)) (written 256 (5 ∷ 255 ∷ 3 ∷ 4 ∷ []) (replicate 256 7))
-  -- deep 168
-  v162 : call 12288 256 (0 ∷ 0 ∷ 1 ∷ 0 ∷ 2 ∷ 2 ∷ 255 ∷ 3 ∷ 1 ∷ 1 ∷ 1 ∷ 0 ∷ 1 ∷ 3 ∷ 4 ∷ 3 ∷ 0 ∷ 0 ∷ 0 ∷ 8 ∷ 0 ∷ 0 ∷ 0 ∷ 0 ∷ 45 ∷ 0 ∷ 0 ∷ 8 ∷ 0 ∷ 0 ∷ 0 ∷ []) (49 ∷ 45 ∷ 49 ∷ 45 ∷ 49 ∷ 45 ∷ 49 ∷ 45 ∷ 49 ∷ 45 ∷ 49 ∷ 45 ∷ 49 ∷ 45 ∷ 49 ∷ 45 ∷ 49 ∷ 45 ∷ 49 ∷ 45 ∷ 49 ∷ 45 ∷ 49 ∷ 45 ∷ 49 ∷ 45 ∷ 49 ∷ 45 ∷ 49 ∷ 45 ∷ 49 ∷ 45 ∷ 49 ∷ 45 ∷ 49 ∷ 45 ∷ 49 ∷ 45 ∷ 49 ∷ 45 ∷ 49 ∷ 45 ∷ 49 ∷ 45 ∷ 49 ∷ 45 ∷ 49 ∷ 45 ∷ 49 ∷ 45 ∷ 49 ∷ 45 ∷ 49 ∷ 45 ∷ 49 ∷ 45 ∷ 49 ∷ 45 ∷ 49 ∷ 45 ∷ 49 ∷ 45 ∷ 49 ∷ 45 ∷ 49 ∷ 45 ∷ 49 ∷ 45 ∷ 49 ∷ 45 ∷ 49 ∷ 45 ∷ 49 ∷ 45 ∷ 49 ∷ 45 ∷ 49 ∷ 45 ∷ 49 ∷ 45 ∷ 49 ∷ 45 ∷ 49 ∷ 45 ∷ 49 ∷ 45 ∷ 49 ∷ 45 ∷ 49 ∷ 45 ∷ 49 ∷ 45 ∷ 49 ∷ 45 ∷ 49 ∷ 45 ∷ 49 ∷ 45 ∷ 49 ∷ 45 ∷ 49 ∷ 45 ∷ 49 ∷ 45 ∷ 49 ∷ 45 ∷ 49 ∷ 45 ∷ 49 ∷ 45 ∷ 49 ∷ 45 ∷ 49 ∷ 45 ∷ 49 ∷ 45 ∷ 49 ∷ 45 ∷ 49 ∷ 45 ∷ 49 ∷ 45 ∷ 49 ∷ 45 ∷ 49 ∷ 45 ∷ 49 ∷ []) 0 16 ≡ gives (answer 20 0 0 0 16 0 0) (written 12288 [] (replicate 12288 7)) (written 256 [] (replicate 256 7))
-  -- reading 1083
-  v163 : call 12288 256 (2 ∷ 1 ∷ 2 ∷ 100 ∷ 111 ∷ 0 ∷ 1 ∷ 97 ∷ 0 ∷ 3 ∷ 1 ∷ 4 ∷ 0 ∷ 3 ∷ 0 ∷ 2 ∷ 9 ∷ 2 ∷ 3 ∷ 1 ∷ 2 ∷ 1 ∷ 2 ∷ 0 ∷ 3 ∷ 1 ∷ 2 ∷ 1 ∷ 3 ∷ 255 ∷ 3 ∷ 0 ∷ 1 ∷ 0 ∷ 1 ∷ 2 ∷ 1 ∷ 255 ∷ 3 ∷ 0 ∷ 3 ∷ 2 ∷ 3 ∷ 0 ∷ 2 ∷ 1 ∷ 1 ∷ 1 ∷ 3 ∷ 2 ∷ 1 ∷ 3 ∷ 1 ∷ 19 ∷ 8 ∷ 0 ∷ 0 ∷ 0 ∷ 8 ∷ 2 ∷ 0 ∷ 0 ∷ 9 ∷ 0 ∷ 0 ∷ 0 ∷ 0 ∷ 126 ∷ 0 ∷ 0 ∷ 8 ∷ 1 ∷ 0 ∷ 0 ∷ 8 ∷ 1 ∷ 0 ∷ 0 ∷ 0 ∷ 63 ∷ 0 ∷ 0 ∷ 8 ∷ 2 ∷ 0 ∷ 0 ∷ 4 ∷ 0 ∷ 0 ∷ 0 ∷ 8 ∷ 0 ∷ 0 ∷ 0 ∷ 0 ∷ 123 ∷ 0 ∷ 0 ∷ 8 ∷ 0 ∷ 0 ∷ 0 ∷ 0 ∷ 125 ∷ 0 ∷ 0 ∷ 8 ∷ 2 ∷ 0 ∷ 0 ∷ 0 ∷ 63 ∷ 0 ∷ 0 ∷ 0 ∷ 123 ∷ 0 ∷ 0 ∷ 8 ∷ 0 ∷ 0 ∷ 0 ∷ 0 ∷ 125 ∷ 0 ∷ 0 ∷ 8 ∷ 2 ∷ 0 ∷ 0 ∷ []) [] 0 1000000 ≡ gives (answer 30 0 11 0 17 0 0) (written 12288 [] (replicate 12288 7)) (written 256 [] (replicate 256 7))
-  -- reading 243
-  v164 : call 12288 256 (1 ∷ 1 ∷ 2 ∷ 105 ∷ 102 ∷ 1 ∷ 0 ∷ 1 ∷ 120 ∷ 3 ∷ 0 ∷ 4 ∷ 0 ∷ 2 ∷ 0 ∷ 2 ∷ 8 ∷ 1 ∷ 3 ∷ 1 ∷ 3 ∷ 2 ∷ 1 ∷ 1 ∷ 3 ∷ 2 ∷ 2 ∷ 1 ∷ 3 ∷ 0 ∷ 1 ∷ 1 ∷ 1 ∷ 0 ∷ 0 ∷ 1 ∷ 2 ∷ 2 ∷ 0 ∷ 3 ∷ 1 ∷ 0 ∷ 0 ∷ 3 ∷ 1 ∷ 255 ∷ 3 ∷ 1 ∷ 3 ∷ 17 ∷ 9 ∷ 0 ∷ 0 ∷ 0 ∷ 0 ∷ 44 ∷ 0 ∷ 0 ∷ 8 ∷ 0 ∷ 0 ∷ 0 ∷ 8 ∷ 0 ∷ 0 ∷ 0 ∷ 0 ∷ 61 ∷ 0 ∷ 0 ∷ 8 ∷ 0 ∷ 0 ∷ 0 ∷ 8 ∷ 0 ∷ 0 ∷ 0 ∷ 0 ∷ 61 ∷ 0 ∷ 0 ∷ 8 ∷ 0 ∷ 0 ∷ 0 ∷ 3 ∷ 0 ∷ 0 ∷ 0 ∷ 8 ∷ 0 ∷ 0 ∷ 0 ∷ 0 ∷ 61 ∷ 0 ∷ 0 ∷ 8 ∷ 0 ∷ 0 ∷ 0 ∷ 8 ∷ 2 ∷ 0 ∷ 0 ∷ 0 ∷ 40 ∷ 0 ∷ 0 ∷ 8 ∷ 0 ∷ 0 ∷ 0 ∷ 0 ∷ 41 ∷ 0 ∷ 0 ∷ []) (48 ∷ 61 ∷ 52 ∷ 50 ∷ []) 0 1000000 ≡ gives (answer 31 0 0 0 18 1 0) (written 12288 (1 ∷ 0 ∷ 0 ∷ 7 ∷ 0 ∷ 0 ∷ 2 ∷ 1 ∷ 2 ∷ 5 ∷ 0 ∷ 0 ∷ 2 ∷ 1 ∷ 4 ∷ 3 ∷ 3 ∷ 5 ∷ 2 ∷ 1 ∷ 6 ∷ []) (replicate 12288 7)) (written 256 (1 ∷ 0 ∷ 1 ∷ 6 ∷ []) (replicate 256 7))
+  -- deep 173
+  v161 : call 12288 256 (0 ∷ 0 ∷ 1 ∷ 0 ∷ 2 ∷ 2 ∷ 255 ∷ 3 ∷ 1 ∷ 1 ∷ 255 ∷ 3 ∷ 1 ∷ 1 ∷ 2 ∷ 12 ∷ 0 ∷ 91 ∷ 93 ∷ 3 ∷ 0 ∷ 0 ∷ 0 ∷ []) (91 ∷ 91 ∷ 49 ∷ 44 ∷ 50 ∷ 93 ∷ []) 0 1000000 ≡ gives (answer 30 6 1 93 15 0 0) (zeros 12288 0) (zeros 256 0)
+  -- reading 426
+  v162 : call 12288 256 (3 ∷ 1 ∷ 3 ∷ 108 ∷ 101 ∷ 116 ∷ 0 ∷ 1 ∷ 95 ∷ 0 ∷ 3 ∷ 110 ∷ 111 ∷ 116 ∷ 3 ∷ 7 ∷ 1 ∷ 120 ∷ 1 ∷ 1 ∷ 84 ∷ 7 ∷ 2 ∷ 118 ∷ 49 ∷ 2 ∷ 0 ∷ 2 ∷ 1 ∷ 3 ∷ 5 ∷ 3 ∷ 0 ∷ 0 ∷ 3 ∷ 255 ∷ 3 ∷ 1 ∷ 1 ∷ 1 ∷ 3 ∷ 1 ∷ 1 ∷ 255 ∷ 3 ∷ 1 ∷ 1 ∷ 255 ∷ 3 ∷ 0 ∷ 2 ∷ 8 ∷ 7 ∷ 0 ∷ 0 ∷ 0 ∷ 10 ∷ 1 ∷ 0 ∷ 0 ∷ 7 ∷ 0 ∷ 0 ∷ 0 ∷ 3 ∷ 0 ∷ 0 ∷ 0 ∷ 3 ∷ 0 ∷ 0 ∷ 0 ∷ 0 ∷ 124 ∷ 0 ∷ 0 ∷ 3 ∷ 0 ∷ 0 ∷ 0 ∷ 3 ∷ 0 ∷ 0 ∷ 0 ∷ []) (51 ∷ []) 0 1000000 ≡ gives (answer 32 0 0 0 16 3 0) (1 ∷ 0 ∷ 0 ∷ 8 ∷ 1 ∷ 0 ∷ 2 ∷ 1 ∷ 2 ∷ 3 ∷ 0 ∷ 3 ∷ 5 ∷ 0 ∷ 3 ∷ 2 ∷ 1 ∷ 5 ∷ 3 ∷ 2 ∷ 6 ∷ 2 ∷ 1 ∷ 7 ∷ 8 ∷ 8 ∷ 0 ∷ 2 ∷ 1 ∷ 9 ∷ 3 ∷ 0 ∷ 10 ∷ 3 ∷ 1 ∷ 6 ∷ zeros 12252 0) (0 ∷ 3 ∷ 0 ∷ 4 ∷ 1 ∷ 3 ∷ 0 ∷ 11 ∷ 1 ∷ 255 ∷ 3 ∷ 12 ∷ zeros 244 0)
+  -- deep 27
+  v163 : call 12288 256 (0 ∷ 0 ∷ 2 ∷ 0 ∷ 2 ∷ 0 ∷ 1 ∷ 3 ∷ 1 ∷ 3 ∷ 2 ∷ 1 ∷ 255 ∷ 3 ∷ 1 ∷ 1 ∷ 1 ∷ 3 ∷ 2 ∷ 1 ∷ 3 ∷ 8 ∷ 1 ∷ 0 ∷ 0 ∷ 3 ∷ 0 ∷ 0 ∷ 0 ∷ 8 ∷ 0 ∷ 0 ∷ 0 ∷ []) (49 ∷ 43 ∷ 43 ∷ 43 ∷ []) 0 1000000 ≡ gives (answer 31 0 0 0 16 2 0) (1 ∷ 0 ∷ 0 ∷ 5 ∷ 0 ∷ 1 ∷ 2 ∷ 1 ∷ 2 ∷ 3 ∷ 1 ∷ 3 ∷ zeros 12276 0) (1 ∷ 255 ∷ 3 ∷ 4 ∷ 1 ∷ 1 ∷ 3 ∷ 4 ∷ zeros 248 0)
+  -- reading 682
+  v164 : call 12288 256 (2 ∷ 0 ∷ 3 ∷ 108 ∷ 101 ∷ 116 ∷ 1 ∷ 1 ∷ 95 ∷ 0 ∷ 2 ∷ 0 ∷ 2 ∷ 0 ∷ 2 ∷ 4 ∷ 0 ∷ 3 ∷ 1 ∷ 1 ∷ 0 ∷ 2 ∷ 1 ∷ 4 ∷ 1 ∷ 0 ∷ 1 ∷ 1 ∷ 0 ∷ 1 ∷ 1 ∷ 1 ∷ 7 ∷ 3 ∷ 0 ∷ 0 ∷ 0 ∷ 11 ∷ 1 ∷ 0 ∷ 0 ∷ 8 ∷ 0 ∷ 0 ∷ 0 ∷ 0 ∷ 43 ∷ 0 ∷ 0 ∷ 9 ∷ 1 ∷ 0 ∷ 0 ∷ 0 ∷ 43 ∷ 0 ∷ 0 ∷ 8 ∷ 0 ∷ 0 ∷ 0 ∷ []) (51 ∷ 43 ∷ 49 ∷ 50 ∷ 43 ∷ 52 ∷ 50 ∷ 43 ∷ 48 ∷ 43 ∷ 48 ∷ 48 ∷ 55 ∷ 43 ∷ []) 0 1000000 ≡ gives (answer 31 0 0 0 17 1 0) (1 ∷ 0 ∷ 0 ∷ 5 ∷ 0 ∷ 3 ∷ 2 ∷ 1 ∷ 2 ∷ 3 ∷ 0 ∷ 3 ∷ 8 ∷ 1 ∷ 0 ∷ 2 ∷ 1 ∷ 5 ∷ zeros 12270 0) (1 ∷ 0 ∷ 3 ∷ 4 ∷ zeros 252 0)
+  -- reading 241
+  v165 : call 12288 256 (1 ∷ 1 ∷ 2 ∷ 105 ∷ 102 ∷ 1 ∷ 0 ∷ 1 ∷ 120 ∷ 3 ∷ 0 ∷ 4 ∷ 0 ∷ 2 ∷ 0 ∷ 2 ∷ 8 ∷ 1 ∷ 3 ∷ 1 ∷ 3 ∷ 2 ∷ 1 ∷ 1 ∷ 3 ∷ 2 ∷ 2 ∷ 1 ∷ 3 ∷ 0 ∷ 1 ∷ 1 ∷ 1 ∷ 0 ∷ 0 ∷ 1 ∷ 2 ∷ 2 ∷ 0 ∷ 3 ∷ 1 ∷ 0 ∷ 0 ∷ 3 ∷ 1 ∷ 255 ∷ 3 ∷ 1 ∷ 3 ∷ 17 ∷ 9 ∷ 0 ∷ 0 ∷ 0 ∷ 0 ∷ 44 ∷ 0 ∷ 0 ∷ 8 ∷ 0 ∷ 0 ∷ 0 ∷ 8 ∷ 0 ∷ 0 ∷ 0 ∷ 0 ∷ 61 ∷ 0 ∷ 0 ∷ 8 ∷ 0 ∷ 0 ∷ 0 ∷ 8 ∷ 0 ∷ 0 ∷ 0 ∷ 0 ∷ 61 ∷ 0 ∷ 0 ∷ 8 ∷ 0 ∷ 0 ∷ 0 ∷ 3 ∷ 0 ∷ 0 ∷ 0 ∷ 8 ∷ 0 ∷ 0 ∷ 0 ∷ 0 ∷ 61 ∷ 0 ∷ 0 ∷ 8 ∷ 0 ∷ 0 ∷ 0 ∷ 8 ∷ 2 ∷ 0 ∷ 0 ∷ 0 ∷ 40 ∷ 0 ∷ 0 ∷ 8 ∷ 0 ∷ 0 ∷ 0 ∷ 0 ∷ 41 ∷ 0 ∷ 0 ∷ []) (47 ∷ 47 ∷ 120 ∷ 10 ∷ 47 ∷ 47 ∷ 121 ∷ 10 ∷ 32 ∷ 51 ∷ 40 ∷ 51 ∷ 44 ∷ 48 ∷ 48 ∷ 55 ∷ 40 ∷ []) 0 1000000 ≡ gives (answer 31 0 0 0 18 1 0) (1 ∷ 0 ∷ 0 ∷ 7 ∷ 0 ∷ 0 ∷ 2 ∷ 1 ∷ 2 ∷ 5 ∷ 0 ∷ 3 ∷ 2 ∷ 1 ∷ 4 ∷ 3 ∷ 3 ∷ 5 ∷ 2 ∷ 1 ∷ 6 ∷ zeros 12267 0) (10 ∷ 0 ∷ 1 ∷ 6 ∷ zeros 252 0)
   -- reading 761
-  v165 : call 12288 256 (1 ∷ 1 ∷ 3 ∷ 108 ∷ 101 ∷ 116 ∷ 1 ∷ 0 ∷ 2 ∷ 118 ∷ 49 ∷ 1 ∷ 0 ∷ 2 ∷ 2 ∷ 1 ∷ 3 ∷ 1 ∷ 2 ∷ 2 ∷ 0 ∷ 1 ∷ 1 ∷ 3 ∷ 8 ∷ 0 ∷ 0 ∷ 0 ∷ 0 ∷ 126 ∷ 0 ∷ 0 ∷ 3 ∷ 0 ∷ 0 ∷ 0 ∷ []) (49 ∷ 50 ∷ 126 ∷ 126 ∷ 48 ∷ 126 ∷ []) 0 57 ≡ gives (answer 31 0 0 0 19 3 0) (written 12288 (1 ∷ 0 ∷ 0 ∷ 5 ∷ 0 ∷ 12 ∷ 2 ∷ 1 ∷ 2 ∷ 3 ∷ 1 ∷ 3 ∷ 2 ∷ 1 ∷ 4 ∷ 3 ∷ 0 ∷ 5 ∷ 2 ∷ 1 ∷ 6 ∷ 3 ∷ 0 ∷ 7 ∷ 2 ∷ 1 ∷ 8 ∷ []) (replicate 12288 7)) (written 256 (2 ∷ 2 ∷ 0 ∷ 4 ∷ 3 ∷ 1 ∷ 3 ∷ 6 ∷ 4 ∷ 1 ∷ 3 ∷ 8 ∷ []) (replicate 256 7))
-  -- reading 216
-  v166 : call 12288 256 (2 ∷ 0 ∷ 1 ∷ 95 ∷ 0 ∷ 2 ∷ 87 ∷ 49 ∷ 0 ∷ 3 ∷ 1 ∷ 2 ∷ 1 ∷ 2 ∷ 2 ∷ 0 ∷ 4 ∷ 3 ∷ 1 ∷ 3 ∷ 1 ∷ 1 ∷ 2 ∷ 1 ∷ 2 ∷ 1 ∷ 0 ∷ 1 ∷ 3 ∷ 255 ∷ 3 ∷ 1 ∷ 1 ∷ 7 ∷ 8 ∷ 0 ∷ 0 ∷ 0 ∷ 7 ∷ 0 ∷ 0 ∷ 0 ∷ 8 ∷ 1 ∷ 0 ∷ 0 ∷ 0 ∷ 60 ∷ 0 ∷ 0 ∷ 8 ∷ 0 ∷ 0 ∷ 0 ∷ 0 ∷ 62 ∷ 0 ∷ 0 ∷ 8 ∷ 2 ∷ 0 ∷ 0 ∷ []) (60 ∷ 87 ∷ 49 ∷ 62 ∷ 47 ∷ 47 ∷ 32 ∷ 101 ∷ 110 ∷ 100 ∷ []) 1 1000000 ≡ gives (answer 0 0 0 0 21 1 8) (written 12288 (1 ∷ 0 ∷ 0 ∷ 4 ∷ 1 ∷ 2 ∷ 2 ∷ 1 ∷ 2 ∷ 3 ∷ 3 ∷ 3 ∷ 2 ∷ 1 ∷ 4 ∷ 3 ∷ 1 ∷ 5 ∷ 2 ∷ 1 ∷ 6 ∷ 3 ∷ 2 ∷ 7 ∷ []) (replicate 12288 7)) (written 256 (4 ∷ 1 ∷ 0 ∷ 8 ∷ []) (replicate 256 7))
-  -- reading 1080
-  v167 : call 12288 256 (3 ∷ 0 ∷ 2 ∷ 100 ∷ 111 ∷ 1 ∷ 2 ∷ 105 ∷ 102 ∷ 1 ∷ 2 ∷ 87 ∷ 49 ∷ 2 ∷ 0 ∷ 2 ∷ 118 ∷ 49 ∷ 0 ∷ 1 ∷ 120 ∷ 2 ∷ 1 ∷ 4 ∷ 1 ∷ 2 ∷ 6 ∷ 2 ∷ 1 ∷ 1 ∷ 1 ∷ 3 ∷ 0 ∷ 1 ∷ 3 ∷ 2 ∷ 1 ∷ 1 ∷ 2 ∷ 0 ∷ 1 ∷ 3 ∷ 1 ∷ 2 ∷ 1 ∷ 1 ∷ 2 ∷ 3 ∷ 0 ∷ 1 ∷ 2 ∷ 11 ∷ 4 ∷ 0 ∷ 0 ∷ 0 ∷ 8 ∷ 0 ∷ 0 ∷ 0 ∷ 0 ∷ 35 ∷ 0 ∷ 0 ∷ 8 ∷ 0 ∷ 0 ∷ 0 ∷ 8 ∷ 0 ∷ 0 ∷ 0 ∷ 12 ∷ 1 ∷ 91 ∷ 93 ∷ 8 ∷ 0 ∷ 0 ∷ 0 ∷ 7 ∷ 0 ∷ 0 ∷ 0 ∷ 2 ∷ 0 ∷ 0 ∷ 0 ∷ 8 ∷ 1 ∷ 0 ∷ 0 ∷ 11 ∷ 0 ∷ 0 ∷ 0 ∷ []) (118 ∷ 49 ∷ []) 0 1000000 ≡ gives (answer 0 0 0 0 22 2 4) (written 12288 (1 ∷ 0 ∷ 0 ∷ 6 ∷ 0 ∷ 0 ∷ 2 ∷ 1 ∷ 2 ∷ 3 ∷ 0 ∷ 3 ∷ []) (replicate 12288 7)) (written 256 (2 ∷ 2 ∷ 1 ∷ 4 ∷ 2 ∷ 0 ∷ 1 ∷ 4 ∷ []) (replicate 256 7))
-  -- reading 1296
-  v168 : call 12288 256 (2 ∷ 0 ∷ 1 ∷ 97 ∷ 1 ∷ 2 ∷ 105 ∷ 102 ∷ 1 ∷ 2 ∷ 1 ∷ 84 ∷ 3 ∷ 1 ∷ 4 ∷ 0 ∷ 2 ∷ 2 ∷ 0 ∷ 6 ∷ 3 ∷ 2 ∷ 1 ∷ 1 ∷ 255 ∷ 3 ∷ 3 ∷ 1 ∷ 2 ∷ 1 ∷ 0 ∷ 3 ∷ 2 ∷ 1 ∷ 1 ∷ 3 ∷ 2 ∷ 0 ∷ 1 ∷ 1 ∷ 2 ∷ 2 ∷ 1 ∷ 4 ∷ 13 ∷ 3 ∷ 0 ∷ 0 ∷ 0 ∷ 8 ∷ 2 ∷ 0 ∷ 0 ∷ 9 ∷ 2 ∷ 0 ∷ 0 ∷ 8 ∷ 0 ∷ 0 ∷ 0 ∷ 0 ∷ 42 ∷ 0 ∷ 0 ∷ 6 ∷ 0 ∷ 0 ∷ 0 ∷ 8 ∷ 0 ∷ 0 ∷ 0 ∷ 0 ∷ 124 ∷ 0 ∷ 0 ∷ 5 ∷ 2 ∷ 0 ∷ 0 ∷ 8 ∷ 1 ∷ 0 ∷ 0 ∷ 0 ∷ 42 ∷ 0 ∷ 0 ∷ 8 ∷ 1 ∷ 0 ∷ 0 ∷ 0 ∷ 35 ∷ 0 ∷ 0 ∷ []) (49 ∷ 50 ∷ 47 ∷ 47 ∷ 32 ∷ 101 ∷ 110 ∷ 100 ∷ []) 0 1000000 ≡ gives (answer 0 0 0 0 23 1 4) (written 12288 (1 ∷ 0 ∷ 0 ∷ 5 ∷ 0 ∷ 12 ∷ 2 ∷ 1 ∷ 2 ∷ 3 ∷ 0 ∷ 3 ∷ 7 ∷ 0 ∷ 0 ∷ 2 ∷ 1 ∷ 5 ∷ 2 ∷ 6 ∷ 4 ∷ 2 ∷ 1 ∷ 4 ∷ []) (replicate 12288 7)) (written 256 (2 ∷ 3 ∷ 2 ∷ 4 ∷ []) (replicate 256 7))
-  -- reading 429
-  v169 : call 12288 256 (1 ∷ 1 ∷ 2 ∷ 102 ∷ 110 ∷ 3 ∷ 0 ∷ 2 ∷ 105 ∷ 110 ∷ 1 ∷ 2 ∷ 105 ∷ 102 ∷ 0 ∷ 1 ∷ 121 ∷ 2 ∷ 1 ∷ 3 ∷ 1 ∷ 4 ∷ 7 ∷ 2 ∷ 1 ∷ 1 ∷ 2 ∷ 1 ∷ 1 ∷ 1 ∷ 2 ∷ 0 ∷ 2 ∷ 0 ∷ 2 ∷ 2 ∷ 1 ∷ 1 ∷ 2 ∷ 0 ∷ 0 ∷ 3 ∷ 1 ∷ 1 ∷ 1 ∷ 3 ∷ 1 ∷ 1 ∷ 3 ∷ 0 ∷ 2 ∷ 12 ∷ 7 ∷ 0 ∷ 0 ∷ 0 ∷ 2 ∷ 0 ∷ 0 ∷ 0 ∷ 8 ∷ 0 ∷ 0 ∷ 0 ∷ 8 ∷ 0 ∷ 0 ∷ 0 ∷ 6 ∷ 0 ∷ 0 ∷ 0 ∷ 2 ∷ 0 ∷ 0 ∷ 0 ∷ 7 ∷ 0 ∷ 0 ∷ 0 ∷ 2 ∷ 0 ∷ 0 ∷ 0 ∷ 8 ∷ 1 ∷ 0 ∷ 0 ∷ 8 ∷ 1 ∷ 0 ∷ 0 ∷ 7 ∷ 0 ∷ 0 ∷ 0 ∷ 2 ∷ 0 ∷ 0 ∷ 0 ∷ []) (105 ∷ 102 ∷ []) 1 1000000 ≡ gives (answer 32 0 0 0 25 5 0) (written 12288 (1 ∷ 0 ∷ 0 ∷ 4 ∷ 0 ∷ 2 ∷ 2 ∷ 1 ∷ 2 ∷ 3 ∷ 3 ∷ 3 ∷ 3 ∷ 6 ∷ 3 ∷ []) (replicate 12288 7)) (written 256 (2 ∷ 2 ∷ 1 ∷ 4 ∷ 2 ∷ 1 ∷ 3 ∷ 5 ∷ 2 ∷ 0 ∷ 0 ∷ 4 ∷ 2 ∷ 0 ∷ 0 ∷ 5 ∷ 2 ∷ 1 ∷ 1 ∷ 4 ∷ []) (replicate 256 7))
-  -- reading 1424
-  v170 : call 12288 256 (1 ∷ 1 ∷ 3 ∷ 108 ∷ 101 ∷ 116 ∷ 3 ∷ 2 ∷ 1 ∷ 97 ∷ 0 ∷ 2 ∷ 105 ∷ 102 ∷ 0 ∷ 1 ∷ 98 ∷ 2 ∷ 0 ∷ 3 ∷ 0 ∷ 2 ∷ 5 ∷ 1 ∷ 1 ∷ 1 ∷ 4 ∷ 1 ∷ 1 ∷ 1 ∷ 3 ∷ 1 ∷ 3 ∷ 0 ∷ 1 ∷ 1 ∷ 0 ∷ 1 ∷ 1 ∷ 1 ∷ 0 ∷ 1 ∷ 0 ∷ 9 ∷ 9 ∷ 1 ∷ 0 ∷ 0 ∷ 9 ∷ 1 ∷ 0 ∷ 0 ∷ 8 ∷ 0 ∷ 0 ∷ 0 ∷ 0 ∷ 58 ∷ 0 ∷ 0 ∷ 11 ∷ 1 ∷ 0 ∷ 0 ∷ 8 ∷ 0 ∷ 0 ∷ 0 ∷ 0 ∷ 94 ∷ 0 ∷ 0 ∷ 3 ∷ 0 ∷ 0 ∷ 0 ∷ 0 ∷ 33 ∷ 0 ∷ 0 ∷ []) (102 ∷ 111 ∷ 111 ∷ 32 ∷ 32 ∷ 58 ∷ 47 ∷ 47 ∷ 10 ∷ 33 ∷ 47 ∷ 47 ∷ 120 ∷ 10 ∷ 47 ∷ 47 ∷ 121 ∷ 10 ∷ 32 ∷ 47 ∷ 47 ∷ 99 ∷ 10 ∷ 32 ∷ 108 ∷ 101 ∷ 116 ∷ 32 ∷ 47 ∷ 47 ∷ 32 ∷ 99 ∷ 10 ∷ 49 ∷ 50 ∷ 32 ∷ 105 ∷ 102 ∷ 10 ∷ 105 ∷ 102 ∷ []) 0 1000000 ≡ gives (answer 30 0 11 0 26 0 0) (written 12288 [] (replicate 12288 7)) (written 256 [] (replicate 256 7))
-  -- reading 1153
-  v171 : call 12288 256 (3 ∷ 1 ∷ 2 ∷ 105 ∷ 110 ∷ 0 ∷ 2 ∷ 105 ∷ 102 ∷ 0 ∷ 3 ∷ 108 ∷ 101 ∷ 116 ∷ 4 ∷ 0 ∷ 1 ∷ 84 ∷ 0 ∷ 1 ∷ 97 ∷ 0 ∷ 2 ∷ 105 ∷ 110 ∷ 4 ∷ 1 ∷ 84 ∷ 2 ∷ 0 ∷ 3 ∷ 0 ∷ 2 ∷ 5 ∷ 0 ∷ 0 ∷ 1 ∷ 1 ∷ 0 ∷ 3 ∷ 1 ∷ 2 ∷ 255 ∷ 3 ∷ 1 ∷ 1 ∷ 2 ∷ 3 ∷ 1 ∷ 1 ∷ 3 ∷ 2 ∷ 1 ∷ 1 ∷ 6 ∷ 10 ∷ 1 ∷ 0 ∷ 0 ∷ 11 ∷ 0 ∷ 0 ∷ 0 ∷ 12 ∷ 1 ∷ 91 ∷ 93 ∷ 1 ∷ 2 ∷ 0 ∷ 0 ∷ 3 ∷ 0 ∷ 0 ∷ 0 ∷ 2 ∷ 0 ∷ 0 ∷ 0 ∷ []) (49 ∷ 93 ∷ 48 ∷ 91 ∷ 52 ∷ 50 ∷ 91 ∷ 49 ∷ 56 ∷ 52 ∷ 52 ∷ 54 ∷ 55 ∷ 52 ∷ 52 ∷ 48 ∷ 55 ∷ 51 ∷ 55 ∷ 48 ∷ 57 ∷ 53 ∷ 53 ∷ 49 ∷ 54 ∷ 49 ∷ 54 ∷ 91 ∷ 32 ∷ 32 ∷ []) 0 1000000 ≡ gives (answer 31 0 0 0 27 2 0) (written 12288 (1 ∷ 0 ∷ 0 ∷ 8 ∷ 1 ∷ 0 ∷ 2 ∷ 1 ∷ 2 ∷ 3 ∷ 0 ∷ 3 ∷ 5 ∷ 0 ∷ 1 ∷ 2 ∷ 1 ∷ 5 ∷ 3 ∷ 3 ∷ 6 ∷ 2 ∷ 1 ∷ 7 ∷ 8 ∷ 8 ∷ 0 ∷ 2 ∷ 1 ∷ 9 ∷ 3 ∷ 0 ∷ 10 ∷ 2 ∷ 1 ∷ 4 ∷ 8 ∷ 12 ∷ 0 ∷ 2 ∷ 1 ∷ 13 ∷ 2 ∷ 1 ∷ 11 ∷ 8 ∷ 15 ∷ 0 ∷ 2 ∷ 1 ∷ 16 ∷ []) (replicate 12288 7)) (written 256 (0 ∷ 0 ∷ 0 ∷ 4 ∷ 1 ∷ 0 ∷ 0 ∷ 11 ∷ []) (replicate 256 7))
-  -- reading 1159
-  v172 : call 12288 256 (1 ∷ 1 ∷ 3 ∷ 108 ∷ 101 ∷ 116 ∷ 2 ∷ 1 ∷ 1 ∷ 97 ∷ 0 ∷ 2 ∷ 105 ∷ 102 ∷ 3 ∷ 1 ∷ 4 ∷ 0 ∷ 3 ∷ 1 ∷ 1 ∷ 8 ∷ 2 ∷ 3 ∷ 0 ∷ 1 ∷ 3 ∷ 0 ∷ 1 ∷ 2 ∷ 255 ∷ 3 ∷ 1 ∷ 3 ∷ 253 ∷ 3 ∷ 0 ∷ 1 ∷ 3 ∷ 0 ∷ 1 ∷ 2 ∷ 1 ∷ 2 ∷ 1 ∷ 4 ∷ 3 ∷ 0 ∷ 0 ∷ 1 ∷ 1 ∷ 1 ∷ 1 ∷ 1 ∷ 15 ∷ 3 ∷ 0 ∷ 0 ∷ 0 ∷ 8 ∷ 1 ∷ 0 ∷ 0 ∷ 0 ∷ 62 ∷ 0 ∷ 0 ∷ 0 ∷ 64 ∷ 0 ∷ 0 ∷ 10 ∷ 0 ∷ 0 ∷ 0 ∷ 9 ∷ 0 ∷ 0 ∷ 0 ∷ 3 ∷ 0 ∷ 0 ∷ 0 ∷ 8 ∷ 1 ∷ 0 ∷ 0 ∷ 0 ∷ 124 ∷ 0 ∷ 0 ∷ 3 ∷ 0 ∷ 0 ∷ 0 ∷ 7 ∷ 0 ∷ 0 ∷ 0 ∷ 8 ∷ 1 ∷ 0 ∷ 0 ∷ 0 ∷ 64 ∷ 0 ∷ 0 ∷ 3 ∷ 0 ∷ 0 ∷ 0 ∷ 1 ∷ 0 ∷ 0 ∷ 0 ∷ []) (48 ∷ 48 ∷ 55 ∷ 13 ∷ 10 ∷ []) 0 1000000 ≡ gives (answer 32 0 0 0 28 2 0) (written 12288 (1 ∷ 0 ∷ 0 ∷ 5 ∷ 0 ∷ 7 ∷ 2 ∷ 1 ∷ 2 ∷ 3 ∷ 0 ∷ 3 ∷ 3 ∷ 6 ∷ 3 ∷ 2 ∷ 1 ∷ 5 ∷ 3 ∷ 3 ∷ 3 ∷ []) (replicate 12288 7)) (written 256 (3 ∷ 2 ∷ 3 ∷ 4 ∷ 3 ∷ 253 ∷ 3 ∷ 7 ∷ []) (replicate 256 7))
-  -- reading 971
-  v173 : call 12288 256 (2 ∷ 1 ∷ 2 ∷ 87 ∷ 49 ∷ 1 ∷ 1 ∷ 120 ∷ 3 ∷ 0 ∷ 1 ∷ 84 ∷ 0 ∷ 2 ∷ 118 ∷ 49 ∷ 7 ∷ 2 ∷ 118 ∷ 49 ∷ 1 ∷ 1 ∷ 2 ∷ 2 ∷ 255 ∷ 3 ∷ 1 ∷ 1 ∷ 0 ∷ 1 ∷ 0 ∷ 3 ∷ 4 ∷ 3 ∷ 0 ∷ 0 ∷ 0 ∷ 8 ∷ 0 ∷ 0 ∷ 0 ∷ 0 ∷ 38 ∷ 0 ∷ 0 ∷ 8 ∷ 0 ∷ 0 ∷ 0 ∷ []) (49 ∷ 38 ∷ 49 ∷ 50 ∷ []) 0 1000000 ≡ gives (answer 0 0 0 0 30 2 11) (written 12288 (1 ∷ 0 ∷ 0 ∷ 5 ∷ 0 ∷ 1 ∷ 2 ∷ 1 ∷ 2 ∷ 3 ∷ 0 ∷ 3 ∷ 2 ∷ 1 ∷ 4 ∷ 5 ∷ 0 ∷ 12 ∷ 2 ∷ 1 ∷ 6 ∷ 3 ∷ 0 ∷ 7 ∷ 2 ∷ 1 ∷ 8 ∷ 2 ∷ 5 ∷ 8 ∷ 3 ∷ 1 ∷ 10 ∷ []) (replicate 12288 7)) (written 256 (1 ∷ 255 ∷ 3 ∷ 4 ∷ 4 ∷ 0 ∷ 1 ∷ 11 ∷ []) (replicate 256 7))
-  -- deep 237
-  v174 : call 12288 256 (0 ∷ 0 ∷ 1 ∷ 0 ∷ 2 ∷ 2 ∷ 255 ∷ 3 ∷ 1 ∷ 1 ∷ 1 ∷ 3 ∷ 1 ∷ 3 ∷ 4 ∷ 3 ∷ 0 ∷ 0 ∷ 0 ∷ 8 ∷ 0 ∷ 0 ∷ 0 ∷ 0 ∷ 45 ∷ 0 ∷ 0 ∷ 8 ∷ 0 ∷ 0 ∷ 0 ∷ []) (49 ∷ 45 ∷ 49 ∷ []) 0 1000000 ≡ gives (answer 0 0 0 0 31 2 7) (written 12288 (1 ∷ 0 ∷ 0 ∷ 5 ∷ 0 ∷ 1 ∷ 2 ∷ 1 ∷ 2 ∷ 3 ∷ 0 ∷ 3 ∷ 2 ∷ 1 ∷ 4 ∷ 2 ∷ 5 ∷ 4 ∷ 3 ∷ 1 ∷ 6 ∷ 2 ∷ 1 ∷ 7 ∷ []) (replicate 12288 7)) (written 256 (1 ∷ 255 ∷ 3 ∷ 4 ∷ 3 ∷ 1 ∷ 3 ∷ 7 ∷ []) (replicate 256 7))
-  -- reading 365
-  v175 : call 12288 256 (1 ∷ 0 ∷ 1 ∷ 95 ∷ 1 ∷ 2 ∷ 1 ∷ 95 ∷ 1 ∷ 0 ∷ 4 ∷ 4 ∷ 1 ∷ 0 ∷ 1 ∷ 3 ∷ 0 ∷ 2 ∷ 1 ∷ 2 ∷ 1 ∷ 1 ∷ 0 ∷ 2 ∷ 255 ∷ 3 ∷ 1 ∷ 1 ∷ 8 ∷ 8 ∷ 0 ∷ 0 ∷ 0 ∷ 0 ∷ 47 ∷ 0 ∷ 0 ∷ 8 ∷ 0 ∷ 0 ∷ 0 ∷ 0 ∷ 47 ∷ 0 ∷ 0 ∷ 8 ∷ 0 ∷ 0 ∷ 0 ∷ 0 ∷ 126 ∷ 0 ∷ 0 ∷ 8 ∷ 0 ∷ 0 ∷ 0 ∷ 3 ∷ 0 ∷ 0 ∷ 0 ∷ []) (126 ∷ 49 ∷ 50 ∷ 9 ∷ []) 0 1000000 ≡ gives (answer 0 0 0 0 34 1 6) (written 12288 (1 ∷ 0 ∷ 0 ∷ 5 ∷ 0 ∷ 12 ∷ 2 ∷ 1 ∷ 2 ∷ 3 ∷ 3 ∷ 3 ∷ 2 ∷ 1 ∷ 4 ∷ 3 ∷ 2 ∷ 5 ∷ 2 ∷ 1 ∷ 6 ∷ []) (replicate 12288 7)) (written 256 (3 ∷ 1 ∷ 1 ∷ 6 ∷ []) (replicate 256 7))
-  -- reading 447
-  v176 : call 12288 256 (1 ∷ 0 ∷ 2 ∷ 100 ∷ 111 ∷ 0 ∷ 3 ∷ 1 ∷ 4 ∷ 0 ∷ 4 ∷ 0 ∷ 2 ∷ 10 ∷ 255 ∷ 3 ∷ 0 ∷ 1 ∷ 255 ∷ 3 ∷ 1 ∷ 3 ∷ 3 ∷ 1 ∷ 0 ∷ 1 ∷ 3 ∷ 3 ∷ 1 ∷ 1 ∷ 255 ∷ 3 ∷ 1 ∷ 2 ∷ 0 ∷ 0 ∷ 1 ∷ 1 ∷ 3 ∷ 0 ∷ 1 ∷ 2 ∷ 2 ∷ 2 ∷ 1 ∷ 3 ∷ 255 ∷ 3 ∷ 1 ∷ 1 ∷ 1 ∷ 1 ∷ 1 ∷ 3 ∷ 18 ∷ 3 ∷ 0 ∷ 0 ∷ 0 ∷ 9 ∷ 0 ∷ 0 ∷ 0 ∷ 8 ∷ 0 ∷ 0 ∷ 0 ∷ 0 ∷ 35 ∷ 0 ∷ 0 ∷ 2 ∷ 0 ∷ 0 ∷ 0 ∷ 2 ∷ 0 ∷ 0 ∷ 0 ∷ 9 ∷ 1 ∷ 0 ∷ 0 ∷ 8 ∷ 1 ∷ 0 ∷ 0 ∷ 3 ∷ 0 ∷ 0 ∷ 0 ∷ 8 ∷ 1 ∷ 0 ∷ 0 ∷ 10 ∷ 1 ∷ 0 ∷ 0 ∷ 9 ∷ 1 ∷ 0 ∷ 0 ∷ 0 ∷ 60 ∷ 0 ∷ 0 ∷ 8 ∷ 1 ∷ 0 ∷ 0 ∷ 4 ∷ 0 ∷ 0 ∷ 0 ∷ 9 ∷ 2 ∷ 0 ∷ 0 ∷ 8 ∷ 2 ∷ 0 ∷ 0 ∷ 0 ∷ 35 ∷ 0 ∷ 0 ∷ []) (100 ∷ 111 ∷ 95 ∷ []) 0 1000000 ≡ gives (answer 32 0 0 0 35 2 0) (written 12288 (1 ∷ 0 ∷ 0 ∷ 7 ∷ 0 ∷ 0 ∷ 2 ∷ 1 ∷ 2 ∷ 4 ∷ 0 ∷ 3 ∷ 2 ∷ 1 ∷ 4 ∷ 3 ∷ 2 ∷ 5 ∷ 3 ∷ 3 ∷ 5 ∷ 2 ∷ 3 ∷ 6 ∷ 2 ∷ 3 ∷ 7 ∷ 2 ∷ 1 ∷ 6 ∷ 2 ∷ 1 ∷ 7 ∷ []) (replicate 12288 7)) (written 256 (3 ∷ 3 ∷ 1 ∷ 6 ∷ 3 ∷ 3 ∷ 3 ∷ 7 ∷ []) (replicate 256 7))
-  -- deep 65
-  v177 : call 12288 256 (0 ∷ 0 ∷ 4 ∷ 0 ∷ 2 ∷ 0 ∷ 1 ∷ 0 ∷ 1 ∷ 0 ∷ 3 ∷ 7 ∷ 255 ∷ 3 ∷ 1 ∷ 1 ∷ 0 ∷ 0 ∷ 0 ∷ 1 ∷ 0 ∷ 0 ∷ 3 ∷ 1 ∷ 0 ∷ 1 ∷ 3 ∷ 1 ∷ 2 ∷ 1 ∷ 2 ∷ 1 ∷ 255 ∷ 3 ∷ 1 ∷ 1 ∷ 1 ∷ 0 ∷ 1 ∷ 2 ∷ 8 ∷ 3 ∷ 0 ∷ 0 ∷ 0 ∷ 8 ∷ 1 ∷ 0 ∷ 0 ∷ 8 ∷ 2 ∷ 0 ∷ 0 ∷ 8 ∷ 3 ∷ 0 ∷ 0 ∷ 8 ∷ 0 ∷ 0 ∷ 0 ∷ 3 ∷ 0 ∷ 0 ∷ 0 ∷ 8 ∷ 0 ∷ 0 ∷ 0 ∷ 0 ∷ 43 ∷ 0 ∷ 0 ∷ []) (49 ∷ 43 ∷ 43 ∷ 43 ∷ 43 ∷ 43 ∷ []) 2 1000000 ≡ gives (answer 31 0 0 0 37 3 0) (written 12288 (1 ∷ 0 ∷ 0 ∷ 5 ∷ 0 ∷ 1 ∷ 2 ∷ 1 ∷ 2 ∷ 3 ∷ 0 ∷ 3 ∷ 3 ∷ 5 ∷ 3 ∷ 2 ∷ 1 ∷ 4 ∷ 3 ∷ 6 ∷ 6 ∷ []) (replicate 12288 7)) (written 256 (1 ∷ 0 ∷ 1 ∷ 4 ∷ 1 ∷ 0 ∷ 1 ∷ 5 ∷ 2 ∷ 0 ∷ 1 ∷ 7 ∷ []) (replicate 256 7))
-  -- reading 907
-  v178 : call 12288 256 (2 ∷ 0 ∷ 1 ∷ 120 ∷ 0 ∷ 2 ∷ 102 ∷ 110 ∷ 4 ∷ 7 ∷ 2 ∷ 118 ∷ 49 ∷ 1 ∷ 1 ∷ 97 ∷ 0 ∷ 1 ∷ 95 ∷ 6 ∷ 1 ∷ 97 ∷ 2 ∷ 0 ∷ 3 ∷ 0 ∷ 1 ∷ 4 ∷ 1 ∷ 1 ∷ 1 ∷ 3 ∷ 255 ∷ 3 ∷ 1 ∷ 1 ∷ 2 ∷ 0 ∷ 1 ∷ 3 ∷ 255 ∷ 3 ∷ 1 ∷ 1 ∷ 8 ∷ 10 ∷ 1 ∷ 0 ∷ 0 ∷ 7 ∷ 0 ∷ 0 ∷ 0 ∷ 8 ∷ 0 ∷ 0 ∷ 0 ∷ 3 ∷ 0 ∷ 0 ∷ 0 ∷ 9 ∷ 1 ∷ 0 ∷ 0 ∷ 9 ∷ 0 ∷ 0 ∷ 0 ∷ 8 ∷ 0 ∷ 0 ∷ 0 ∷ 0 ∷ 60 ∷ 0 ∷ 0 ∷ []) (60 ∷ 32 ∷ 47 ∷ []) 0 1000000 ≡ gives (answer 30 2 12 0 41 0 0) (written 12288 [] (replicate 12288 7)) (written 256 [] (replicate 256 7))
-  -- reading 1149
-  v179 : call 12288 256 (3 ∷ 0 ∷ 3 ∷ 108 ∷ 101 ∷ 116 ∷ 0 ∷ 1 ∷ 95 ∷ 0 ∷ 2 ∷ 105 ∷ 110 ∷ 1 ∷ 0 ∷ 1 ∷ 121 ∷ 3 ∷ 0 ∷ 3 ∷ 2 ∷ 0 ∷ 0 ∷ 3 ∷ 6 ∷ 255 ∷ 3 ∷ 3 ∷ 1 ∷ 1 ∷ 3 ∷ 0 ∷ 2 ∷ 255 ∷ 3 ∷ 0 ∷ 4 ∷ 1 ∷ 0 ∷ 1 ∷ 1 ∷ 1 ∷ 3 ∷ 0 ∷ 2 ∷ 3 ∷ 1 ∷ 0 ∷ 3 ∷ 13 ∷ 8 ∷ 0 ∷ 0 ∷ 0 ∷ 7 ∷ 0 ∷ 0 ∷ 0 ∷ 2 ∷ 0 ∷ 0 ∷ 0 ∷ 8 ∷ 0 ∷ 0 ∷ 0 ∷ 0 ∷ 61 ∷ 0 ∷ 0 ∷ 8 ∷ 0 ∷ 0 ∷ 0 ∷ 0 ∷ 44 ∷ 0 ∷ 0 ∷ 2 ∷ 0 ∷ 0 ∷ 0 ∷ 6 ∷ 0 ∷ 0 ∷ 0 ∷ 2 ∷ 0 ∷ 0 ∷ 0 ∷ 0 ∷ 61 ∷ 0 ∷ 0 ∷ 10 ∷ 1 ∷ 0 ∷ 0 ∷ 9 ∷ 1 ∷ 0 ∷ 0 ∷ []) (122 ∷ 57 ∷ 61 ∷ 44 ∷ []) 0 1000000 ≡ gives (answer 31 0 0 0 46 2 0) (written 12288 (1 ∷ 0 ∷ 0 ∷ 4 ∷ 0 ∷ 2 ∷ 2 ∷ 1 ∷ 2 ∷ 3 ∷ 1 ∷ 3 ∷ 2 ∷ 1 ∷ 4 ∷ []) (replicate 12288 7)) (written 256 (2 ∷ 1 ∷ 3 ∷ 4 ∷ 2 ∷ 255 ∷ 3 ∷ 4 ∷ []) (replicate 256 7))
-  -- reading 1423
-  v180 : call 12288 256 (1 ∷ 1 ∷ 3 ∷ 108 ∷ 101 ∷ 116 ∷ 3 ∷ 2 ∷ 1 ∷ 97 ∷ 0 ∷ 2 ∷ 105 ∷ 102 ∷ 0 ∷ 1 ∷ 98 ∷ 2 ∷ 0 ∷ 3 ∷ 0 ∷ 2 ∷ 5 ∷ 1 ∷ 1 ∷ 1 ∷ 4 ∷ 1 ∷ 1 ∷ 1 ∷ 3 ∷ 1 ∷ 3 ∷ 0 ∷ 1 ∷ 1 ∷ 0 ∷ 1 ∷ 1 ∷ 1 ∷ 0 ∷ 1 ∷ 0 ∷ 9 ∷ 9 ∷ 1 ∷ 0 ∷ 0 ∷ 9 ∷ 1 ∷ 0 ∷ 0 ∷ 8 ∷ 0 ∷ 0 ∷ 0 ∷ 0 ∷ 58 ∷ 0 ∷ 0 ∷ 11 ∷ 1 ∷ 0 ∷ 0 ∷ 8 ∷ 0 ∷ 0 ∷ 0 ∷ 0 ∷ 94 ∷ 0 ∷ 0 ∷ 3 ∷ 0 ∷ 0 ∷ 0 ∷ 0 ∷ 33 ∷ 0 ∷ 0 ∷ []) (48 ∷ 48 ∷ 55 ∷ 58 ∷ 94 ∷ 13 ∷ 10 ∷ 57 ∷ 57 ∷ 57 ∷ 57 ∷ 57 ∷ 57 ∷ 57 ∷ 57 ∷ 57 ∷ 57 ∷ 57 ∷ 57 ∷ 57 ∷ 57 ∷ 57 ∷ 57 ∷ 57 ∷ 57 ∷ 57 ∷ 57 ∷ 57 ∷ 57 ∷ 57 ∷ 94 ∷ []) 0 1000000 ≡ gives (answer 31 0 0 0 51 1 0) (written 12288 (1 ∷ 0 ∷ 0 ∷ 7 ∷ 0 ∷ 0 ∷ 2 ∷ 1 ∷ 2 ∷ 2 ∷ 3 ∷ 2 ∷ 3 ∷ 4 ∷ 1 ∷ 2 ∷ 3 ∷ 5 ∷ 2 ∷ 1 ∷ 5 ∷ 2 ∷ 7 ∷ 2 ∷ 2 ∷ 7 ∷ 5 ∷ 8 ∷ 1 ∷ 0 ∷ 2 ∷ 1 ∷ 10 ∷ 8 ∷ 7 ∷ 0 ∷ 2 ∷ 1 ∷ 12 ∷ 5 ∷ 0 ∷ 7 ∷ 2 ∷ 1 ∷ 14 ∷ 3 ∷ 2 ∷ 15 ∷ []) (replicate 12288 7)) (written 256 (3 ∷ 1 ∷ 3 ∷ 16 ∷ []) (replicate 256 7))
+  v166 : call 12288 256 (1 ∷ 1 ∷ 3 ∷ 108 ∷ 101 ∷ 116 ∷ 1 ∷ 0 ∷ 2 ∷ 118 ∷ 49 ∷ 1 ∷ 0 ∷ 2 ∷ 2 ∷ 1 ∷ 3 ∷ 1 ∷ 2 ∷ 2 ∷ 0 ∷ 1 ∷ 1 ∷ 3 ∷ 8 ∷ 0 ∷ 0 ∷ 0 ∷ 0 ∷ 126 ∷ 0 ∷ 0 ∷ 3 ∷ 0 ∷ 0 ∷ 0 ∷ []) (49 ∷ 50 ∷ 126 ∷ 126 ∷ 48 ∷ 126 ∷ []) 0 57 ≡ gives (answer 31 0 0 0 19 3 0) (1 ∷ 0 ∷ 0 ∷ 5 ∷ 0 ∷ 12 ∷ 2 ∷ 1 ∷ 2 ∷ 3 ∷ 1 ∷ 3 ∷ 2 ∷ 1 ∷ 4 ∷ 3 ∷ 0 ∷ 5 ∷ 2 ∷ 1 ∷ 6 ∷ 3 ∷ 0 ∷ 7 ∷ 2 ∷ 1 ∷ 8 ∷ zeros 12261 0) (2 ∷ 2 ∷ 0 ∷ 4 ∷ 3 ∷ 1 ∷ 3 ∷ 6 ∷ 4 ∷ 1 ∷ 3 ∷ 8 ∷ zeros 244 0)
+  -- reading 481
+  v167 : call 12288 256 (1 ∷ 1 ∷ 2 ∷ 100 ∷ 111 ∷ 1 ∷ 1 ∷ 1 ∷ 121 ∷ 3 ∷ 0 ∷ 2 ∷ 1 ∷ 1 ∷ 2 ∷ 0 ∷ 3 ∷ 2 ∷ 2 ∷ 3 ∷ 1 ∷ 1 ∷ 2 ∷ 1 ∷ 2 ∷ 3 ∷ 3 ∷ 0 ∷ 1 ∷ 4 ∷ 8 ∷ 2 ∷ 0 ∷ 0 ∷ 8 ∷ 1 ∷ 0 ∷ 0 ∷ 0 ∷ 61 ∷ 0 ∷ 0 ∷ 8 ∷ 0 ∷ 0 ∷ 0 ∷ []) (121 ∷ 32 ∷ 61 ∷ []) 0 1000000 ≡ gives (answer 0 0 0 0 21 2 6) (4 ∷ 0 ∷ 1 ∷ 1 ∷ 0 ∷ 0 ∷ 2 ∷ 2 ∷ 1 ∷ 3 ∷ 2 ∷ 3 ∷ 2 ∷ 2 ∷ 4 ∷ 3 ∷ 1 ∷ 5 ∷ zeros 12270 0) (1 ∷ 2 ∷ 2 ∷ 1 ∷ 3 ∷ 1 ∷ 2 ∷ 6 ∷ zeros 248 0)
+  -- reading 1150
+  v168 : call 12288 256 (3 ∷ 0 ∷ 3 ∷ 108 ∷ 101 ∷ 116 ∷ 0 ∷ 1 ∷ 95 ∷ 0 ∷ 2 ∷ 105 ∷ 110 ∷ 1 ∷ 0 ∷ 1 ∷ 121 ∷ 3 ∷ 0 ∷ 3 ∷ 2 ∷ 0 ∷ 0 ∷ 3 ∷ 6 ∷ 255 ∷ 3 ∷ 3 ∷ 1 ∷ 1 ∷ 3 ∷ 0 ∷ 2 ∷ 255 ∷ 3 ∷ 0 ∷ 4 ∷ 1 ∷ 0 ∷ 1 ∷ 1 ∷ 1 ∷ 3 ∷ 0 ∷ 2 ∷ 3 ∷ 1 ∷ 0 ∷ 3 ∷ 13 ∷ 8 ∷ 0 ∷ 0 ∷ 0 ∷ 7 ∷ 0 ∷ 0 ∷ 0 ∷ 2 ∷ 0 ∷ 0 ∷ 0 ∷ 8 ∷ 0 ∷ 0 ∷ 0 ∷ 0 ∷ 61 ∷ 0 ∷ 0 ∷ 8 ∷ 0 ∷ 0 ∷ 0 ∷ 0 ∷ 44 ∷ 0 ∷ 0 ∷ 2 ∷ 0 ∷ 0 ∷ 0 ∷ 6 ∷ 0 ∷ 0 ∷ 0 ∷ 2 ∷ 0 ∷ 0 ∷ 0 ∷ 0 ∷ 61 ∷ 0 ∷ 0 ∷ 10 ∷ 1 ∷ 0 ∷ 0 ∷ 9 ∷ 1 ∷ 0 ∷ 0 ∷ []) (102 ∷ 111 ∷ 111 ∷ []) 0 1000000 ≡ gives (answer 0 0 0 0 22 2 4) (1 ∷ 0 ∷ 0 ∷ 4 ∷ 0 ∷ 3 ∷ 2 ∷ 1 ∷ 2 ∷ 3 ∷ 1 ∷ 3 ∷ 2 ∷ 1 ∷ 4 ∷ zeros 12273 0) (3 ∷ 1 ∷ 3 ∷ 4 ∷ 3 ∷ 255 ∷ 3 ∷ 4 ∷ zeros 248 0)
+  -- reading 129
+  v169 : call 12288 256 (2 ∷ 0 ∷ 2 ∷ 105 ∷ 110 ∷ 1 ∷ 2 ∷ 87 ∷ 49 ∷ 3 ∷ 0 ∷ 1 ∷ 121 ∷ 7 ∷ 1 ∷ 84 ∷ 2 ∷ 2 ∷ 105 ∷ 110 ∷ 2 ∷ 0 ∷ 2 ∷ 0 ∷ 1 ∷ 3 ∷ 0 ∷ 2 ∷ 0 ∷ 3 ∷ 255 ∷ 3 ∷ 1 ∷ 1 ∷ 1 ∷ 3 ∷ 2 ∷ 1 ∷ 5 ∷ 8 ∷ 1 ∷ 0 ∷ 0 ∷ 0 ∷ 63 ∷ 0 ∷ 0 ∷ 8 ∷ 0 ∷ 0 ∷ 0 ∷ 3 ∷ 0 ∷ 0 ∷ 0 ∷ 8 ∷ 0 ∷ 0 ∷ 0 ∷ []) (52 ∷ 50 ∷ 63 ∷ 48 ∷ []) 0 1000000 ≡ gives (answer 0 0 0 0 24 2 10) (1 ∷ 0 ∷ 0 ∷ 5 ∷ 0 ∷ 42 ∷ 2 ∷ 1 ∷ 2 ∷ 3 ∷ 1 ∷ 3 ∷ 2 ∷ 1 ∷ 4 ∷ 5 ∷ 0 ∷ 0 ∷ 2 ∷ 1 ∷ 6 ∷ 3 ∷ 1 ∷ 7 ∷ 2 ∷ 5 ∷ 8 ∷ 3 ∷ 0 ∷ 9 ∷ zeros 12258 0) (2 ∷ 255 ∷ 3 ∷ 4 ∷ 4 ∷ 0 ∷ 2 ∷ 10 ∷ zeros 248 0)
+  -- reading 1263
+  v170 : call 12288 256 (1 ∷ 0 ∷ 2 ∷ 102 ∷ 110 ∷ 1 ∷ 2 ∷ 2 ∷ 105 ∷ 110 ∷ 2 ∷ 0 ∷ 1 ∷ 0 ∷ 3 ∷ 4 ∷ 3 ∷ 3 ∷ 1 ∷ 2 ∷ 255 ∷ 3 ∷ 0 ∷ 1 ∷ 1 ∷ 0 ∷ 1 ∷ 1 ∷ 255 ∷ 3 ∷ 1 ∷ 2 ∷ 6 ∷ 10 ∷ 1 ∷ 0 ∷ 0 ∷ 7 ∷ 0 ∷ 0 ∷ 0 ∷ 2 ∷ 0 ∷ 0 ∷ 0 ∷ 0 ∷ 43 ∷ 0 ∷ 0 ∷ 8 ∷ 1 ∷ 0 ∷ 0 ∷ 8 ∷ 1 ∷ 0 ∷ 0 ∷ []) (43 ∷ 47 ∷ 47 ∷ []) 0 3511 ≡ gives (answer 0 0 0 0 25 2 9) (1 ∷ 0 ∷ 0 ∷ 8 ∷ 1 ∷ 0 ∷ 2 ∷ 1 ∷ 2 ∷ 3 ∷ 0 ∷ 3 ∷ 3 ∷ 2 ∷ 1 ∷ 2 ∷ 1 ∷ 5 ∷ 8 ∷ 6 ∷ 0 ∷ 2 ∷ 1 ∷ 7 ∷ 3 ∷ 0 ∷ 8 ∷ zeros 12261 0) (0 ∷ 3 ∷ 3 ∷ 4 ∷ 1 ∷ 3 ∷ 3 ∷ 9 ∷ zeros 248 0)
+  -- reading 1449
+  v171 : call 12288 256 (2 ∷ 0 ∷ 3 ∷ 108 ∷ 101 ∷ 116 ∷ 1 ∷ 2 ∷ 87 ∷ 49 ∷ 3 ∷ 7 ∷ 1 ∷ 84 ∷ 2 ∷ 1 ∷ 97 ∷ 0 ∷ 1 ∷ 121 ∷ 1 ∷ 1 ∷ 3 ∷ 3 ∷ 1 ∷ 0 ∷ 1 ∷ 3 ∷ 255 ∷ 3 ∷ 0 ∷ 1 ∷ 0 ∷ 1 ∷ 1 ∷ 2 ∷ 6 ∷ 8 ∷ 0 ∷ 0 ∷ 0 ∷ 0 ∷ 62 ∷ 0 ∷ 0 ∷ 8 ∷ 0 ∷ 0 ∷ 0 ∷ 3 ∷ 0 ∷ 0 ∷ 0 ∷ 8 ∷ 0 ∷ 0 ∷ 0 ∷ 0 ∷ 62 ∷ 0 ∷ 0 ∷ []) (49 ∷ 62 ∷ []) 0 1000000 ≡ gives (answer 0 0 0 0 26 2 6) (1 ∷ 0 ∷ 0 ∷ 5 ∷ 0 ∷ 1 ∷ 2 ∷ 1 ∷ 2 ∷ 3 ∷ 1 ∷ 3 ∷ 2 ∷ 1 ∷ 4 ∷ 3 ∷ 2 ∷ 5 ∷ zeros 12270 0) (1 ∷ 255 ∷ 3 ∷ 4 ∷ 2 ∷ 0 ∷ 1 ∷ 6 ∷ zeros 248 0)
+  -- reading 307
+  v172 : call 12288 256 (1 ∷ 1 ∷ 2 ∷ 102 ∷ 110 ∷ 2 ∷ 0 ∷ 2 ∷ 118 ∷ 49 ∷ 1 ∷ 1 ∷ 97 ∷ 1 ∷ 0 ∷ 4 ∷ 4 ∷ 2 ∷ 2 ∷ 3 ∷ 1 ∷ 1 ∷ 3 ∷ 1 ∷ 2 ∷ 3 ∷ 2 ∷ 0 ∷ 3 ∷ 2 ∷ 1 ∷ 1 ∷ 3 ∷ 9 ∷ 8 ∷ 0 ∷ 0 ∷ 0 ∷ 8 ∷ 0 ∷ 0 ∷ 0 ∷ 8 ∷ 0 ∷ 0 ∷ 0 ∷ 8 ∷ 0 ∷ 0 ∷ 0 ∷ 0 ∷ 126 ∷ 0 ∷ 0 ∷ 8 ∷ 0 ∷ 0 ∷ 0 ∷ 2 ∷ 0 ∷ 0 ∷ 0 ∷ 7 ∷ 0 ∷ 0 ∷ 0 ∷ 2 ∷ 0 ∷ 0 ∷ 0 ∷ []) (97 ∷ 32 ∷ 97 ∷ 9 ∷ 126 ∷ 47 ∷ 47 ∷ 120 ∷ 10 ∷ 47 ∷ 47 ∷ 121 ∷ 10 ∷ 32 ∷ 120 ∷ 32 ∷ 120 ∷ 11 ∷ []) 0 1000000 ≡ gives (answer 31 0 0 0 28 1 0) (1 ∷ 0 ∷ 0 ∷ 4 ∷ 0 ∷ 1 ∷ 2 ∷ 1 ∷ 2 ∷ 2 ∷ 3 ∷ 2 ∷ 3 ∷ 3 ∷ 4 ∷ 2 ∷ 1 ∷ 5 ∷ zeros 12270 0) (3 ∷ 2 ∷ 1 ∷ 5 ∷ zeros 252 0)
+  -- reading 421
+  v173 : call 12288 256 (3 ∷ 1 ∷ 3 ∷ 108 ∷ 101 ∷ 116 ∷ 0 ∷ 1 ∷ 95 ∷ 0 ∷ 3 ∷ 110 ∷ 111 ∷ 116 ∷ 3 ∷ 7 ∷ 1 ∷ 120 ∷ 1 ∷ 1 ∷ 84 ∷ 7 ∷ 2 ∷ 118 ∷ 49 ∷ 2 ∷ 0 ∷ 2 ∷ 1 ∷ 3 ∷ 5 ∷ 3 ∷ 0 ∷ 0 ∷ 3 ∷ 255 ∷ 3 ∷ 1 ∷ 1 ∷ 1 ∷ 3 ∷ 1 ∷ 1 ∷ 255 ∷ 3 ∷ 1 ∷ 1 ∷ 255 ∷ 3 ∷ 0 ∷ 2 ∷ 8 ∷ 7 ∷ 0 ∷ 0 ∷ 0 ∷ 10 ∷ 1 ∷ 0 ∷ 0 ∷ 7 ∷ 0 ∷ 0 ∷ 0 ∷ 3 ∷ 0 ∷ 0 ∷ 0 ∷ 3 ∷ 0 ∷ 0 ∷ 0 ∷ 0 ∷ 124 ∷ 0 ∷ 0 ∷ 3 ∷ 0 ∷ 0 ∷ 0 ∷ 3 ∷ 0 ∷ 0 ∷ 0 ∷ []) (48 ∷ 124 ∷ 48 ∷ 9 ∷ []) 0 1000000 ≡ gives (answer 0 0 0 0 29 5 20) (1 ∷ 0 ∷ 0 ∷ 8 ∷ 1 ∷ 0 ∷ 2 ∷ 1 ∷ 2 ∷ 3 ∷ 0 ∷ 3 ∷ 5 ∷ 0 ∷ 0 ∷ 2 ∷ 1 ∷ 5 ∷ 3 ∷ 2 ∷ 6 ∷ 2 ∷ 1 ∷ 7 ∷ 8 ∷ 8 ∷ 0 ∷ 2 ∷ 1 ∷ 9 ∷ 3 ∷ 0 ∷ 10 ∷ 3 ∷ 3 ∷ 1 ∷ 2 ∷ 8 ∷ 12 ∷ 8 ∷ 13 ∷ 0 ∷ 2 ∷ 1 ∷ 14 ∷ 3 ∷ 0 ∷ 15 ∷ 2 ∷ 13 ∷ 7 ∷ 8 ∷ 17 ∷ 0 ∷ 2 ∷ 1 ∷ 18 ∷ 3 ∷ 0 ∷ 19 ∷ 3 ∷ 1 ∷ 6 ∷ zeros 12225 0) (0 ∷ 3 ∷ 0 ∷ 4 ∷ 1 ∷ 3 ∷ 0 ∷ 11 ∷ 2 ∷ 3 ∷ 0 ∷ 16 ∷ 3 ∷ 3 ∷ 0 ∷ 20 ∷ 1 ∷ 255 ∷ 3 ∷ 21 ∷ zeros 236 0)
+  -- reading 889
+  v174 : call 12288 256 (2 ∷ 1 ∷ 1 ∷ 97 ∷ 0 ∷ 2 ∷ 105 ∷ 102 ∷ 0 ∷ 2 ∷ 1 ∷ 3 ∷ 0 ∷ 1 ∷ 4 ∷ 255 ∷ 3 ∷ 1 ∷ 1 ∷ 1 ∷ 1 ∷ 1 ∷ 3 ∷ 1 ∷ 0 ∷ 1 ∷ 3 ∷ 1 ∷ 1 ∷ 3 ∷ 1 ∷ 8 ∷ 3 ∷ 0 ∷ 0 ∷ 0 ∷ 8 ∷ 0 ∷ 0 ∷ 0 ∷ 0 ∷ 62 ∷ 0 ∷ 0 ∷ 8 ∷ 0 ∷ 0 ∷ 0 ∷ 8 ∷ 0 ∷ 0 ∷ 0 ∷ 0 ∷ 63 ∷ 0 ∷ 0 ∷ 8 ∷ 1 ∷ 0 ∷ 0 ∷ 8 ∷ 0 ∷ 0 ∷ 0 ∷ []) (49 ∷ 50 ∷ 63 ∷ 55 ∷ 62 ∷ 49 ∷ 62 ∷ 49 ∷ []) 0 1000000 ≡ gives (answer 31 0 0 0 31 2 0) (1 ∷ 0 ∷ 0 ∷ 5 ∷ 0 ∷ 12 ∷ 2 ∷ 1 ∷ 2 ∷ 3 ∷ 0 ∷ 3 ∷ 2 ∷ 1 ∷ 4 ∷ 5 ∷ 0 ∷ 7 ∷ 2 ∷ 1 ∷ 6 ∷ 3 ∷ 0 ∷ 7 ∷ 2 ∷ 5 ∷ 8 ∷ 3 ∷ 2 ∷ 9 ∷ 2 ∷ 1 ∷ 10 ∷ zeros 12255 0) (2 ∷ 255 ∷ 3 ∷ 4 ∷ 4 ∷ 1 ∷ 0 ∷ 10 ∷ zeros 248 0)
+  -- reading 1466
+  v175 : call 12288 256 (1 ∷ 0 ∷ 3 ∷ 110 ∷ 111 ∷ 116 ∷ 2 ∷ 1 ∷ 2 ∷ 105 ∷ 110 ∷ 2 ∷ 1 ∷ 120 ∷ 2 ∷ 0 ∷ 2 ∷ 2 ∷ 0 ∷ 2 ∷ 1 ∷ 0 ∷ 1 ∷ 3 ∷ 3 ∷ 0 ∷ 3 ∷ 1 ∷ 4 ∷ 8 ∷ 0 ∷ 0 ∷ 0 ∷ 0 ∷ 37 ∷ 0 ∷ 0 ∷ 8 ∷ 1 ∷ 0 ∷ 0 ∷ 8 ∷ 1 ∷ 0 ∷ 0 ∷ []) (97 ∷ 37 ∷ 120 ∷ 37 ∷ 105 ∷ 110 ∷ []) 0 1000000 ≡ gives (answer 0 0 0 0 33 3 10) (1 ∷ 0 ∷ 0 ∷ 4 ∷ 0 ∷ 1 ∷ 2 ∷ 1 ∷ 2 ∷ 4 ∷ 2 ∷ 1 ∷ 2 ∷ 3 ∷ 4 ∷ 3 ∷ 0 ∷ 5 ∷ 2 ∷ 1 ∷ 6 ∷ 4 ∷ 4 ∷ 2 ∷ 2 ∷ 7 ∷ 8 ∷ 3 ∷ 0 ∷ 9 ∷ 2 ∷ 1 ∷ 10 ∷ zeros 12255 0) (1 ∷ 3 ∷ 0 ∷ 2 ∷ 3 ∷ 1 ∷ 0 ∷ 6 ∷ 6 ∷ 1 ∷ 0 ∷ 10 ∷ zeros 244 0)
+  -- reading 190
+  v176 : call 12288 256 (1 ∷ 0 ∷ 3 ∷ 108 ∷ 101 ∷ 116 ∷ 0 ∷ 2 ∷ 1 ∷ 3 ∷ 0 ∷ 2 ∷ 5 ∷ 1 ∷ 3 ∷ 1 ∷ 1 ∷ 1 ∷ 1 ∷ 1 ∷ 4 ∷ 1 ∷ 1 ∷ 0 ∷ 2 ∷ 2 ∷ 0 ∷ 1 ∷ 1 ∷ 0 ∷ 3 ∷ 1 ∷ 2 ∷ 10 ∷ 3 ∷ 0 ∷ 0 ∷ 0 ∷ 9 ∷ 1 ∷ 0 ∷ 0 ∷ 11 ∷ 1 ∷ 0 ∷ 0 ∷ 8 ∷ 0 ∷ 0 ∷ 0 ∷ 0 ∷ 62 ∷ 0 ∷ 0 ∷ 9 ∷ 0 ∷ 0 ∷ 0 ∷ 8 ∷ 0 ∷ 0 ∷ 0 ∷ 0 ∷ 46 ∷ 0 ∷ 0 ∷ 8 ∷ 0 ∷ 0 ∷ 0 ∷ 0 ∷ 43 ∷ 0 ∷ 0 ∷ []) (48 ∷ []) 0 1000000 ≡ gives (answer 0 0 0 0 35 1 4) (1 ∷ 0 ∷ 0 ∷ 5 ∷ 0 ∷ 0 ∷ 2 ∷ 1 ∷ 2 ∷ 3 ∷ 0 ∷ 3 ∷ 7 ∷ 0 ∷ 0 ∷ 2 ∷ 1 ∷ 5 ∷ 8 ∷ 1 ∷ 0 ∷ 2 ∷ 6 ∷ 7 ∷ zeros 12264 0) (1 ∷ 1 ∷ 3 ∷ 4 ∷ zeros 252 0)
+  -- reading 1108
+  v177 : call 12288 256 (1 ∷ 0 ∷ 3 ∷ 108 ∷ 101 ∷ 116 ∷ 3 ∷ 0 ∷ 1 ∷ 84 ∷ 2 ∷ 1 ∷ 120 ∷ 3 ∷ 1 ∷ 84 ∷ 1 ∷ 1 ∷ 2 ∷ 2 ∷ 0 ∷ 1 ∷ 1 ∷ 2 ∷ 2 ∷ 0 ∷ 1 ∷ 1 ∷ 3 ∷ 8 ∷ 0 ∷ 0 ∷ 0 ∷ 8 ∷ 0 ∷ 0 ∷ 0 ∷ 3 ∷ 0 ∷ 0 ∷ 0 ∷ []) (49 ∷ 32 ∷ 48 ∷ []) 0 1000000 ≡ gives (answer 0 0 0 0 36 2 11) (1 ∷ 0 ∷ 0 ∷ 5 ∷ 0 ∷ 1 ∷ 2 ∷ 1 ∷ 2 ∷ 3 ∷ 1 ∷ 3 ∷ 2 ∷ 1 ∷ 4 ∷ 5 ∷ 0 ∷ 0 ∷ 2 ∷ 1 ∷ 6 ∷ 3 ∷ 1 ∷ 7 ∷ 2 ∷ 1 ∷ 8 ∷ 2 ∷ 5 ∷ 8 ∷ 3 ∷ 0 ∷ 10 ∷ zeros 12255 0) (1 ∷ 2 ∷ 0 ∷ 4 ∷ 3 ∷ 0 ∷ 1 ∷ 11 ∷ zeros 248 0)
+  -- reading 175
+  v178 : call 12288 256 (0 ∷ 0 ∷ 2 ∷ 0 ∷ 1 ∷ 0 ∷ 3 ∷ 4 ∷ 0 ∷ 0 ∷ 1 ∷ 1 ∷ 255 ∷ 3 ∷ 1 ∷ 1 ∷ 255 ∷ 3 ∷ 0 ∷ 2 ∷ 255 ∷ 3 ∷ 0 ∷ 2 ∷ 6 ∷ 10 ∷ 1 ∷ 0 ∷ 0 ∷ 3 ∷ 0 ∷ 0 ∷ 0 ∷ 3 ∷ 0 ∷ 0 ∷ 0 ∷ 3 ∷ 0 ∷ 0 ∷ 0 ∷ 8 ∷ 1 ∷ 0 ∷ 0 ∷ 0 ∷ 38 ∷ 0 ∷ 0 ∷ []) (48 ∷ 48 ∷ 55 ∷ 32 ∷ 49 ∷ 50 ∷ []) 0 1000000 ≡ gives (answer 32 0 0 0 40 4 0) (1 ∷ 0 ∷ 0 ∷ 8 ∷ 1 ∷ 0 ∷ 2 ∷ 1 ∷ 2 ∷ 3 ∷ 0 ∷ 3 ∷ 5 ∷ 0 ∷ 7 ∷ 2 ∷ 1 ∷ 5 ∷ 3 ∷ 1 ∷ 6 ∷ 5 ∷ 0 ∷ 12 ∷ 2 ∷ 6 ∷ 8 ∷ 3 ∷ 2 ∷ 9 ∷ 2 ∷ 1 ∷ 7 ∷ 2 ∷ 1 ∷ 10 ∷ 8 ∷ 11 ∷ 0 ∷ 2 ∷ 1 ∷ 13 ∷ 3 ∷ 0 ∷ 14 ∷ 2 ∷ 1 ∷ 8 ∷ 3 ∷ 1 ∷ 16 ∷ 2 ∷ 1 ∷ 17 ∷ 2 ∷ 11 ∷ 17 ∷ 8 ∷ 19 ∷ 0 ∷ 2 ∷ 1 ∷ 20 ∷ 3 ∷ 0 ∷ 21 ∷ 8 ∷ 12 ∷ 0 ∷ 2 ∷ 1 ∷ 23 ∷ 3 ∷ 0 ∷ 24 ∷ zeros 12213 0) (0 ∷ 0 ∷ 0 ∷ 4 ∷ 3 ∷ 0 ∷ 0 ∷ 15 ∷ 6 ∷ 0 ∷ 0 ∷ 22 ∷ 6 ∷ 0 ∷ 0 ∷ 25 ∷ zeros 240 0)
+  -- deep 281
+  v179 : call 12288 256 (0 ∷ 0 ∷ 1 ∷ 0 ∷ 4 ∷ 4 ∷ 255 ∷ 3 ∷ 1 ∷ 1 ∷ 1 ∷ 2 ∷ 1 ∷ 3 ∷ 2 ∷ 0 ∷ 1 ∷ 3 ∷ 255 ∷ 3 ∷ 1 ∷ 3 ∷ 10 ∷ 3 ∷ 0 ∷ 0 ∷ 0 ∷ 8 ∷ 0 ∷ 0 ∷ 0 ∷ 0 ∷ 45 ∷ 0 ∷ 0 ∷ 8 ∷ 0 ∷ 0 ∷ 0 ∷ 8 ∷ 0 ∷ 0 ∷ 0 ∷ 0 ∷ 42 ∷ 0 ∷ 0 ∷ 8 ∷ 0 ∷ 0 ∷ 0 ∷ 0 ∷ 40 ∷ 0 ∷ 0 ∷ 8 ∷ 0 ∷ 0 ∷ 0 ∷ 0 ∷ 41 ∷ 0 ∷ 0 ∷ []) (49 ∷ 45 ∷ 50 ∷ 45 ∷ 51 ∷ []) 0 80 ≡ gives (answer 31 0 0 0 45 2 0) (1 ∷ 0 ∷ 0 ∷ 5 ∷ 0 ∷ 1 ∷ 2 ∷ 1 ∷ 2 ∷ 3 ∷ 0 ∷ 3 ∷ 2 ∷ 1 ∷ 4 ∷ 5 ∷ 0 ∷ 2 ∷ 2 ∷ 1 ∷ 6 ∷ 3 ∷ 0 ∷ 7 ∷ 2 ∷ 1 ∷ 8 ∷ 2 ∷ 5 ∷ 8 ∷ 3 ∷ 1 ∷ 10 ∷ zeros 12255 0) (1 ∷ 255 ∷ 3 ∷ 4 ∷ 3 ∷ 1 ∷ 2 ∷ 11 ∷ zeros 248 0)
+  -- reading 887
+  v180 : call 12288 256 (0 ∷ 2 ∷ 0 ∷ 1 ∷ 97 ∷ 0 ∷ 1 ∷ 84 ∷ 2 ∷ 0 ∷ 1 ∷ 0 ∷ 2 ∷ 3 ∷ 1 ∷ 2 ∷ 0 ∷ 3 ∷ 255 ∷ 3 ∷ 1 ∷ 1 ∷ 0 ∷ 2 ∷ 1 ∷ 1 ∷ 5 ∷ 7 ∷ 0 ∷ 0 ∷ 0 ∷ 10 ∷ 1 ∷ 0 ∷ 0 ∷ 7 ∷ 0 ∷ 0 ∷ 0 ∷ 2 ∷ 0 ∷ 0 ∷ 0 ∷ 8 ∷ 0 ∷ 0 ∷ 0 ∷ []) (122 ∷ 57 ∷ 32 ∷ 122 ∷ 57 ∷ 32 ∷ 65 ∷ 95 ∷ 98 ∷ []) 0 1000000 ≡ gives (answer 0 0 0 0 51 4 22) (1 ∷ 0 ∷ 0 ∷ 8 ∷ 1 ∷ 0 ∷ 2 ∷ 1 ∷ 2 ∷ 3 ∷ 0 ∷ 3 ∷ 4 ∷ 0 ∷ 2 ∷ 2 ∷ 1 ∷ 5 ∷ 3 ∷ 1 ∷ 6 ∷ 2 ∷ 1 ∷ 7 ∷ 8 ∷ 8 ∷ 0 ∷ 2 ∷ 1 ∷ 9 ∷ 3 ∷ 0 ∷ 10 ∷ 2 ∷ 8 ∷ 7 ∷ 8 ∷ 12 ∷ 0 ∷ 2 ∷ 1 ∷ 13 ∷ 3 ∷ 0 ∷ 14 ∷ 4 ∷ 6 ∷ 3 ∷ 2 ∷ 1 ∷ 16 ∷ 3 ∷ 1 ∷ 17 ∷ 2 ∷ 12 ∷ 18 ∷ 8 ∷ 19 ∷ 0 ∷ 2 ∷ 1 ∷ 20 ∷ 3 ∷ 0 ∷ 21 ∷ zeros 12222 0) (0 ∷ 1 ∷ 2 ∷ 4 ∷ 2 ∷ 1 ∷ 2 ∷ 11 ∷ 5 ∷ 1 ∷ 2 ∷ 15 ∷ 9 ∷ 1 ∷ 2 ∷ 22 ∷ zeros 240 0)
 
 vectors161 : Vectors161
-unfolding classOf leading spanEnd commentAt commentEnd roundEnd rounds skipFrom identifierAt decimal numberOf numberAt same isReserved lookupFrom checked row spelling entry nonterminal variant stepOf step allPass ended whole checkBook outwards govern governor isSome isKind ofKind characterEnd identifierEnd reservedAt freeEnd variableAt tokenAt claimed afterElement closed numbersOf cellsIn identityOf findCell treeIn treesIn meaningOf meanings join beyond joinWith choiceError identifierError tokenError _>>=_ sameParse has allIn kept add addAll ask newest others spend make itemCell withCell withToken nested begin counted variants oneRun roundsRun failedCall runCall runIdentifier stored enter child either follow followed plainNext listNext chosen stops choice listing steps runner run cellNumbers parseNumbers written wholeValues allAre firstHigh byValues ending onBook answerOf
+unfolding classOf leading spanEnd commentAt commentEnd roundEnd rounds skipFrom identifierAt decimal numberOf numberAt same isReserved lookupFrom checked row spelling entry nonterminal variant stepOf step allPass ended whole checkBook outwards govern governor isSome isKind ofKind characterEnd identifierEnd reservedAt freeEnd variableAt tokenAt claimant afterElement closed numbersOf cellsIn identityOf findCell treeIn treesIn meaningOf meanings join beyond joinWith choiceError identifierError tokenError _>>=_ sameParse has allIn kept add addAll ask newest others spend make itemCell failedCall either chosen begin withCell withToken complete counted variants oneRun roundsRun runCall runIdentifier plainNext listNext stops nested reentry enter enterChild follow followed choice listing steps runner run cellNumbers parseNumbers written wholeValues allAre firstHigh byValues atEnd onBook answerOf
 vectors161 = record { v161 = refl; v162 = refl; v163 = refl; v164 = refl; v165 = refl; v166 = refl; v167 = refl; v168 = refl; v169 = refl; v170 = refl; v171 = refl; v172 = refl; v173 = refl; v174 = refl; v175 = refl; v176 = refl; v177 = refl; v178 = refl; v179 = refl; v180 = refl }
