@@ -1,7 +1,7 @@
 -- Document 01, "The run", its last paragraph: cells, and what they stand for.
 use mathlib.Core.Bool.{true, false}
 use mathlib.Core.List.{List, [], _∷_, _++_}
-use Prim.Native.Nat.{ℕ, suc, _+_, _-_, _*_, _^_}
+use Prim.Native.Nat.{ℕ, zero, suc, _+_, _-_, _*_, _^_}
 use lib.ListN.{getD}
 use Rattle.characters.specs.Spelling.{partOf, same}
 use Rattle.rules.specs.Values.{Tree, Trees, none′, _▸_}
@@ -65,9 +65,10 @@ unfoldable pub treesIn : Meaning → Trees
 treesIn (one t) = none′
 treesIn (several ts) = ts
 
--- the meaning of cell n, given those of the cells in order
+-- the meaning of cell n, given those of the cells in order. There is no cell 0
 abbrev pub nthMeaning : List Meaning → ℕ → Meaning
-nthMeaning meanings n = getD meanings (n - 1) (one Tree.absent)
+nthMeaning meanings zero = one Tree.absent
+nthMeaning meanings (suc i) = getD meanings i (one Tree.absent)
 
 -- the meaning of a cell, given those of the cells before it
 unfoldable pub meaningOf : List ℕ → List Meaning → Cell → Meaning

@@ -12,8 +12,8 @@ use Rattle.book.specs.declared.records.Associativity.{Associativity}
 use Rattle.book.specs.declared.records.Step.{Step}
 use Rattle.rules.specs.Values.{Tree, Trees, none′, _▸_, variant, name, number, variable, absent, list, Parse}
 use Rattle.rules.specs.Uses.{Use, Path, base, useOf, hasMark, minimum, same-start, governor, keeps}
-use Rattle.rules.specs.Tokens.{Item, Token, freeEnd, spelled, tokenAt, characterEnd, claimed, goes, halts, afterElement, closed}
-use Rattle.rules.specs.Steps.{Todo, take′, elements, ending, todoOf}
+use Rattle.rules.specs.Tokens.{freeEnd, spelled, claimed}
+use Rattle.rules.specs.Steps.{Item, Token, Taken, stepAt, goes, halts, afterElement, closed, Todo, take′, elements, ending, todoOf}
 
 -- the last item; a passing variant has just one
 unfoldable pub lastOf : Trees → Tree
@@ -61,27 +61,20 @@ module _ (book : Book) (text : List ℕ) where
     pub data Through : Path → ℕ → ℕ → ℕ → List (Todo Trees) → ℕ → Trees → Parse Tree → Type 0 where
       done : {P : Path} {N u j x : ℕ} {items : Trees} {p : Parse Tree} → p ≡ parseOf book j x items → Through P N u j [] x items p
       by-token : {P : Path} {N u j x : ℕ} {s : Step} {t : Token} {rest : List (Todo Trees)} {items : Trees} {p : Parse Tree} →
-          tokenAt book text s x ≡ some t → Through P N u j rest (t .next) (withItem text items (t .item)) p → Through P N u j (take′ s ∷ rest) x items p
-      by-child : {P : Path} {N u j x M : ℕ} {q p : Parse Tree} {rest : List (Todo Trees)} {items : Trees} →
+          stepAt book text s x ≡ Taken.token t → Through P N u j rest (t .next) (withItem text items (t .item)) p → Through P N u j (take′ s ∷ rest) x items p
+      by-child : {P : Path} {N u j x M : ℕ} {s : Step} {q p : Parse Tree} {rest : List (Todo Trees)} {items : Trees} → stepAt book text s x ≡ Taken.child M →
           Derives (useOf book N u j (skipFrom text x) ∷ P) M (skipFrom text x) q → Through P N u j rest (q .rest) (items ▸ q .value) p →
-          Through P N u j (take′ (Step.Nonterminal M) ∷ rest) x items p
+          Through P N u j (take′ s ∷ rest) x items p
       -- "Optional is absent or one"
-      by-absent : {P : Path} {N u j x M : ℕ} {p : Parse Tree} {rest : List (Todo Trees)} {items : Trees} →
-          Through P N u j rest x (items ▸ absent) p → Through P N u j (take′ (Step.Optional M) ∷ rest) x items p
-      by-one : {P : Path} {N u j x M : ℕ} {q p : Parse Tree} {rest : List (Todo Trees)} {items : Trees} →
+      by-absent : {P : Path} {N u j x M : ℕ} {s : Step} {p : Parse Tree} {rest : List (Todo Trees)} {items : Trees} → stepAt book text s x ≡ Taken.optional M →
+          Through P N u j rest x (items ▸ absent) p → Through P N u j (take′ s ∷ rest) x items p
+      by-one : {P : Path} {N u j x M : ℕ} {s : Step} {q p : Parse Tree} {rest : List (Todo Trees)} {items : Trees} → stepAt book text s x ≡ Taken.optional M →
           Derives (useOf book N u j (skipFrom text x) ∷ P) M (skipFrom text x) q → Through P N u j rest (q .rest) (items ▸ q .value) p →
-          Through P N u j (take′ (Step.Optional M) ∷ rest) x items p
-      by-many : {P : Path} {N u j x M : ℕ} {p : Parse Tree} {rest : List (Todo Trees)} {items : Trees} →
-          Through P N u j (elements false M none′ none ∷ rest) x items p → Through P N u j (take′ (Step.Many M) ∷ rest) x items p
-      by-comma-list : {P : Path} {N u j x M : ℕ} {p : Parse Tree} {rest : List (Todo Trees)} {items : Trees} →
-          Through P N u j (elements true M none′ none ∷ rest) x items p → Through P N u j (take′ (Step.CommaList M) ∷ rest) x items p
-      by-delimited : {P : Path} {N u j x y M b c : ℕ} {p : Parse Tree} {rest : List (Todo Trees)} {items : Trees} → characterEnd text b x ≡ some y →
-          Through P N u j (elements true M none′ (some c) ∷ rest) y items p → Through P N u j (take′ (Step.Delimited M b c) ∷ rest) x items p
-      -- "If .. an optional opening is there it must be taken; without its opening kind 13 is the empty list"
-      by-opened : {P : Path} {N u j x y M b c : ℕ} {p : Parse Tree} {rest : List (Todo Trees)} {items : Trees} → characterEnd text b x ≡ some y →
-          Through P N u j (elements true M none′ (some c) ∷ rest) y items p → Through P N u j (take′ (Step.OptionalDelimited M b c) ∷ rest) x items p
-      by-unopened : {P : Path} {N u j x M b c : ℕ} {p : Parse Tree} {rest : List (Todo Trees)} {items : Trees} → characterEnd text b x ≡ none →
-          Through P N u j rest (skipFrom text x) (items ▸ list none′) p → Through P N u j (take′ (Step.OptionalDelimited M b c) ∷ rest) x items p
+          Through P N u j (take′ s ∷ rest) x items p
+      by-list : {P : Path} {N u j x y M : ℕ} {s : Step} {comma : Bool} {close : Option ℕ} {p : Parse Tree} {rest : List (Todo Trees)} {items : Trees} →
+          stepAt book text s x ≡ Taken.list comma M close y → Through P N u j (elements comma M none′ close ∷ rest) y items p → Through P N u j (take′ s ∷ rest) x items p
+      by-unopened : {P : Path} {N u j x y : ℕ} {s : Step} {p : Parse Tree} {rest : List (Todo Trees)} {items : Trees} →
+          stepAt book text s x ≡ Taken.unopened y → Through P N u j rest y (items ▸ list none′) p → Through P N u j (take′ s ∷ rest) x items p
       -- "Many is stop or one more. A comma list is stop, or one followed by stop or, after a comma, by the list again": any list may stop; after one more it
       -- goes on, or, without a comma where commas are wanted, it halts
       by-stop : {P : Path} {N u j x M : ℕ} {comma : Bool} {values : Trees} {close : Option ℕ} {p : Parse Tree} {rest : List (Todo Trees)} {items : Trees} →

@@ -42,7 +42,7 @@ joinWith (some a) (some b) = some (join a b)
 unfoldable pub choiceError : ℕ → ℕ → Error → Error → Error
 choiceError at N a b = elim (beyond at (join a b)) [ some e ↦ e | none ↦ error at 12 N ]
 
--- what a step of kinds 0 to 7 gives where it reads no token: "1 character (its code); 2 word (number); 3 identifier wanted; 4 text ended where step kinds
+-- what a step gives where it takes nothing: "1 character (its code); 2 word (number); 3 identifier wanted; 4 text ended where step kinds
 -- 2 to 5 wanted a token; 5 variable found; 6 reserved word found; 7 unknown name; 8 wrong kind (kind wanted); 9 digits wanted; 10 number too large"
 module _ (book : Book) (text : List ℕ) where
   -- an identifier was wanted: the text ended, none is there, or it is reserved; else another kind of error
@@ -51,24 +51,24 @@ module _ (book : Book) (text : List ℕ) where
       when (eqb at (length text)) (λ _. error at 4 0)
       (λ _. when (reservedAt book text at) (λ _. error at 6 0) (λ _. elim (identifierEnd text at) [ some end ↦ other | none ↦ error at 3 0 ]))
 
-  -- kinds 8 to 13 read no token and are never asked for
-  unfoldable pub tokenError : Step → ℕ → Error
-  tokenError (Step.Character a) place = error (skipFrom text place) 1 a
-  tokenError (Step.Word a) place = error (skipFrom text place) 2 a
-  tokenError Step.Identifier place = let at = skipFrom text place in identifierError at (error at 3 0)
-  tokenError Step.Number place =
+  -- kinds 8 to 11 and 13 always take something and are never asked for
+  unfoldable pub stepError : Step → ℕ → Error
+  stepError (Step.Character a) place = error (skipFrom text place) 1 a
+  stepError (Step.Word a) place = error (skipFrom text place) 2 a
+  stepError Step.Identifier place = let at = skipFrom text place in identifierError at (error at 3 0)
+  stepError Step.Number place =
       let at = skipFrom text place in
       when (eqb at (length text)) (λ _. error at 4 0)
       (λ _. elim (numberAt text at) [ Number.Nothing ↦ error at 9 0 | Number.TooLarge ↦ error at 10 0 | Number.Value value end ↦ error at 10 0 ])
-  tokenError Step.Variable place = let at = skipFrom text place in identifierError at (error at 7 0)
-  tokenError (Step.VariableOfKind a) place =
+  stepError Step.Variable place = let at = skipFrom text place in identifierError at (error at 7 0)
+  stepError (Step.VariableOfKind a) place =
       let at = skipFrom text place in
       identifierError at (when (isSome (variableAt book text at)) (λ _. error at 8 a) (λ _. error at 7 0))
-  tokenError Step.RejectVariable place = error (skipFrom text place) 5 0
-  tokenError Step.RejectReserved place = error (skipFrom text place) 6 0
-  tokenError (Step.Nonterminal a) place = error (skipFrom text place) 11 a
-  tokenError (Step.Optional a) place = error (skipFrom text place) 11 a
-  tokenError (Step.Many a) place = error (skipFrom text place) 11 a
-  tokenError (Step.CommaList a) place = error (skipFrom text place) 11 a
-  tokenError (Step.Delimited a b c) place = error (skipFrom text place) 11 a
-  tokenError (Step.OptionalDelimited a b c) place = error (skipFrom text place) 11 a
+  stepError Step.RejectVariable place = error (skipFrom text place) 5 0
+  stepError Step.RejectReserved place = error (skipFrom text place) 6 0
+  stepError (Step.Nonterminal a) place = error (skipFrom text place) 11 a
+  stepError (Step.Optional a) place = error (skipFrom text place) 11 a
+  stepError (Step.Many a) place = error (skipFrom text place) 11 a
+  stepError (Step.CommaList a) place = error (skipFrom text place) 11 a
+  stepError (Step.Delimited a b c) place = error (skipFrom text place) 1 b
+  stepError (Step.OptionalDelimited a b c) place = error (skipFrom text place) 11 a

@@ -5,16 +5,17 @@ use mathlib.Core.Option.{Option, none, some}
 use Prim.Native.Nat.{ℕ, zero, suc, _-_, _/_, _%_, _^_}
 use lib.Dec.{leb, ltb, eqb}
 use lib.ListN.{length, getD}
+use Rattle.characters.specs.Classes.{between}
 use Rattle.characters.specs.Skipping.{skipFrom}
-use Rattle.book.specs.Book.{Book, nonterminalNumber, variantNumber, associativityNumber}
+use Rattle.book.specs.Book.{Book, nonterminalNumber, variantNumber, associativityNumber, stepNumber}
 use Rattle.book.specs.declared.records.Associativity.{Associativity}
 use Rattle.book.specs.declared.records.Step.{Step}
 use Rattle.rules.specs.Values.{Parse}
 use Rattle.rules.specs.Uses.{Use, Path, base, useOf, hasMark, minimum, same-start, governor, keeps}
-use Rattle.rules.specs.Tokens.{Item, freeEnd, tokenAt, characterEnd, claimed, goes, halts, afterElement, closed, when}
-use Rattle.rules.specs.Steps.{Todo, take′, elements, ending, todoOf}
+use Rattle.rules.specs.Tokens.{when, freeEnd, claimed}
+use Rattle.rules.specs.Steps.{Item, Taken, stepAt, goes, halts, afterElement, closed, Todo, take′, elements, ending, todoOf}
 use Rattle.rules.specs.Cells.{Cell, findCell}
-use Rattle.rules.specs.Errors.{Error, error, join, joinWith, beyond, choiceError, tokenError}
+use Rattle.rules.specs.Errors.{Error, error, join, joinWith, beyond, choiceError, stepError}
 
 -- a limit met, with its number and the units so far; or a result
 pub data Result (A : Type 0) : Type 0 where
@@ -103,9 +104,10 @@ unfoldable pub addAll : State → List (Parse ℕ) → List (Parse ℕ) → Resu
 addAll s set [] = ok set
 addAll s set (p ∷ ps) = add s set p >>= (λ more. addAll s more ps)
 
--- ---- The marks of the open calls
+-- ---- The marks of the open calls; one that is not listed is false
 unfoldable pub ask : ℕ → List Bool → List Bool
-ask i [] = []
+ask zero [] = true ∷ []
+ask (suc i) [] = false ∷ ask i []
 ask zero (b ∷ bs) = true ∷ bs
 ask (suc i) (b ∷ bs) = b ∷ ask i bs
 
@@ -304,6 +306,20 @@ module _ (book : Book) (text : List ℕ) (allowance : ℕ) (inner : Option Runne
   unfoldable pub followed : Next → List (Parse ℕ) → Parsed → Result Parsed
   followed next set r = elim (r .failure) [ some e ↦ ok (parsed set (some e) (r .state)) | none ↦ follow next (r .set) set (r .state) ]
 
+  -- "one per step"; "for 10 and 11 the choices replace the step's unit"
+  unfoldable pub stepUnit : Step → State → Result State
+  stepUnit step s = when (between 10 11 (stepNumber step)) (λ _. ok s) (λ _. spend allowance s)
+
+  -- an optional child: "absent or one". "A present optional is its item"
+  unfoldable pub orAbsent : Call → ℕ → ℕ → List (Todo ℕ) → Go → Go
+  orAbsent c j M rest go x items set s = do
+    absent ← make text Cell.absent s
+    m ← withCell book text j items (absent .cell) (absent .state)
+    a ← go x (m .cell) set (m .state)
+    r ← enterChild c j M x (a .state)
+    b ← followed (plainNext book text c j rest items) (a .set) r
+    ok (chosen c (skipFrom text x) (a .failure) b)
+
   -- "stop comes before one more"; "one per choice (stop and one more together)"
   unfoldable pub choice : Call → ℕ → Bool → ℕ → ℕ → Option ℕ → List (Todo ℕ) → Go → Go
   choice c j comma M values close rest go x items set s₀ = do
@@ -321,51 +337,16 @@ module _ (book : Book) (text : List ℕ) (allowance : ℕ) (inner : Option Runne
   steps c j [] x items set s = complete book text j x items set s
   steps c j (elements comma M values close ∷ rest) x items set s = choice c j comma M values close rest (steps c j rest) x items set s
   steps c j (ending values close ∷ rest) x items set s = stops book text j values close (steps c j rest) x items set s
-  steps c j (take′ step ∷ rest) x items set s = oneStep step (steps c j rest)
-    where
-      tokenStep : Step → Go → Result Parsed
-      tokenStep k go = do
-        t ← spend allowance s
-        elim (tokenAt book text k x) [
-          | none ↦ ok (parsed set (some (tokenError book text k x)) t)
-          | some read ↦ withToken book text j items (read .item) t >>= (λ m. go (read .next) (m .cell) set (m .state))
-        ]
-
-      oneStep : Step → Go → Result Parsed
-      oneStep (Step.Character a) go = tokenStep (Step.Character a) go
-      oneStep (Step.Word a) go = tokenStep (Step.Word a) go
-      oneStep Step.Identifier go = tokenStep Step.Identifier go
-      oneStep Step.Number go = tokenStep Step.Number go
-      oneStep Step.Variable go = tokenStep Step.Variable go
-      oneStep (Step.VariableOfKind a) go = tokenStep (Step.VariableOfKind a) go
-      oneStep Step.RejectVariable go = tokenStep Step.RejectVariable go
-      oneStep Step.RejectReserved go = tokenStep Step.RejectReserved go
-      oneStep (Step.Nonterminal M) go = do
-        t ← spend allowance s
-        r ← enterChild c j M x t
-        followed (plainNext book text c j rest items) set r
-      oneStep (Step.Optional M) go = do
-        t ← spend allowance s
-        absent ← make text Cell.absent t
-        m ← withCell book text j items (absent .cell) (absent .state)
-        a ← go x (m .cell) set (m .state)
-        r ← enterChild c j M x (a .state)
-        b ← followed (plainNext book text c j rest items) (a .set) r
-        ok (chosen c (skipFrom text x) (a .failure) b)
-      oneStep (Step.Many M) go = listing c j false M none rest go x items set s
-      oneStep (Step.CommaList M) go = listing c j true M none rest go x items set s
-      oneStep (Step.Delimited M b e) go = do
-        t ← spend allowance s
-        elim (characterEnd text b x) [
-          | none ↦ ok (parsed set (some (error (skipFrom text x) 1 b)) t)
-          | some y ↦ listing c j true M (some e) rest go y items set t
-        ]
-      oneStep (Step.OptionalDelimited M b e) go = do
-        t ← spend allowance s
-        elim (characterEnd text b x) [
-          | none ↦ make text Cell.empty t >>= (λ m. stops book text j (m .cell) none go (skipFrom text x) items set (m .state))
-          | some y ↦ listing c j true M (some e) rest go y items set t
-        ]
+  steps c j (take′ step ∷ rest) x items set s₀ = do
+    s ← stepUnit step s₀
+    elim (stepAt book text step x) [
+      | Taken.nothing ↦ ok (parsed set (some (stepError book text step x)) s)
+      | Taken.token t ↦ withToken book text j items (t .item) s >>= (λ m. steps c j rest (t .next) (m .cell) set (m .state))
+      | Taken.child M ↦ enterChild c j M x s >>= (λ r. followed (plainNext book text c j rest items) set r)
+      | Taken.optional M ↦ orAbsent c j M rest (steps c j rest) x items set s
+      | Taken.list comma M close y ↦ listing c j comma M close rest (steps c j rest) y items set s
+      | Taken.unopened y ↦ make text Cell.empty s >>= (λ e. stops book text j (e .cell) none (steps c j rest) y items set (e .state))
+    ]
 
 module _ (book : Book) (text : List ℕ) (allowance : ℕ) where
   -- a runner with so many levels of nesting left
