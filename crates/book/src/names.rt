@@ -118,7 +118,8 @@ pub fn lookup(book: &[u8], index: &[usize], text: &[u8], start: usize, size: usi
     ensures { λ r. ⌜ r ≡ lookupName (bookIn (now (book .entry)) (now (index .entry)) .names) (partOf (now (text .entry)) start size) ⌝ }
 {
     let wanted = part(text, start, size);
-    let mut i = count(index, NAMES);
+    let names = count(index, NAMES);
+    let mut i = names;
     while 0 < i {
         let last = i - 1;
         if spelled(book, index, NAMES, last, wanted) {
@@ -127,7 +128,7 @@ pub fn lookup(book: &[u8], index: &[usize], text: &[u8], start: usize, size: usi
                 kind: label(book, index, NAMES, last),
             };
         }
-        i = last;
+        i -= 1;
     }
     Found::Nothing
 }

@@ -10,10 +10,10 @@ use Rattle.book.proofs.names.lookup.Statement.{statement}
 use Rattle.book.proofs.names.lookup.Tie as tie
 
 abbrev Inv-loop : tie.InvT-loop
-Inv-loop book index text start size wanted i₀ i = (i ≤ countIn index 129) × (lookupBelow book index wanted i ≡ lookupName (bookIn book index .names) wanted)
+Inv-loop book index text start size wanted names i₀ i = (i ≤ countIn index 129) × (lookupBelow book index wanted i ≡ lookupName (bookIn book index .names) wanted)
 
 abbrev μ-loop : tie.MeasureT-loop
-μ-loop book index text start size wanted i₀ i = i
+μ-loop book index text start size wanted names i₀ i = i
 
 part-requires : tie.Need-part-requires Inv-loop μ-loop
 part-requires c κs = search needs
@@ -30,7 +30,7 @@ loop-holds c =
     (omega (arith, c .count .ensures), ap (lookupBelow book index wanted) (c .count .ensures) ∙ sym (lookup-all book index wanted))
 
 sub-last : tie.Need-sub-last Inv-loop μ-loop
-sub-last c = omega (arith, c .loop-test .taken)
+sub-last c = omega (arith, c .loop-test .taken, c .before .loop .inv .0, c .before .before .count .ensures)
 
 spelled-requires : tie.Need-spelled-requires Inv-loop μ-loop
 spelled-requires c κs = omega arith
@@ -51,6 +51,11 @@ returns c =
     let wanted = part .result .now in
     let hit = lookup-hit book index wanted (loop .i) (loop-test .taken) (loop .inv .0) (c .label .result) (sym (spelled .ensures) ∙ c .before .if1 .taken) (c .label .ensures) in
     sym (rw (part .ensures) at (sym (loop .inv .1) ∙ hit))
+
+sub-i : tie.Need-sub-i Inv-loop μ-loop
+sub-i c =
+    let loop-test = c .before .before .loop-test in
+    omega (arith, loop-test .taken)
 
 loop-less : tie.Need-loop-less Inv-loop μ-loop
 loop-less c =
@@ -91,6 +96,7 @@ lookup-spec =
     spelled-requires
     label-requires
     returns
+    sub-i
     loop-less
     loop-again
     returns-2)
