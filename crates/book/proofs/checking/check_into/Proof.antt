@@ -1,14 +1,17 @@
 -- `book::check_into` meets its contract.
+use native.Mathlib.Omega.{arith}
 use borrow.Author.Needs.{needs}
 use Rattle.book.specs.EndLaws.{into-short, into-long}
 use Rattle.book.proofs.checking.check_into.Statement.{statement}
 use Rattle.book.proofs.checking.check_into.Tie as tie
 
 returns : tie.Need-returns
-returns c = into-short _ _ (c .if1 .taken)
+returns c =
+    let args = c .before .before .before .args in
+    into-short (args .book .now) (args .index .now) (omega (arith, c .if1 .taken))
 
 checked-requires : tie.Need-checked-requires
-checked-requires c κs = search needs
+checked-requires c κs = omega (arith, c .before .if1 .left)
 
 same-length : tie.Need-same-length
 same-length c = search needs
