@@ -29,6 +29,7 @@ reserved-as-requires : tie.Need-reserved-as-requires Inv-loop μ-loop
 reserved-as-requires c κs = search needs
 
 returns : tie.Need-returns Inv-loop μ-loop
+unfolding bookIn
 returns c =
     let args = c .before .before .before .before .before .before .before .before .before .args in
     let loop-test = c .before .before .loop-test in
@@ -37,7 +38,7 @@ returns c =
     let loop = c .before .before .before .loop in
     let book = args .book .now in
     let index = args .index .now in
-    let hit = reserved-hit _ (bookIn book index .words) _ (omega (arith, loop-test .taken, count .ensures, words-length book index)) (sym (c .before .reserved-as .ensures) ∙ c .if1 .taken) in
+    let hit = reserved-hit (part .result .now) (bookIn book index .words) (loop .i) (omega (arith, loop-test .taken, count .ensures, words-length book index)) (sym (c .before .reserved-as .ensures) ∙ c .if1 .taken) in
     sym (rw (part .ensures) at (sym (loop .inv) ∙ hit))
 
 add-i : tie.Need-add-i Inv-loop μ-loop
@@ -52,14 +53,16 @@ loop-less c =
     omega (arith, loop-test .taken)
 
 loop-again : tie.Need-loop-again Inv-loop μ-loop
+unfolding bookIn
 loop-again c =
     let args = c .before .before .before .before .before .before .before .before .before .args in
     let loop-test = c .before .before .loop-test in
     let count = c .before .before .before .before .count in
+    let part = c .before .before .before .before .before .part in
     let loop = c .before .before .before .loop in
     let book = args .book .now in
     let index = args .index .now in
-    sym (reserved-on _ (bookIn book index .words) _ (omega (arith, loop-test .taken, count .ensures, words-length book index)) (sym (c .before .reserved-as .ensures) ∙ c .if1 .left)) ∙ loop .inv
+    sym (reserved-on (part .result .now) (bookIn book index .words) (loop .i) (omega (arith, loop-test .taken, count .ensures, words-length book index)) (sym (c .before .reserved-as .ensures) ∙ c .if1 .left)) ∙ loop .inv
 
 returns-2 : tie.Need-returns-2 Inv-loop μ-loop
 returns-2 c =
