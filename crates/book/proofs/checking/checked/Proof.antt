@@ -1,5 +1,6 @@
 -- `book::checked` meets its contract: each way out is one law of EndLaws.
 use mathlib.Core.Path.{ap, _∙_}
+use native.Mathlib.Omega.{arith}
 use borrow.Author.Needs.{needs}
 use Rattle.book.specs.EndLaws.{checks-sections, checks-passing, checks-over, checks-accepted}
 use Rattle.book.specs.Index.{refusalOf}
@@ -59,7 +60,7 @@ returns-3 c =
     let sections = c .before .before .before .before .before .before .before .sections in
     let all-pass = c .before .before .before .before .all-pass in
     let passed = c .before .before .passed in
-    checks-over _ _ _ _ (five-sections .ensures) _ _ (sections .given .1) _ (all-pass .ensures) _ _ (passed .given .1) (c .if1 .taken)
+    checks-over _ _ _ _ (five-sections .ensures) _ _ (sections .given .1) _ (all-pass .ensures) _ _ (passed .given .1) (omega (arith, c .if1 .taken))
 
 same-length-4 : tie.Need-same-length-4
 same-length-4 c = search needs
@@ -70,7 +71,7 @@ returns-4 c =
     let sections = c .before .before .before .before .before .before .before .sections in
     let all-pass = c .before .before .before .before .all-pass in
     let passed = c .before .before .passed in
-    checks-accepted _ _ _ _ (five-sections .ensures) _ _ (sections .given .1) _ (all-pass .ensures) _ _ (passed .given .1) (c .if1 .left)
+    checks-accepted _ _ _ _ (five-sections .ensures) _ _ (sections .given .1) _ (all-pass .ensures) _ _ (passed .given .1) (omega (arith, c .if1 .left))
 
 pub checked-spec : {M : Type 1} → statement M
 checked-spec =
