@@ -203,9 +203,9 @@ module _ (book : Book) (text : List ℕ) where
   oneRun run c m s = let nt = nonterminalNumber book (c .nonterminal) in variants run c m (nt .number) (nt .first) [] none s
 
   -- "they are set to all found, and it is run again until a run fails or adds nothing"; a run that fails has no parse to add. Each run but the last adds
-  -- one, and a 65th meets 22, so that 65 runs are always enough (RoundLaws)
+  -- one, and a 65th meets 22, so that 65 runs are always enough (RoundLaws); what stands for "no run left" is never asked for
   unfoldable pub rounds : ℕ → Runner → Call → ℕ → State → Result Parsed
-  rounds zero run c m s = ok (parsed (c .mine) none s)
+  rounds zero run c m s = met 22 (s .work)
   rounds (suc n) run c m s = do
     r ← oneRun run c m s
     when (allIn (c .mine) (r .set)) (λ _. ok (parsed (c .mine) none (r .state)))

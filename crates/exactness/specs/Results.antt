@@ -1,0 +1,72 @@
+-- Results of the run, taken apart: what holds where something ends with a result and not with a limit.
+use mathlib.Core.Path.{_≡_, refl}
+use mathlib.Core.Bool.{Bool, true, false}
+use mathlib.Core.List.{List, [], _∷_}
+use mathlib.Core.Logic.{_⊎_, inl, inr}
+use mathlib.Core.Option.{Option, none, some}
+use Prim.Native.Nat.{ℕ}
+use native.Mathlib.Omega.{arith}
+use Rattle.rules.specs.Uses.{Use, Path, Governor, minimum, same-start}
+use Rattle.rules.specs.Tokens.{when}
+use Rattle.rules.specs.Steps.{Token, Taken, After, goes, halts}
+use Rattle.rules.specs.Run.{Result, met, ok, _>>=_}
+
+-- a limit is no result
+pub met-ok : {A : Type 0} {number work : ℕ} {a : A} → met number work ≡ ok a → ⊥
+met-ok e = let z : _≡_ {A = ℕ} 0 1 = cc in omega arith
+
+pub ok-inj : {A : Type 0} {a b : A} → ok a ≡ ok b → a ≡ b
+ok-inj e = cc
+
+pub some-inj : {A : Type 0} {a b : A} → some a ≡ some b → a ≡ b
+some-inj e = cc
+
+pub none-some : {A : Type 0} {a : A} → none ≡ some a → ⊥
+none-some e = let z : _≡_ {A = ℕ} 0 1 = cc in omega arith
+
+-- two parts one after the other have a result: so has the first, and from it the second
+pub record Got {A B : Type 0} (m : Result A) (f : A → Result B) (b : B) : Type 0 where
+  pub val : A
+  pub ran : m ≡ ok val
+  pub next : f val ≡ ok b
+
+pub got : {A B : Type 0} (m : Result A) (f : A → Result B) {b : B} → (m >>= f) ≡ ok b → Got m f b
+unfolding _>>=_
+got (met number work) f e = absurd (met-ok e)
+got (ok a) f e = record { val = a; ran = refl; next = e }
+
+-- the same, handed to what follows
+pub after : {A B C : Type 0} (m : Result A) (f : A → Result B) {b : B} → (m >>= f) ≡ ok b → ((a : A) → m ≡ ok a → f a ≡ ok b → C) → C
+after m f e k = let g = got m f e in k (g .val) (g .ran) (g .next)
+
+-- a branch was taken: the test says which
+pub split : {A : Type 0} (b : Bool) (f g : Unit {0} → A) {r : A} → when b f g ≡ r → ((b ≡ true) × (f tt ≡ r)) ⊎ ((b ≡ false) × (g tt ≡ r))
+split true f g e = inl (refl, e)
+split false f g e = inr (refl, e)
+
+-- ---- Cases, each with its equation
+pub option-cases : {A X : Type 0} (o : Option A) → (o ≡ none → X) → ((a : A) → o ≡ some a → X) → X
+option-cases none f g = f refl
+option-cases (some a) f g = g a refl
+
+pub list-cases : {A X : Type 0} (l : List A) → (l ≡ [] → X) → ((a : A) (l′ : List A) → l ≡ a ∷ l′ → X) → X
+list-cases [] f g = f refl
+list-cases (a ∷ l) f g = g a l refl
+
+pub governor-cases : {X : Type 0} (g : Governor) → ((m : ℕ) → g ≡ minimum m → X) → ((i : ℕ) (f : Use) (Q : Path) → g ≡ same-start i f Q → X) → X
+governor-cases (minimum m) f g = f m refl
+governor-cases (same-start i u Q) f g = g i u Q refl
+
+pub after-cases : {X : Type 0} (a : After) → ((y : ℕ) → a ≡ goes y → X) → ((y : ℕ) → a ≡ halts y → X) → X
+after-cases (goes y) f g = f y refl
+after-cases (halts y) f g = g y refl
+
+pub taken-cases : {X : Type 0} (k : Taken) → (k ≡ Taken.nothing → X) → ((t : Token) → k ≡ Taken.token t → X) → ((M : ℕ) → k ≡ Taken.child M → X) →
+    ((M : ℕ) → k ≡ Taken.optional M → X) → ((comma : Bool) (M : ℕ) (close : Option ℕ) (y : ℕ) → k ≡ Taken.list comma M close y → X) →
+    ((y : ℕ) → k ≡ Taken.unopened y → X) → X
+taken-cases Taken.nothing n t c o l u = n refl
+taken-cases (Taken.token a) n t c o l u = t a refl
+taken-cases (Taken.child M) n t c o l u = c M refl
+taken-cases (Taken.optional M) n t c o l u = o M refl
+taken-cases (Taken.list comma M close y) n t c o l u = l comma M close y refl
+taken-cases (Taken.unopened y) n t c o l u = u y refl
