@@ -9,3 +9,5 @@ pub mod Run
 pub mod RoundLaws
 pub mod Answer
 pub mod Rows
+pub mod Exact
+pub mod Exactness

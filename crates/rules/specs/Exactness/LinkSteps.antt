@@ -9,20 +9,20 @@ use Rattle.characters.specs.Classes.{between}
 use Rattle.characters.specs.Skipping.{skipFrom}
 use Rattle.book.specs.Book.{Book, variantNumber, stepNumber}
 use Rattle.book.specs.declared.records.Step.{Step}
 use Rattle.rules.specs.Values.{Tree, Trees, none′, _▸_, Parse}
 use Rattle.rules.specs.Steps.{Token, Taken, stepAt, After, goes, halts, afterElement, closed, Todo, take′, elements, ending}
 use Rattle.rules.specs.Derivations.{valueOf, withItem}
 use Rattle.rules.specs.Cells.{Cell}
 use Rattle.rules.specs.Errors.{Error}
 use Rattle.rules.specs.Run.{ok, _>>=_, State, Parsed, Made, Call, Runner, Go, Next, add, make, withCell, withToken, complete, plainNext, listNext, stops, enterChild, follow, followed, stepUnit, orAbsent, choice, listing, steps, runner, run}
-use Rattle.exactness.specs.Lists.{Joins}
-use Rattle.exactness.specs.BigStep.{around, Follows, plain, listing as listed, Left, inside, onward, resume, Enters, Steps, s-done, s-nothing, s-token, s-child, s-optional, s-list, s-unopened, s-elements, s-unclosed, s-ending, Each, e-none, e-one}
-use Rattle.exactness.specs.Results.{ok-inj, some-inj, none-some, after, option-cases, after-cases, taken-cases}
-use Rattle.exactness.specs.Sets.{joins-nil, joins-append, joins-two, add-joins, map-joins, tree}
-use Rattle.exactness.specs.Failures.{enter-fails}
-use Rattle.exactness.specs.Table.{Table}
-use Rattle.exactness.specs.Made.{treeFor, treesFor, Before, Way, way-refl, make-way, made-empty, made-chain, made-variant, made-list, made-absent, Stands, with-cell-ok, with-token-ok}
-use Rattle.exactness.specs.Link.{trees, todoFor, openFor, chosen-same, Finds as FindsOf, RunOk as RunOkOf, Good as GoodOf, finds-from, spend-way, nested-run, enter-ok}
+use Rattle.rules.specs.Exactness.Lists.{Joins}
+use Rattle.rules.specs.Exactness.BigStep.{around, Follows, plain, listing as listed, Left, inside, onward, resume, Enters, Steps, s-done, s-nothing, s-token, s-child, s-optional, s-list, s-unopened, s-elements, s-unclosed, s-ending, Each, e-none, e-one}
+use Rattle.rules.specs.Exactness.Results.{ok-inj, some-inj, none-some, after, option-cases, after-cases, taken-cases, nested-run, chosen-same}
+use Rattle.rules.specs.Exactness.Sets.{joins-nil, joins-append, joins-two, add-joins, map-joins, tree}
+use Rattle.rules.specs.Exactness.Failures.{enter-fails}
+use Rattle.rules.specs.Exactness.Table.{Table}
+use Rattle.rules.specs.Exactness.Made.{treeFor, treesFor, Before, Way, way-refl, make-way, made-empty, made-chain, made-variant, made-list, made-absent, Stands, with-cell-ok, with-token-ok}
+use Rattle.rules.specs.Exactness.Link.{trees, todoFor, openFor, Finds as FindsOf, RunOk as RunOkOf, Good as GoodOf, finds-from, spend-way, enter-ok}
 
 module _ (book : Book) (text : List ℕ) (allowance : ℕ) (Cf : List Cell) (table : Table text Cf) where
   abbrev Finds : Call → ℕ → List (Todo ℕ) → ℕ → Trees → List (Parse ℕ) → State → List (Parse ℕ) → State → Type 0
@@ -76,13 +76,13 @@ module _ (book : Book) (text : List ℕ) (allowance : ℕ) (Cf : List Cell) (tab
     follow-ok c j items k next good [] set s r e b =
         subst (λ (z : Parsed). Before Cf (z .state) → EachOk c j items k [] set s (z .set) (z .state)) (ok-inj e) (no-parses c j items k set s) b
     follow-ok c j items k next good (q ∷ []) set s r e b =
-        nested-run book text allowance Cf table inner s _ e (λ f there ran.
+        nested-run book text allowance inner s _ e (λ f there ran.
         let a = good q s f set r (goods f there) ran b in one-then c j items k q [] set (r .set) (r .set) s (r .state) (r .state) a (no-parses c j items k (r .set) (r .state) b))
     follow-ok c j items k next good (q ∷ q′ ∷ qs) set s r e b =
         after _ _ e (λ a ran next-ran. after _ _ next-ran (λ d followed-on is.
         subst (λ (z : Parsed). Before Cf (z .state) → EachOk c j items k (q ∷ q′ ∷ qs) set s (z .set) (z .state)) (ok-inj is)
         (λ b′. let w = follow-ok c j items k next good (q′ ∷ qs) (a .set) (a .state) d followed-on b′ in
-        nested-run book text allowance Cf table inner s _ ran (λ f there first-ran.
+        nested-run book text allowance inner s _ ran (λ f there first-ran.
         one-then c j items k q (q′ ∷ qs) set (a .set) (d .set) s (a .state) (d .state) (good q s f set a (goods f there) first-ran (w .back)) w)) b))
 
     -- a child's call and what follows its parses

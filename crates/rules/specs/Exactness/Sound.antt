@@ -9,17 +9,17 @@ use native.Mathlib.Omega.{arith}
 use lib.Dec.{leb, eqb}
 use Rattle.characters.specs.Skipping.{skipFrom}
 use Rattle.book.specs.Book.{Book, nonterminalNumber, variantNumber}
 use Rattle.rules.specs.Values.{Tree, Trees, none′, Parse}
 use Rattle.rules.specs.Uses.{Use, Path, base, useOf, hasMark, Governor, minimum, same-start, outwards, govern, governor, keeps}
 use Rattle.rules.specs.Tokens.{freeEnd, claimed}
 use Rattle.rules.specs.Steps.{After, goes, halts, afterElement, Todo, elements, todoOf}
 use Rattle.rules.specs.Derivations.{Derives, by-variant, by-governor, by-identifier}
 use Rattle.rules.specs.Derivations.{Through, done, by-token, by-child, by-absent, by-one, by-list, by-unopened, by-stop, by-more, by-last, by-ending}
-use Rattle.exactness.specs.Lists.{_∈_, sift-out, nth, only, either}
-use Rattle.exactness.specs.BigStep.{Sets, Open, open′, around, inside, Follows, Left, onward, resume, named}
-use Rattle.exactness.specs.BigStep.{Enters, again, identifier, quiet, barren, grown, Runs, runs, Rounds, last, more, Variants, no-more, too-low, taken}
-use Rattle.exactness.specs.BigStep.{Steps, s-done, s-nothing, s-token, s-child, s-optional, s-list, s-unopened, s-elements, s-unclosed, s-ending}
-use Rattle.exactness.specs.BigStep.{Each, e-none, e-one}
+use Rattle.rules.specs.Exactness.Lists.{_∈_, sift-out, nth, only, either}
+use Rattle.rules.specs.Exactness.BigStep.{Sets, Open, open′, around, inside, Follows, Left, onward, resume, named}
+use Rattle.rules.specs.Exactness.BigStep.{Enters, again, identifier, quiet, barren, grown, Runs, runs, Rounds, last, more, Variants, no-more, too-low, taken}
+use Rattle.rules.specs.Exactness.BigStep.{Steps, s-done, s-nothing, s-token, s-child, s-optional, s-list, s-unopened, s-elements, s-unclosed, s-ending}
+use Rattle.rules.specs.Exactness.BigStep.{Each, e-none, e-one}
 
 -- ---- A governor stands in the path
 -- use number i of a path, and its own path

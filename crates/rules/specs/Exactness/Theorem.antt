@@ -14,23 +14,24 @@ use Rattle.characters.specs.Classes.{between}
 use Rattle.characters.specs.Skipping.{skipFrom}
 use Rattle.book.specs.Book.{Book}
 use Rattle.book.specs.Check.{checkBook, Outcome}
 use Rattle.rules.specs.Values.{Tree, Parse, whole}
 use Rattle.rules.specs.Errors.{Error}
 use Rattle.rules.specs.Derivations.{DerivesText}
 use Rattle.rules.specs.Run.{Result, met, ok, Parsed, runner, run}
 use Rattle.rules.specs.Answer.{Answer, Answered, answer, cleared, filled, wholeValues, allAre, firstHigh, byValues, atEnd, onBook, answerOf}
-use Rattle.exactness.specs.Lists.{_∈_}
-use Rattle.exactness.specs.Exactly.{exact}
-use Rattle.exactness.specs.Results.{option-cases, list-cases}
-use Rattle.exactness.specs.Table.{Item, prefix-refl}
-use Rattle.exactness.specs.BookFacts.{no-variants}
-use Rattle.exactness.specs.Failures.{enter-fails}
-use Rattle.exactness.specs.Limits.{run-limits}
-use Rattle.exactness.specs.Made.{treeFor}
-use Rattle.exactness.specs.LinkSteps.{run-ok}
-use Rattle.exactness.specs.Exact.{StandsFor, Reaches, Exact}
-use Rattle.exactness.specs.Outcomes.{Says, says-value, says-no-parse, says-none-whole, says-differ}
-use Rattle.exactness.specs.Listing.{Ended, treeNow, entry, stands-for, holds-entry, holds-only, holds-once, listed, unlisted, value-once}
+use Rattle.rules.specs.Exactness.Lists.{_∈_}
+use Rattle.rules.specs.Exactness.Exactly.{exact}
+use Rattle.rules.specs.Exactness.Results.{option-cases, list-cases}
+use Rattle.rules.specs.Exactness.Table.{Item, prefix-refl}
+use Rattle.rules.specs.Exactness.BookFacts.{no-variants, passing-step}
+use Rattle.rules.specs.Exactness.Forward.{Kept, run-keeps}
+use Rattle.rules.specs.Exactness.Failures.{enter-fails}
+use Rattle.rules.specs.Exactness.Limits.{run-limits}
+use Rattle.rules.specs.Exactness.Made.{treeFor}
+use Rattle.rules.specs.Exactness.LinkSteps.{run-ok}
+use Rattle.rules.specs.Exact.{StandsFor, Reaches, Exact, FoundIsDerivable}
+use Rattle.rules.specs.Exactness.Outcomes.{Says, says-value, says-no-parse, says-none-whole, says-differ}
+use Rattle.rules.specs.Exactness.Listing.{treeNow, entry, stands-for, holds-entry, holds-only, holds-once, listed, unlisted, value-once}
 
 -- ---- The values of the whole parses
 module _ (text : List ℕ) where
@@ -77,7 +78,7 @@ not-all v (u ∷ vs) e =
 
 -- ---- A run that has a result
 module _ (bytes : List ℕ) (book : Book) (accepted : checkBook bytes ≡ Outcome.book book) (text : List ℕ) (start allowance : ℕ) (r : Parsed) (ran : run book text allowance start ≡ ok r)
-    (h : Ended text r) (lentCells lentParses : List ℕ) where
+    (h : Kept text r) (lentCells lentParses : List ℕ) where
   -- the trees of the set are the derivable parses
   found : (p : Parse Tree) → (p ∈ map (treeNow text r) (r .set)) ↔ DerivesText book text start p
   found p =
@@ -220,9 +221,7 @@ module _ (bytes : List ℕ) (book : Book) (accepted : checkBook bytes ≡ Outcom
       (λ e failed. rw failed (exact-no-parse e (f .fails e failed)))
 
 -- ---- The answer
--- what an answer without a limit gives, given that a run with a result keeps its table and sets
-module _ (cells parses bytes text : List ℕ) (start allowance : ℕ) (book : Book) (accepted : checkBook bytes ≡ Outcome.book book)
-    (ends : (r : Parsed) → run book text allowance start ≡ ok r → Ended text r) where
+module _ (cells parses bytes text : List ℕ) (start allowance : ℕ) (book : Book) (accepted : checkBook bytes ≡ Outcome.book book) where
   -- the run's result, or its limit
   result-cases : {P′ : Type 0} (x : Result Parsed) → ((r : Parsed) → x ≡ ok r → P′) → ((number work : ℕ) → x ≡ met number work → P′) → P′
   result-cases (ok r) f g = f r refl
@@ -232,7 +231,7 @@ module _ (cells parses bytes text : List ℕ) (start allowance : ℕ) (book : Bo
   unfolding atEnd
   after-run no-limit =
       result-cases (run book text allowance start)
-      (λ r ran. rw ran (exact-at-end bytes book accepted text start allowance r ran (ends r ran) cells parses))
+      (λ r ran. rw ran (exact-at-end bytes book accepted text start allowance r ran (run-keeps book text allowance (passing-step bytes book accepted) start r ran) cells parses))
       (λ number work limit. clash (run-limits book text allowance start number work limit) (rw limit at no-limit))
 
   -- an answer that isn't refused before the run is the run's
@@ -252,8 +251,8 @@ module _ (cells parses bytes text : List ℕ) (start allowance : ℕ) (book : Bo
       (λ fine. rw (t, u, accepted, v, w, fine) refl)
       (λ i high. clash refl (rw (t, u, accepted, v, w, high) at e))))))
 
-  pub exactness : between 1 11 (answerOf cells parses bytes text start allowance .answer .refusal) ≡ false →
-      between 20 23 (answerOf cells parses bytes text start allowance .answer .refusal) ≡ false → Exact book text start (answerOf cells parses bytes text start allowance)
-  exactness not-refused no-limit =
-      let same = by-run not-refused in
-      subst (Exact book text start) (sym same) (after-run (subst (λ (a : Answered). between 20 23 (a .answer .refusal) ≡ false) same no-limit))
+pub found-is-derivable : FoundIsDerivable
+found-is-derivable cells parses bytes text start allowance book accepted not-refused no-limit =
+    let same = by-run cells parses bytes text start allowance book accepted not-refused in
+    subst (Exact book text start) (sym same)
+    (after-run cells parses bytes text start allowance book accepted (subst (λ (a : Answered). between 20 23 (a .answer .refusal) ≡ false) same no-limit))

@@ -6,7 +6,7 @@ use Prim.Native.Nat.{ℕ}
 use native.Mathlib.Omega.{arith}
 use Rattle.characters.specs.Cases.{clash}
 use Rattle.book.specs.Book.{Book}
-use Rattle.exactness.specs.Exact.{Agree, NoneWhole, Differ, NoParse}
+use Rattle.rules.specs.Exact.{Agree, NoneWhole, Differ, NoParse}
 
 module _ (book : Book) (text : List ℕ) (start : ℕ) where
   -- what a refusal number says of the end

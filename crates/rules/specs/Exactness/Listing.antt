@@ -1,20 +1,21 @@
 -- The lists at exit hold what the run found: entry i of the parses list is parse i of its set, and a cell stands in the cells list for what it stands for in the run.
 use mathlib.Core.Path.{_≡_, sym, _∙_, ap, subst}
 use mathlib.Core.List.{List, [], _∷_, map, List·Memᴰ·head, List·Memᴰ·tail, List·Memᴰ·not-nil, Memᴰ·map, Memᴰ·of-map, Memᴰ·cast}
-use Prim.Native.Nat.{ℕ, zero, suc, _≤_, _<_}
+use Prim.Native.Nat.{ℕ, zero, suc, _<_}
 use native.Mathlib.Omega.{arith}
 use lib.ListN.{length, getD}
 use Rattle.book.specs.declared.records.Associativity.{Associativity}
 use Rattle.rules.specs.Values.{Tree, Parse}
 use Rattle.rules.specs.Cells.{one, treeIn}
 use Rattle.rules.specs.Run.{Parsed}
 use Rattle.rules.specs.Answer.{Answer, Answered, filled, written, parseNumbers}
-use Rattle.exactness.specs.Lists.{_∈_}
-use Rattle.exactness.specs.Sets.{Distinct, getD-in, distinct-places, parse-fields, associativity-once, tree}
-use Rattle.exactness.specs.Table.{Table, Item, meaning, same-cell}
-use Rattle.exactness.specs.Numbers.{cells-back, ParseAt, parse-back}
-use Rattle.exactness.specs.Made.{treeFor}
-use Rattle.exactness.specs.Exact.{StandsFor, Holds}
+use Rattle.rules.specs.Exactness.Lists.{_∈_}
+use Rattle.rules.specs.Exactness.Sets.{getD-in, distinct-places, parse-fields, associativity-once, tree}
+use Rattle.rules.specs.Exactness.Table.{Item, meaning, same-cell}
+use Rattle.rules.specs.Exactness.Forward.{Kept}
+use Rattle.rules.specs.Exactness.Numbers.{cells-back, ParseAt, parse-back}
+use Rattle.rules.specs.Exactness.Made.{treeFor}
+use Rattle.rules.specs.Exact.{StandsFor, Holds}
 
 -- a member stands at some place
 pub place-of : {A : Type 0} (l : List A) (d : A) {a : A} → a ∈ l → (i : ℕ) × (i < length l) × (getD l i d ≡ a)
@@ -25,14 +26,6 @@ place-of (b ∷ l) d (List·Memᴰ·tail m) = let r = place-of l d m in (suc (r 
 one-once : {s t : Tree} → one s ≡ one t → s ≡ t
 one-once e = cc
 
--- what the run ends with
-pub record Ended (text : List ℕ) (r : Parsed) : Type 0 where
-  pub table : Table text (r .state .cells)
-  pub cells : length (r .state .cells) ≤ 4096
-  pub values : (p : Parse ℕ) → p ∈ r .set → Item text (r .state .cells) (p .value)
-  pub distinct : Distinct (r .set)
-  pub size : length (r .set) ≤ 64
-
 -- the parse that a run's set has for entry i
 abbrev pub entry : Parsed → ℕ → Parse ℕ
 entry r i = getD (r .set) i (record { rest = 0; level = 0; associativity = Associativity.Left; value = 0 })
@@ -41,7 +34,7 @@ entry r i = getD (r .set) i (record { rest = 0; level = 0; associativity = Assoc
 abbrev pub treeNow : List ℕ → Parsed → Parse ℕ → Parse Tree
 treeNow text r p = tree (treeFor text (r .state .cells)) p
 
-module _ (text : List ℕ) (r : Parsed) (h : Ended text r) (lentCells lentParses : List ℕ) (answer : Answer) where
+module _ (text : List ℕ) (r : Parsed) (h : Kept text r) (lentCells lentParses : List ℕ) (answer : Answer) where
   abbrev pub at-exit : Answered
   at-exit = filled lentCells lentParses answer r
 

@@ -9,13 +9,13 @@ use Rattle.characters.specs.Skipping.{skipFrom}
 use Rattle.book.specs.Book.{Book, nonterminalNumber, variantNumber}
 use Rattle.book.specs.declared.records.Associativity.{Associativity}
 use Rattle.book.specs.declared.records.Step.{Step}
 use Rattle.rules.specs.Values.{Tree, Trees, none′, _▸_, name, absent, list, Parse}
 use Rattle.rules.specs.Uses.{Use, Path, base, useOf, hasMark, minimum, same-start, governor, keeps}
 use Rattle.rules.specs.Tokens.{freeEnd, spelled, claimed}
 use Rattle.rules.specs.Steps.{Token, Taken, stepAt, After, goes, halts, afterElement, closed, Todo, take′, elements, ending, todoOf}
 use Rattle.rules.specs.Derivations.{parseOf, withItem}
 use Rattle.rules.specs.Run.{ask, newest, others}
-use Rattle.exactness.specs.Lists.{_∈_, sift, nth, Joins}
+use Rattle.rules.specs.Exactness.Lists.{_∈_, sift, nth, Joins}
 
 abbrev pub Sets : Type 0
 Sets = List (List (Parse Tree))

@@ -13,16 +13,16 @@ use Rattle.characters.specs.Cases.{by-test}
 use Rattle.characters.specs.Classes.{between}
 use Rattle.book.specs.Book.{Book, variantNumber, stepNumber}
 use Rattle.book.specs.declared.records.Step.{Step}
 use Rattle.rules.specs.Values.{Parse}
 use Rattle.rules.specs.Uses.{Path, base, hasMark, governor}
 use Rattle.rules.specs.Tokens.{freeEnd, claimed}
 use Rattle.rules.specs.Steps.{Item, stepAt, afterElement, closed, Todo, take′, elements, ending}
 use Rattle.rules.specs.Cells.{Cell, findCell}
 use Rattle.rules.specs.Errors.{Error}
 use Rattle.rules.specs.Run.{Result, met, ok, _>>=_, State, Parsed, Call, Runner, Go, Next, has, allIn, newest, add, addAll, spend, make, begin, withCell}
 use Rattle.rules.specs.Run.{withToken, complete, variants, oneRun, rounds, runCall, runIdentifier, plainNext, listNext, stops, nested, enter, enterChild}
 use Rattle.rules.specs.Run.{follow, followed, stepUnit, orAbsent, choice, listing, steps, runner, run}
-use Rattle.exactness.specs.Results.{met-ok, option-cases, list-cases, governor-cases, after-cases, taken-cases}
+use Rattle.rules.specs.Exactness.Results.{met-ok, option-cases, list-cases, governor-cases, after-cases, taken-cases}
 
 -- no other limit than 20 to 23
 pub record Limited {A : Type 0} (x : Result A) : Type 0 where

@@ -4,14 +4,14 @@ use mathlib.Core.List.{List, []}
 use mathlib.Core.Logic.{_↔_}
 use Prim.Native.Nat.{ℕ}
 use Rattle.book.specs.Book.{Book}
 use Rattle.rules.specs.Values.{Tree, Parse}
 use Rattle.rules.specs.Uses.{Use, Path}
 use Rattle.rules.specs.Derivations.{Derives}
-use Rattle.exactness.specs.Lists.{_∈_}
-use Rattle.exactness.specs.BigStep.{Enters}
-use Rattle.exactness.specs.Heights.{height}
-use Rattle.exactness.specs.Sound.{At, s-enters}
-use Rattle.exactness.specs.Complete.{PlainBook, complete}
+use Rattle.rules.specs.Exactness.Lists.{_∈_}
+use Rattle.rules.specs.Exactness.BigStep.{Enters}
+use Rattle.rules.specs.Exactness.Heights.{height}
+use Rattle.rules.specs.Exactness.Sound.{At, s-enters}
+use Rattle.rules.specs.Exactness.Complete.{PlainBook, complete}
 
 none-at : {i : ℕ} {f : Use} {Q : Path} → At [] i f Q → ⊥
 none-at a = elim a [ ]

@@ -6,11 +6,13 @@ use mathlib.Core.List.{List, []}
 use mathlib.Core.Logic.{_↔_}
 use Prim.Native.Nat.{ℕ, _+_, _*_, _≤_, _<_}
 use lib.ListN.{getD, take}
+use Rattle.characters.specs.Classes.{between}
 use Rattle.book.specs.Book.{Book, associativityNumber}
+use Rattle.book.specs.Check.{checkBook, Outcome}
 use Rattle.rules.specs.Values.{Tree, Parse, whole}
 use Rattle.rules.specs.Cells.{one, nthMeaning, meanings, cellsIn}
 use Rattle.rules.specs.Derivations.{DerivesText}
-use Rattle.rules.specs.Answer.{Answered}
+use Rattle.rules.specs.Answer.{Answered, answerOf}
 
 -- cell n of the cells list stands for a tree
 pub record StandsFor (text cells : List ℕ) (n : ℕ) (t : Tree) : Type 0 where
@@ -65,3 +67,10 @@ module _ (book : Book) (text : List ℕ) (start : ℕ) where
     pub no-parse : a .answer .refusal ≡ 30 ↔ NoParse
     pub none-whole : a .answer .refusal ≡ 31 ↔ NoneWhole
     pub differ : a .answer .refusal ≡ 32 ↔ Differ
+
+-- The theorem (Exactness.Theorem): of every call whose book is accepted, that isn't refused before the run (1 to 11), and that meets no limit (20 to 23), whatever the
+-- lent lists held
+abbrev pub FoundIsDerivable : Type 0
+FoundIsDerivable = (cells parses bytes text : List ℕ) (start allowance : ℕ) (book : Book) → checkBook bytes ≡ Outcome.book book →
+    between 1 11 (answerOf cells parses bytes text start allowance .answer .refusal) ≡ false →
+    between 20 23 (answerOf cells parses bytes text start allowance .answer .refusal) ≡ false → Exact book text start (answerOf cells parses bytes text start allowance)

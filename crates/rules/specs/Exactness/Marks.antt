@@ -4,15 +4,15 @@ use mathlib.Core.Bool.{Bool}
 use mathlib.Core.List.{List}
 use Prim.Native.Nat.{ℕ}
 use Rattle.book.specs.Book.{Book}
 use Rattle.rules.specs.Values.{Tree, Trees, Parse}
 use Rattle.rules.specs.Uses.{Path}
 use Rattle.rules.specs.Steps.{Todo}
 use Rattle.rules.specs.Run.{others}
-use Rattle.exactness.specs.Lists.{Le, le-refl, le-then, le-others, le-both-others, le-ask}
-use Rattle.exactness.specs.BigStep.{Sets, Open, Follows}
-use Rattle.exactness.specs.BigStep.{Enters, again, identifier, quiet, barren, grown, Runs, runs, Rounds, last, more, Variants, no-more, too-low, taken}
-use Rattle.exactness.specs.BigStep.{Steps, s-done, s-nothing, s-token, s-child, s-optional, s-list, s-unopened, s-elements, s-unclosed, s-ending}
-use Rattle.exactness.specs.BigStep.{Each, e-none, e-one}
+use Rattle.rules.specs.Exactness.Lists.{Le, le-refl, le-then, le-others, le-both-others, le-ask}
+use Rattle.rules.specs.Exactness.BigStep.{Sets, Open, Follows}
+use Rattle.rules.specs.Exactness.BigStep.{Enters, again, identifier, quiet, barren, grown, Runs, runs, Rounds, last, more, Variants, no-more, too-low, taken}
+use Rattle.rules.specs.Exactness.BigStep.{Steps, s-done, s-nothing, s-token, s-child, s-optional, s-list, s-unopened, s-elements, s-unclosed, s-ending}
+use Rattle.rules.specs.Exactness.BigStep.{Each, e-none, e-one}
 
 -- marks that come to be equal to others
 le-to : {A B C : List Bool} → C ≡ B → Le A B → Le A C

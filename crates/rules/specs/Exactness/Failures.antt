@@ -5,13 +5,13 @@ use mathlib.Core.Option.{Option, none, some}
 use Prim.Native.Nat.{ℕ, zero, suc}
 use Rattle.characters.specs.Cases.{by-test}
 use Rattle.book.specs.Book.{Book}
 use Rattle.rules.specs.Values.{Parse}
 use Rattle.rules.specs.Uses.{Path, base, hasMark, governor}
 use Rattle.rules.specs.Tokens.{freeEnd, claimed}
 use Rattle.rules.specs.Errors.{Error}
 use Rattle.rules.specs.Run.{ok, State, Parsed, Call, withMine, Runner, allIn, newest, rounds, runCall, runIdentifier, nested, reentry, enter}
-use Rattle.exactness.specs.Results.{met-ok, ok-inj, none-some, after, option-cases, list-cases, governor-cases}
-use Rattle.exactness.specs.Sets.{add-all-some}
+use Rattle.rules.specs.Exactness.Results.{met-ok, ok-inj, none-some, after, option-cases, list-cases, governor-cases}
+use Rattle.rules.specs.Exactness.Sets.{add-all-some}
 
 pub record Fails (r : Parsed) : Type 0 where
   pub fails : (e : Error) → r .failure ≡ some e → r .set ≡ []

@@ -3,17 +3,17 @@
 -- The plan. As long as they fit, the numbers stand at the head of the list, whatever is behind them (`Begins`). The cells that the list holds then begin
 -- with those that were written (`Prefix`), so each of these stands for the same. What is behind them, zeros and perhaps more, makes further cells and
 -- does no harm. A parse takes four numbers, and so parse i begins at 4 i.
-use mathlib.Core.Path.{_≡_, refl, sym, _∙_, ap}
+use mathlib.Core.Path.{_≡_, refl, _∙_, ap}
 use mathlib.Core.List.{List, [], _∷_, _++_, append-assoc}
 use Prim.Native.Nat.{ℕ, zero, suc, _+_, _-_, _*_, _≤_, _<_}
 use native.Mathlib.Omega.{arith}
 use lib.ListN.{length, getD, take, drop, replicate, length-append, length-replicate}
 use lib.Seq.{take-append-add, take-at, length-take-le}
 use Rattle.book.specs.Book.{associativityNumber}
 use Rattle.rules.specs.Values.{Parse}
 use Rattle.rules.specs.Cells.{Cell, numbersOf, cellsIn}
 use Rattle.rules.specs.Answer.{cellNumbers, parseNumbers, written}
-use Rattle.exactness.specs.Table.{meaning, Placed, Prefix, still}
+use Rattle.rules.specs.Exactness.Table.{meaning, Placed, Prefix, still}
 
 -- ---- Numbers at the head of a list
 record Begins (numbers list : List ℕ) : Type 0 where

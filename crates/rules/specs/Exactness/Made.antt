@@ -8,13 +8,13 @@ use lib.Pow.{split}
 use Rattle.characters.specs.Cases.{by-test, clash}
 use Rattle.characters.specs.Spelling.{partOf}
 use Rattle.book.specs.Book.{Book, variantNumber}
 use Rattle.rules.specs.Values.{Tree, Trees, none′, _▸_}
 use Rattle.rules.specs.Steps.{Item}
 use Rattle.rules.specs.Derivations.{lastOf, treeOf, withItem}
 use Rattle.rules.specs.Cells.{Cell, treeIn, treesIn, meaningOf}
 use Rattle.rules.specs.Run.{ok, State, Made, make, itemCell, begin, withCell, withToken}
-use Rattle.exactness.specs.Results.{got, ok-inj}
-use Rattle.exactness.specs.Table.{Table, Prefix, prefix-then, meaning, make-grows, make-means}
+use Rattle.rules.specs.Exactness.Results.{got, ok-inj}
+use Rattle.rules.specs.Exactness.Table.{Table, Prefix, prefix-then, meaning, make-grows, make-means}
 
 module _ (text : List ℕ) (Cf : List Cell) where
   -- the tree, and the trees, that a cell stands for

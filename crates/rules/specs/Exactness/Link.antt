@@ -12,19 +12,19 @@ use Rattle.characters.specs.Cases.{by-test}
 use Rattle.book.specs.Book.{Book, nonterminalNumber, variantNumber}
 use Rattle.book.specs.declared.records.Associativity.{Associativity}
 use Rattle.book.specs.declared.records.Step.{Step}
 use Rattle.rules.specs.Values.{Tree, Trees, none′, Parse}
 use Rattle.rules.specs.Uses.{Use, Path, base, hasMark, minimum, same-start, governor, keeps}
 use Rattle.rules.specs.Tokens.{freeEnd, claimed}
 use Rattle.rules.specs.Steps.{Todo, take′, elements, ending, stepsOf, todoOf}
 use Rattle.rules.specs.Cells.{Cell}
 use Rattle.rules.specs.Errors.{Error}
-use Rattle.rules.specs.Run.{Result, ok, State, Parsed, parsed, Made, Call, call, withMine, Runner, allIn, kept, ask, newest, others, withAsked, spend, chosen, variants, oneRun, rounds, runCall, runIdentifier, nested, reentry, enter, run}
-use Rattle.exactness.specs.Lists.{_∈_, sift, nth, Joins, either}
-use Rattle.exactness.specs.BigStep.{Open, open′, identifiers, Enters, again, identifier, quiet, barren, grown, Runs, runs, Rounds, last, more, Variants, no-more, too-low, taken, Steps}
-use Rattle.exactness.specs.Results.{met-ok, ok-inj, got, after, option-cases, list-cases, governor-cases}
-use Rattle.exactness.specs.Sets.{joins-nil, joins-append, joins-two, kept-sift, all-in, add-all-joins, map-joins, map-sub, nth-map, tree, sift-trees}
-use Rattle.exactness.specs.Table.{Table}
-use Rattle.exactness.specs.Made.{treeFor, treesFor, Before, Way, make-way, made-name, Stands, BeginOk, begin-ok}
+use Rattle.rules.specs.Run.{ok, State, Parsed, parsed, Made, Call, call, withMine, Runner, allIn, kept, ask, newest, others, withAsked, spend, variants, oneRun, rounds, runCall, runIdentifier, reentry, enter, run}
+use Rattle.rules.specs.Exactness.Lists.{_∈_, sift, nth, Joins, either}
+use Rattle.rules.specs.Exactness.BigStep.{Open, open′, identifiers, Enters, again, identifier, quiet, barren, grown, Runs, runs, Rounds, last, more, Variants, no-more, too-low, taken, Steps}
+use Rattle.rules.specs.Exactness.Results.{met-ok, ok-inj, got, after, option-cases, list-cases, governor-cases, nested-run}
+use Rattle.rules.specs.Exactness.Sets.{joins-nil, joins-append, joins-two, kept-sift, all-in, add-all-joins, map-joins, map-sub, nth-map, tree, sift-trees}
+use Rattle.rules.specs.Exactness.Table.{Table}
+use Rattle.rules.specs.Exactness.Made.{treeFor, treesFor, Before, Way, make-way, made-name, Stands, BeginOk, begin-ok}
 
 -- ---- Sets
 none-in : {A : Type 0} (l : List A) → Joins [] [] l → l ≡ []
@@ -36,13 +36,6 @@ joins-as h k = record {
   second = λ p m. k .second p (h .second p m);
   out = λ p m. either (k .out p m) (λ n. absurd (List·Memᴰ·not-nil n)) (λ n. h .out p n);
 }
-
--- the other side of a choice changes no set and no state
-pub chosen-same : (c : Call) (at : ℕ) (a : Option Error) (b : Parsed) (F : List (Parse ℕ) → State → Type 0) → F (b .set) (b .state) → F (chosen c at a b .set) (chosen c at a b .state)
-unfolding chosen
-chosen-same c at none b F f = f
-chosen-same c at (some e) b F f =
-    option-cases (b .failure) (λ n. rw n f) (λ d n. rw n f)
 
 module _ (text : List ℕ) (Cf : List Cell) where
   abbrev pub trees : List (Parse ℕ) → List (Parse Tree)
@@ -225,12 +218,6 @@ module _ (book : Book) (text : List ℕ) (allowance : ℕ) (Cf : List Cell) (tab
               (w .asked);
         }) b))
 
-  pub nested-run : {X : Type 0} (inner : Option Runner) (s : State) (k : Runner → Result Parsed) {r : Parsed} → nested book text allowance inner s k ≡ ok r →
-      ((f : Runner) → inner ≡ some f → k f ≡ ok r → X) → X
-  unfolding nested
-  nested-run none s k e h = absurd (met-ok e)
-  nested-run (some f) s k e h = h f refl e
-
   reentry-ok : (inner : Option Runner) (P Q : Path) (S : List (List (Parse ℕ))) (N u i : ℕ) (f : Use) (l : List (Parse ℕ)) (e : Error) (s t : State) → governor P base N u ≡ same-start i f Q →
       trees text Cf l ≡ sift (keeps f) (nth (map (trees text Cf) S) i) → t .asked ≡ ask i (s .asked) → Before Cf s → EnterOk P S N u s (reentry book text allowance inner l e t)
   unfolding reentry
@@ -260,7 +247,7 @@ module _ (book : Book) (text : List ℕ) (allowance : ℕ) (Cf : List Cell) (tab
     enter-ok P S N u s₀ r e b =
         after _ _ e (λ s ran next.
         governor-cases (governor P base N u)
-        (λ m gov. nested-run inner s _ (rw gov at next) (λ f inside-it ran-it.
+        (λ m gov. nested-run book text allowance inner s _ (rw gov at next) (λ f inside-it ran-it.
         by-test (hasMark book 2 N)
         (λ mark. let o = identifier-ok P S N u m gov mark s r (rw mark at ran-it) b in enter-from P S N u s₀ s r (spend-way s₀ s ran (o .back)) o)
         (λ mark. after _ _ (rw mark at ran-it) (λ a called is.

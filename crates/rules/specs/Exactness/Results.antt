@@ -6,10 +6,13 @@ use mathlib.Core.Logic.{_⊎_, inl, inr}
 use mathlib.Core.Option.{Option, none, some}
 use Prim.Native.Nat.{ℕ}
 use native.Mathlib.Omega.{arith}
 use Rattle.rules.specs.Uses.{Use, Path, Governor, minimum, same-start}
 use Rattle.rules.specs.Tokens.{when}
 use Rattle.rules.specs.Steps.{Token, Taken, After, goes, halts}
-use Rattle.rules.specs.Run.{Result, met, ok, _>>=_}
+use Rattle.book.specs.Book.{Book}
+use Rattle.rules.specs.Values.{Parse}
+use Rattle.rules.specs.Errors.{Error}
+use Rattle.rules.specs.Run.{Result, met, ok, _>>=_, State, Parsed, Call, Runner, chosen, nested}
 
 -- a limit is no result
 pub met-ok : {A : Type 0} {number work : ℕ} {a : A} → met number work ≡ ok a → ⊥
@@ -70,3 +73,19 @@ taken-cases (Taken.child M) n t c o l u = c M refl
 taken-cases (Taken.optional M) n t c o l u = o M refl
 taken-cases (Taken.list comma M close y) n t c o l u = l comma M close y refl
 taken-cases (Taken.unopened y) n t c o l u = u y refl
+
+-- ---- Parts of the run
+-- what is nested ran one level further in
+pub nested-run : {X : Type 0} (book : Book) (text : List ℕ) (allowance : ℕ) (inner : Option Runner) (s : State) (k : Runner → Result Parsed) {r : Parsed} →
+    nested book text allowance inner s k ≡ ok r → ((f : Runner) → inner ≡ some f → k f ≡ ok r → X) → X
+unfolding nested
+nested-run book text allowance none s k e h = absurd (met-ok e)
+nested-run book text allowance (some f) s k e h = h f refl e
+
+-- the other side of a choice changes no set and no state
+pub chosen-same : (c : Call) (at : ℕ) (a : Option Error) (b : Parsed)
+    (F : List (Parse ℕ) → State → Type 0) → F (b .set) (b .state) → F (chosen c at a b .set) (chosen c at a b .state)
+unfolding chosen
+chosen-same c at none b F f = f
+chosen-same c at (some e) b F f =
+    option-cases (b .failure) (λ n. rw n f) (λ d n. rw n f)
