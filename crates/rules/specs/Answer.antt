@@ -2,7 +2,7 @@
 use mathlib.Core.Bool.{Bool, true, cond, _&&_, _||_}
 use mathlib.Core.List.{List, [], _∷_, _++_}
 use mathlib.Core.Option.{Option, none, some}
-use Prim.Native.Nat.{ℕ, suc}
+use Prim.Native.Nat.{ℕ, suc, _-_}
 use lib.Dec.{leb, ltb, eqb}
 use lib.ListN.{length, take, drop, replicate}
 use Rattle.book.specs.Book.{Book, associativityNumber}
@@ -73,17 +73,18 @@ module _ (cells parses : List ℕ) where
   filled a r = record { answer = a; cells = written 12288 (cellNumbers (r .state .cells)) cells; parses = written 256 (parseNumbers (r .set)) parses }
 
   -- the end: 31, 32 or a value
-  unfoldable pub byValues : List ℕ → Parsed → Answered
-  byValues [] r = filled (answer 31 0 0 0 (r .state .work) (length (r .set)) 0) r
-  byValues (v ∷ vs) r =
-      when (allAre v vs) (λ _. filled (answer 0 0 0 0 (r .state .work) (length (r .set)) v) r) (λ _. filled (answer 32 0 0 0 (r .state .work) (length (r .set)) 0) r)
+  unfoldable pub byValues : List ℕ → ℕ → Parsed → Answered
+  byValues [] work r = filled (answer 31 0 0 0 work (length (r .set)) 0) r
+  byValues (v ∷ vs) work r =
+      when (allAre v vs) (λ _. filled (answer 0 0 0 0 work (length (r .set)) v) r) (λ _. filled (answer 32 0 0 0 work (length (r .set)) 0) r)
 
-  unfoldable pub atEnd : List ℕ → Result Parsed → Answered
-  atEnd text (met number work) = cleared (answer number 0 0 0 work 0 0)
-  atEnd text (ok r) =
+  -- "Work under 20 is the allowance, under 21 to 23 the units so far, otherwise all units of the run": what is gone of the allowance
+  unfoldable pub atEnd : List ℕ → ℕ → Result Parsed → Answered
+  atEnd text allowance (met number units) = cleared (answer number 0 0 0 (allowance - units) 0 0)
+  atEnd text allowance (ok r) =
       elim (r .failure) [
-        | some e ↦ cleared (answer 30 (e .place) (e .kind) (e .argument) (r .state .work) 0 0)
-        | none ↦ byValues (wholeValues text (r .set)) r
+        | some e ↦ cleared (answer 30 (e .place) (e .kind) (e .argument) (allowance - r .state .units) 0 0)
+        | none ↦ byValues (wholeValues text (r .set)) (allowance - r .state .units) r
       ]
 
   -- the start, then the text: 9, 10, 11
@@ -91,7 +92,7 @@ module _ (cells parses : List ℕ) where
   onBook book text start allowance =
       when (leb (length (book .nonterminals)) start) (λ _. untouched 9 0)
       (λ _. when (ltb 4096 (length text)) (λ _. untouched 10 4096)
-      (λ _. elim (firstHigh 0 text) [ some i ↦ untouched 11 i | none ↦ atEnd text (run book text allowance start) ]))
+      (λ _. elim (firstHigh 0 text) [ some i ↦ untouched 11 i | none ↦ atEnd text allowance (run book text allowance start) ]))
 
   unfoldable pub answerOf : List ℕ → List ℕ → ℕ → ℕ → Answered
   answerOf bytes text start allowance =

@@ -5,7 +5,6 @@ use mathlib.Core.Option.{Option, none, some}
 use Prim.Native.Nat.{ℕ}
 use lib.Dec.{leb, ltb, eqb}
 use lib.ListN.{length}
-use Rattle.characters.specs.Skipping.{skipFrom}
 use Rattle.characters.specs.Tokens.{numberAt}
 use Rattle.characters.specs.declared.tokens.Number.{Number}
 use Rattle.book.specs.Book.{Book}
@@ -51,24 +50,21 @@ module _ (book : Book) (text : List ℕ) where
       when (eqb at (length text)) (λ _. error at 4 0)
       (λ _. when (reservedAt book text at) (λ _. error at 6 0) (λ _. elim (identifierEnd text at) [ some end ↦ other | none ↦ error at 3 0 ]))
 
-  -- kinds 8 to 11 and 13 always take something and are never asked for
+  -- at a skipped place. Kinds 8 to 11 and 13 always take something and are never asked for
   unfoldable pub stepError : Step → ℕ → Error
-  stepError (Step.Character a) place = error (skipFrom text place) 1 a
-  stepError (Step.Word a) place = error (skipFrom text place) 2 a
-  stepError Step.Identifier place = let at = skipFrom text place in identifierError at (error at 3 0)
-  stepError Step.Number place =
-      let at = skipFrom text place in
+  stepError (Step.Character a) at = error at 1 a
+  stepError (Step.Word a) at = error at 2 a
+  stepError Step.Identifier at = identifierError at (error at 3 0)
+  stepError Step.Number at =
       when (eqb at (length text)) (λ _. error at 4 0)
       (λ _. elim (numberAt text at) [ Number.Nothing ↦ error at 9 0 | Number.TooLarge ↦ error at 10 0 | Number.Value value end ↦ error at 10 0 ])
-  stepError Step.Variable place = let at = skipFrom text place in identifierError at (error at 7 0)
-  stepError (Step.VariableOfKind a) place =
-      let at = skipFrom text place in
-      identifierError at (when (isSome (variableAt book text at)) (λ _. error at 8 a) (λ _. error at 7 0))
-  stepError Step.RejectVariable place = error (skipFrom text place) 5 0
-  stepError Step.RejectReserved place = error (skipFrom text place) 6 0
-  stepError (Step.Nonterminal a) place = error (skipFrom text place) 11 a
-  stepError (Step.Optional a) place = error (skipFrom text place) 11 a
-  stepError (Step.Many a) place = error (skipFrom text place) 11 a
-  stepError (Step.CommaList a) place = error (skipFrom text place) 11 a
-  stepError (Step.Delimited a b c) place = error (skipFrom text place) 1 b
-  stepError (Step.OptionalDelimited a b c) place = error (skipFrom text place) 11 a
+  stepError Step.Variable at = identifierError at (error at 7 0)
+  stepError (Step.VariableOfKind a) at = identifierError at (when (isSome (variableAt book text at)) (λ _. error at 8 a) (λ _. error at 7 0))
+  stepError Step.RejectVariable at = error at 5 0
+  stepError Step.RejectReserved at = error at 6 0
+  stepError (Step.Nonterminal a) at = error at 11 a
+  stepError (Step.Optional a) at = error at 11 a
+  stepError (Step.Many a) at = error at 11 a
+  stepError (Step.CommaList a) at = error at 11 a
+  stepError (Step.Delimited a b c) at = error at 1 b
+  stepError (Step.OptionalDelimited a b c) at = error at 11 a

@@ -15,7 +15,7 @@ use Rattle.rules.specs.Run.{Result, met, ok, _>>=_, State, Call, withMin
 -- what follows a result agrees if it agrees where there is one
 bind-same : {A B : Type 0} (x : Result A) (f g : A → Result B) → ((a : A) → x ≡ ok a → f a ≡ g a) → (x >>= f) ≡ (x >>= g)
 unfolding _>>=_
-bind-same (met number work) f g h = refl
+bind-same (met number units) f g h = refl
 bind-same (ok a) f g h = h a refl
 
 -- ---- One parse
@@ -27,7 +27,7 @@ add-new : (s : State) (set : List (Parse ℕ)) (p : Parse ℕ) → has set p ≡
 unfolding add
 add-new s set p h t = rw (h, t)
 
-add-full : (s : State) (set : List (Parse ℕ)) (p : Parse ℕ) → has set p ≡ false → ltb (length set) 64 ≡ false → add s set p ≡ met 22 (s .work)
+add-full : (s : State) (set : List (Parse ℕ)) (p : Parse ℕ) → has set p ≡ false → ltb (length set) 64 ≡ false → add s set p ≡ met 22 (s .units)
 unfolding add
 add-full s set p h t = rw (h, t)
 
@@ -45,7 +45,7 @@ module _ (s : State) where
   unfolding addAll _>>=_
   first set more p ps e = rw e
 
-  stopped : (set : List (Parse ℕ)) (p : Parse ℕ) (ps : List (Parse ℕ)) → add s set p ≡ met 22 (s .work) → addAll s set (p ∷ ps) ≡ met 22 (s .work)
+  stopped : (set : List (Parse ℕ)) (p : Parse ℕ) (ps : List (Parse ℕ)) → add s set p ≡ met 22 (s .units) → addAll s set (p ∷ ps) ≡ met 22 (s .units)
   unfolding addAll _>>=_
   stopped set p ps e = rw e
 

@@ -16,7 +16,7 @@ use Rattle.rules.specs.Tokens.{isSome, characterEnd, identifierEnd, rese
 use Rattle.rules.specs.Steps.{stepAt, afterElement, closed}
 use Rattle.rules.specs.Cells.{numbersOf, cellsIn, identityOf, findCell, treeIn, treesIn, meaningOf, meanings, treeAt}
 use Rattle.rules.specs.Errors.{join, beyond, joinWith, choiceError, identifierError, stepError}
-use Rattle.rules.specs.Run.{_>>=_, sameParse, has, allIn, kept, add, addAll, ask, newest, others, spend, make, itemCell, withCell, withToken, nested, begin, complete, counted, variants, oneRun, rounds as roundsRun, failedCall, runCall, runIdentifier, reentry, enter, enterChild, either, follow, followed, plainNext, listNext, chosen, stops, stepUnit, orAbsent, choice, listing, steps, runner, run}
+use Rattle.rules.specs.Run.{_>>=_, sameParse, has, allIn, kept, add, addAll, ask, newest, others, spend, make, itemCell, withCell, withToken, nested, closingOf, begin, complete, counted, variants, oneRun, rounds as roundsRun, failedCall, runCall, named, runIdentifier, reentry, enter, enterChild, either, followMore, follow, followed, plainNext, listNext, chosen, stops, stepUnit, orAbsent, choice, listing, steps, runner, run}
 use Rattle.rules.specs.Answer.{cellNumbers, parseNumbers, written, wholeValues, allAre, firstHigh, byValues, atEnd, onBook, answerOf, Answered}
 
 -- the example book, with the associativity of its minus
@@ -81,7 +81,7 @@ pub record Rows : Type 0 where
   pub row12 : reads (example 0) (40 ∷ 49 ∷ 56 ∷ 52 ∷ 52 ∷ 54 ∷ 55 ∷ 52 ∷ 52 ∷ 48 ∷ 55 ∷ 51 ∷ 55 ∷ 48 ∷ 57 ∷ 53 ∷ 53 ∷ 49 ∷ 54 ∷ 49 ∷ 54 ∷ []) ≡ refused 30 1 11 0
 
 pub rows : Rows
-unfolding classOf leading spanEnd commentAt commentEnd roundEnd rounds skipFrom identifierAt decimal numberOf numberAt same isReserved lookupFrom checked row spelling entry nonterminal variant stepOf step allPass ended whole checkBook outwards govern governor isSome characterEnd identifierEnd reservedAt freeEnd variableAt stepAt claimant afterElement closed numbersOf cellsIn identityOf findCell treeIn treesIn meaningOf meanings join beyond joinWith choiceError identifierError stepError _>>=_ sameParse has allIn kept add addAll ask newest others spend make itemCell withCell withToken nested begin complete counted variants oneRun roundsRun failedCall runCall runIdentifier reentry enter enterChild either follow followed plainNext listNext chosen stops stepUnit orAbsent choice listing steps runner run cellNumbers parseNumbers written wholeValues allAre firstHigh byValues atEnd onBook answerOf
+unfolding classOf leading spanEnd commentAt commentEnd roundEnd rounds skipFrom identifierAt decimal numberOf numberAt same isReserved lookupFrom checked row spelling entry nonterminal variant stepOf step allPass ended whole checkBook outwards govern governor isSome characterEnd identifierEnd reservedAt freeEnd variableAt stepAt claimant afterElement closed numbersOf cellsIn identityOf findCell treeIn treesIn meaningOf meanings join beyond joinWith choiceError identifierError stepError _>>=_ sameParse has allIn kept add addAll ask newest others spend make itemCell withCell withToken nested closingOf begin complete counted variants oneRun roundsRun failedCall runCall named runIdentifier reentry enter enterChild either followMore follow followed plainNext listNext chosen stops stepUnit orAbsent choice listing steps runner run cellNumbers parseNumbers written wholeValues allAre firstHigh byValues atEnd onBook answerOf
 rows = record { row1 = refl; row2 = refl; row3 = refl; row4 = refl; row5 = refl; row6 = refl; row7 = refl; row8 = refl; row9 = refl; row10 = refl; row11 = refl; row12 = refl }
 
 -- ---- "More"
@@ -115,5 +115,5 @@ pub record More : Type 0 where
   pub order : take 9 (answerOf (replicate 12288 0) (replicate 256 0) twoEmpty [] 0 1000000 .cells) ≡ 1 ∷ 0 ∷ 0 ∷ 3 ∷ 0 ∷ 1 ∷ 3 ∷ 1 ∷ 1 ∷ []
 
 pub more : More
-unfolding classOf leading spanEnd commentAt commentEnd roundEnd rounds skipFrom identifierAt decimal numberOf numberAt same isReserved lookupFrom checked row spelling entry nonterminal variant stepOf step allPass ended whole checkBook outwards govern governor isSome characterEnd identifierEnd reservedAt freeEnd variableAt stepAt claimant afterElement closed numbersOf cellsIn identityOf findCell treeIn treesIn meaningOf meanings join beyond joinWith choiceError identifierError stepError _>>=_ sameParse has allIn kept add addAll ask newest others spend make itemCell withCell withToken nested begin complete counted variants oneRun roundsRun failedCall runCall runIdentifier reentry enter enterChild either follow followed plainNext listNext chosen stops stepUnit orAbsent choice listing steps runner run cellNumbers parseNumbers written wholeValues allAre firstHigh byValues atEnd onBook answerOf
+unfolding classOf leading spanEnd commentAt commentEnd roundEnd rounds skipFrom identifierAt decimal numberOf numberAt same isReserved lookupFrom checked row spelling entry nonterminal variant stepOf step allPass ended whole checkBook outwards govern governor isSome characterEnd identifierEnd reservedAt freeEnd variableAt stepAt claimant afterElement closed numbersOf cellsIn identityOf findCell treeIn treesIn meaningOf meanings join beyond joinWith choiceError identifierError stepError _>>=_ sameParse has allIn kept add addAll ask newest others spend make itemCell withCell withToken nested closingOf begin complete counted variants oneRun roundsRun failedCall runCall named runIdentifier reentry enter enterChild either followMore follow followed plainNext listNext chosen stops stepUnit orAbsent choice listing steps runner run cellNumbers parseNumbers written wholeValues allAre firstHigh byValues atEnd onBook answerOf
 more = record { passing = refl; unpassing = refl; lastStep = refl; missingCharacter = refl; longest = refl; tooLong = refl; enough = refl; tooFew = refl; order = refl }

@@ -17,19 +17,19 @@ use Rattle.rules.specs.Steps.{Item, Taken, stepAt, goes, halts, afterEle
 use Rattle.rules.specs.Cells.{Cell, findCell}
 use Rattle.rules.specs.Errors.{Error, error, join, joinWith, beyond, choiceError, stepError}
 
--- a limit met, with its number and the units so far; or a result
+-- a limit met, with its number and the units left; or a result
 pub data Result (A : Type 0) : Type 0 where
   met : ℕ → ℕ → Result A
   ok : A → Result A
 
 infixl 20 _>>=_
 unfoldable pub _>>=_ : {A B : Type 0} → Result A → (A → Result B) → Result B
-_>>=_ (met number work) f = met number work
+_>>=_ (met number units) f = met number units
 _>>=_ (ok x) f = f x
 
--- units so far, cells so far, and for each open call, the newest first, whether its stored parses were asked for
+-- units left, cells so far, and for each open call, the newest first, whether its stored parses were asked for
 pub record State : Type 0 where
-  pub work : ℕ
+  pub units : ℕ
   pub cells : List Cell
   pub asked : List Bool
 
@@ -98,7 +98,7 @@ kept f (p ∷ ps) = cond (keeps f p) (p ∷ kept f ps) (kept f ps)
 
 -- 22, "a 65th different parse in any set"
 unfoldable pub add : State → List (Parse ℕ) → Parse ℕ → Result (List (Parse ℕ))
-add s set p = when (has set p) (λ _. ok set) (λ _. when (ltb (length set) 64) (λ _. ok (set ++ (p ∷ []))) (λ _. met 22 (s .work)))
+add s set p = when (has set p) (λ _. ok set) (λ _. when (ltb (length set) 64) (λ _. ok (set ++ (p ∷ []))) (λ _. met 22 (s .units)))
 
 unfoldable pub addAll : State → List (Parse ℕ) → List (Parse ℕ) → Result (List (Parse ℕ))
 addAll s set [] = ok set
@@ -120,13 +120,12 @@ others [] = []
 others (b ∷ bs) = bs
 
 abbrev pub withAsked : State → List Bool → State
-withAsked s asked = record { work = s .work; cells = s .cells; asked = asked }
+withAsked s asked = record { units = s .units; cells = s .cells; asked = asked }
 
 -- ---- Work and cells
--- 20, "a unit beyond the allowance"
-unfoldable pub spend : ℕ → State → Result State
-spend allowance s =
-    when (ltb (s .work) allowance) (λ _. ok (record { work = suc (s .work); cells = s .cells; asked = s .asked })) (λ _. met 20 allowance)
+-- 20, "a unit beyond the allowance": none is left
+unfoldable pub spend : State → Result State
+spend s = when (ltb 0 (s .units)) (λ _. ok (record { units = s .units - 1; cells = s .cells; asked = s .asked })) (λ _. met 20 0)
 
 -- 23, "a 4,097th cell"
 unfoldable pub make : List ℕ → Cell → State → Result Made
@@ -135,8 +134,8 @@ make text c s =
     when (eqb i 0)
     (λ _.
     when (ltb (length (s .cells)) 4096)
-    (λ _. ok (made (suc (length (s .cells))) (record { work = s .work; cells = s .cells ++ (c ∷ []); asked = s .asked })))
-    (λ _. met 23 (s .work)))
+    (λ _. ok (made (suc (length (s .cells))) (record { units = s .units; cells = s .cells ++ (c ∷ []); asked = s .asked })))
+    (λ _. met 23 (s .units)))
     (λ _. ok (made i s))
 
 unfoldable pub itemCell : Item → Cell
@@ -160,6 +159,11 @@ either (some a) (some b) = some (join a b)
 unfoldable pub chosen : Call → ℕ → Option Error → Parsed → Parsed
 chosen c at none b = parsed (b .set) none (b .state)
 chosen c at (some a) b = elim (b .failure) [ none ↦ b | some e ↦ parsed (b .set) (some (choiceError at (c .nonterminal) a e)) (b .state) ]
+
+-- the closing that is missing
+unfoldable pub closingOf : Option ℕ → ℕ
+closingOf none = 0
+closingOf (some c) = c
 
 module _ (book : Book) (text : List ℕ) where
   -- ---- A variant's cells
@@ -205,7 +209,7 @@ module _ (book : Book) (text : List ℕ) where
   -- "they are set to all found, and it is run again until a run fails or adds nothing"; a run that fails has no parse to add. Each run but the last adds
   -- one, and a 65th meets 22, so that 65 runs are always enough (RoundLaws); what stands for "no run left" is never asked for
   unfoldable pub rounds : ℕ → Runner → Call → ℕ → State → Result Parsed
-  rounds zero run c m s = met 22 (s .work)
+  rounds zero run c m s = met 22 (s .units)
   rounds (suc n) run c m s = do
     r ← oneRun run c m s
     when (allIn (c .mine) (r .set)) (λ _. ok (parsed (c .mine) none (r .state)))
@@ -224,18 +228,14 @@ module _ (book : Book) (text : List ℕ) where
     ]
 
   -- "`identifier_nonterminal`": level 255, Both
-  unfoldable pub runIdentifier : Call → State → Result Parsed
-  runIdentifier c s =
-      when (claimed book text (c .path) base (c .start)) (λ _. missing)
-      (λ _. elim (freeEnd book text (c .start)) [ none ↦ missing | some end ↦ named end ])
-    where
-      missing : Result Parsed
-      missing = ok (parsed [] (some (failedCall c none)) s)
+  unfoldable pub named : Call → State → Option ℕ → Result Parsed
+  named c s none = ok (parsed [] (some (failedCall c none)) s)
+  named c s (some end) = do
+    m ← make text (Cell.name (c .start) (end - c .start)) s
+    ok (parsed (record { rest = end; level = 255; associativity = Associativity.Both; value = m .cell } ∷ []) none (m .state))
 
-      named : ℕ → Result Parsed
-      named end = do
-        m ← make text (Cell.name (c .start) (end - c .start)) s
-        ok (parsed (record { rest = end; level = 255; associativity = Associativity.Both; value = m .cell } ∷ []) none (m .state))
+  unfoldable pub runIdentifier : Call → State → Result Parsed
+  runIdentifier c s = named c s (when (claimed book text (c .path) base (c .start)) (λ _. none) (λ _. freeEnd book text (c .start)))
 
   -- ---- What follows a parse
   -- the item is added, and the steps go on
@@ -256,18 +256,14 @@ module _ (book : Book) (text : List ℕ) where
   stops j values close go x items set s = do
     l ← make text (Cell.list values) s
     elim (closed text close x) [
-      | none ↦ ok (parsed set (some (error (skipFrom text x) 1 (closing close))) (l .state))
+      | none ↦ ok (parsed set (some (error (skipFrom text x) 1 (closingOf close))) (l .state))
       | some y ↦ withCell j items (l .cell) (l .state) >>= (λ m. go y (m .cell) set (m .state))
     ]
-    where
-      closing : Option ℕ → ℕ
-      closing none = 0
-      closing (some c) = c
 
 -- ---- One level of nesting. `inner` runs a variant one level further in; none is 21, "nesting beyond 200"
-module _ (book : Book) (text : List ℕ) (allowance : ℕ) (inner : Option Runner) where
+module _ (book : Book) (text : List ℕ) (inner : Option Runner) where
   unfoldable pub nested : State → (Runner → Result Parsed) → Result Parsed
-  nested s f = elim inner [ some run ↦ f run | none ↦ met 21 (s .work) ]
+  nested s f = elim inner [ some run ↦ f run | none ↦ met 21 (s .units) ]
 
   -- "Re-entry at its start gives its stored parses, filtered; none is a failure"
   unfoldable pub reentry : List (Parse ℕ) → Error → State → Parsed
@@ -277,7 +273,7 @@ module _ (book : Book) (text : List ℕ) (allowance : ℕ) (inner : Option Runne
   -- "`enter`": one unit; the governor; then one level of nesting
   unfoldable pub enter : Path → List (List (Parse ℕ)) → ℕ → ℕ → State → Result Parsed
   enter path sets N u s₀ = do
-    s ← spend allowance s₀
+    s ← spend s₀
     elim (governor path base N u) [
       | same-start i f around ↦ ok (reentry (kept f (getD sets i [])) (error u 11 N) (withAsked s (ask i (s .asked))))
       | minimum m ↦ nested s (λ run.
@@ -293,14 +289,14 @@ module _ (book : Book) (text : List ℕ) (allowance : ℕ) (inner : Option Runne
   unfoldable pub enterChild : Call → ℕ → ℕ → ℕ → State → Result Parsed
   enterChild c j M x s = let at = skipFrom text x in enter (useOf book (c .nonterminal) (c .start) j at ∷ c .path) (c .mine ∷ c .stored) M at s
 
-  -- what follows each parse of a child, one level further in
+  -- what follows each parse of a child, one level further in; of the errors so far, if all failed, one is handed on
+  unfoldable pub followMore : Next → List (Parse ℕ) → List (Parse ℕ) → Option Error → State → Result Parsed
+  followMore next [] set failure s = ok (parsed set failure s)
+  followMore next (q ∷ qs) set failure s = nested s (λ run. next q s run set) >>= (λ a. followMore next qs (a .set) (either failure (a .failure)) (a .state))
+
   unfoldable pub follow : Next → List (Parse ℕ) → List (Parse ℕ) → State → Result Parsed
   follow next [] set s = ok (parsed set none s)
-  follow next (q ∷ []) set s = nested s (λ run. next q s run set)
-  follow next (q ∷ r ∷ qs) set s = do
-    a ← nested s (λ run. next q s run set)
-    b ← follow next (r ∷ qs) (a .set) (a .state)
-    ok (parsed (b .set) (either (a .failure) (b .failure)) (b .state))
+  follow next (q ∷ qs) set s = nested s (λ run. next q s run set) >>= (λ a. followMore next qs (a .set) (a .failure) (a .state))
 
   -- the parses of a child are followed, if there are any
   unfoldable pub followed : Next → List (Parse ℕ) → Parsed → Result Parsed
@@ -308,7 +304,7 @@ module _ (book : Book) (text : List ℕ) (allowance : ℕ) (inner : Option Runne
 
   -- "one per step"; "for 10 and 11 the choices replace the step's unit"
   unfoldable pub stepUnit : Step → State → Result State
-  stepUnit step s = when (between 10 11 (stepNumber step)) (λ _. ok s) (λ _. spend allowance s)
+  stepUnit step s = when (between 10 11 (stepNumber step)) (λ _. ok s) (λ _. spend s)
 
   -- an optional child: "absent or one". "A present optional is its item"
   unfoldable pub orAbsent : Call → ℕ → ℕ → List (Todo ℕ) → Go → Go
@@ -323,7 +319,7 @@ module _ (book : Book) (text : List ℕ) (allowance : ℕ) (inner : Option Runne
   -- "stop comes before one more"; "one per choice (stop and one more together)"
   unfoldable pub choice : Call → ℕ → Bool → ℕ → ℕ → Option ℕ → List (Todo ℕ) → Go → Go
   choice c j comma M values close rest go x items set s₀ = do
-    s ← spend allowance s₀
+    s ← spend s₀
     a ← stops book text j values close go x items set s
     r ← enterChild c j M x (a .state)
     b ← followed (listNext book text c j comma M values close rest items) (a .set) r
@@ -340,7 +336,7 @@ module _ (book : Book) (text : List ℕ) (allowance : ℕ) (inner : Option Runne
   steps c j (take′ step ∷ rest) x items set s₀ = do
     s ← stepUnit step s₀
     elim (stepAt book text step x) [
-      | Taken.nothing ↦ ok (parsed set (some (stepError book text step x)) s)
+      | Taken.nothing ↦ ok (parsed set (some (stepError book text step (skipFrom text x))) s)
       | Taken.token t ↦ withToken book text j items (t .item) s >>= (λ m. steps c j rest (t .next) (m .cell) set (m .state))
       | Taken.child M ↦ enterChild c j M x s >>= (λ r. followed (plainNext book text c j rest items) set r)
       | Taken.optional M ↦ orAbsent c j M rest (steps c j rest) x items set s
@@ -348,12 +344,12 @@ module _ (book : Book) (text : List ℕ) (allowance : ℕ) (inner : Option Runne
       | Taken.unopened y ↦ make text Cell.empty s >>= (λ e. stops book text j (e .cell) none (steps c j rest) y items set (e .state))
     ]
 
-module _ (book : Book) (text : List ℕ) (allowance : ℕ) where
+module _ (book : Book) (text : List ℕ) where
   -- a runner with so many levels of nesting left
   unfoldable pub runner : ℕ → Option Runner
   runner zero = none
-  runner (suc n) = some (steps book text allowance (runner n))
+  runner (suc n) = some (steps book text (runner n))
 
-  -- the run of a text: 200 levels
-  unfoldable pub run : ℕ → Result Parsed
-  run start = enter book text allowance (runner 200) [] [] start (skipFrom text 0) (record { work = 0; cells = []; asked = [] })
+  -- the run of a text with so many units: 200 levels
+  unfoldable pub run : ℕ → ℕ → Result Parsed
+  run units start = enter book text (runner 200) [] [] start (skipFrom text 0) (record { units = units; cells = []; asked = [] })

@@ -3,8 +3,8 @@ use mathlib.Core.Bool.{Bool, true, false, _&&_, _||_}
 use mathlib.Core.List.{List, [], _∷_}
 use mathlib.Core.Option.{Option, none, some}
 use Prim.Native.Nat.{ℕ, _+_, _-_}
-use lib.Dec.{eqb}
-use lib.ListN.{getD}
+use lib.Dec.{ltb, eqb}
+use lib.ListN.{length, getD}
 use Rattle.characters.specs.Skipping.{skipFrom}
 use Rattle.characters.specs.Spelling.{partOf}
 use Rattle.characters.specs.Tokens.{identifierAt}
@@ -29,9 +29,9 @@ pub record Variable : Type 0 where
   pub kind : ℕ
 
 module _ (text : List ℕ) where
-  -- the end of the character a, after skipping. Characters are 33 to 126, so the 0 beyond the end is none
+  -- the end of the character a, after skipping
   unfoldable pub characterEnd : ℕ → ℕ → Option ℕ
-  characterEnd a place = let at = skipFrom text place in when (eqb (getD text at 0) a) (λ _. some (at + 1)) (λ _. none)
+  characterEnd a place = let at = skipFrom text place in when (ltb at (length text) && eqb (getD text at 0) a) (λ _. some (at + 1)) (λ _. none)
 
   -- an identifier at a place: its end
   unfoldable pub identifierEnd : ℕ → Option ℕ
@@ -67,4 +67,4 @@ module _ (book : Book) (text : List ℕ) where
 
   -- "unless an enclosing mark-1 use at the same place and scope could read a variable there"
   abbrev pub claimed : Path → ℕ → ℕ → Bool
-  claimed path scope u = claimant path scope u && isSome (variableAt u)
+  claimed path scope u = isSome (variableAt u) && claimant path scope u

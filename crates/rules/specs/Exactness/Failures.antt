@@ -9,7 +9,7 @@ use Rattle.rules.specs.Values.{Parse}
 use Rattle.rules.specs.Uses.{Path, base, hasMark, governor}
 use Rattle.rules.specs.Tokens.{freeEnd, claimed}
 use Rattle.rules.specs.Errors.{Error}
-use Rattle.rules.specs.Run.{ok, State, Parsed, Call, withMine, Runner, allIn, newest, rounds, runCall, runIdentifier, nested, reentry, enter}
+use Rattle.rules.specs.Run.{ok, State, Parsed, Call, withMine, Runner, allIn, newest, rounds, runCall, named, runIdentifier, nested, reentry, enter}
 use Rattle.rules.specs.Exactness.Results.{met-ok, ok-inj, none-some, after, option-cases, list-cases, governor-cases}
 use Rattle.rules.specs.Exactness.Sets.{add-all-some}
 
@@ -46,7 +46,7 @@ module _ (book : Book) (text : List ℕ) where
         (λ t. subst Fails (ok-inj (rw t at (rw some-found at next))) (found _ refl some′))))
 
   identifier-fails : (c : Call) (s : State) (r : Parsed) → runIdentifier book text c s ≡ ok r → Fails r
-  unfolding runIdentifier
+  unfolding runIdentifier named
   identifier-fails c s r e =
       by-test (claimed book text (c .path) base (c .start))
       (λ t. subst Fails (ok-inj (rw t at e)) (failed _ _ refl refl))
@@ -54,13 +54,13 @@ module _ (book : Book) (text : List ℕ) where
       (λ none-there. subst Fails (ok-inj (rw none-there at (rw t at e))) (failed _ _ refl refl))
       (λ end there. after _ _ (rw there at (rw t at e)) (λ m ran is. subst Fails (ok-inj is) (found _ refl (λ h. cons≢nil h)))))
 
-  module _ (allowance : ℕ) (inner : Option Runner) where
-    reentry-fails : (l : List (Parse ℕ)) (e : Error) (s : State) → Fails (reentry book text allowance inner l e s)
+  module _ (inner : Option Runner) where
+    reentry-fails : (l : List (Parse ℕ)) (e : Error) (s : State) → Fails (reentry book text inner l e s)
     unfolding reentry
     reentry-fails [] e s = failed _ e refl refl
     reentry-fails (p ∷ ps) e s = found _ refl (λ h. cons≢nil h)
 
-    pub enter-fails : (P : Path) (S : List (List (Parse ℕ))) (N u : ℕ) (s : State) (r : Parsed) → enter book text allowance inner P S N u s ≡ ok r → Fails r
+    pub enter-fails : (P : Path) (S : List (List (Parse ℕ))) (N u : ℕ) (s : State) (r : Parsed) → enter book text inner P S N u s ≡ ok r → Fails r
     unfolding enter nested
     enter-fails P S N u s₀ r e =
         after _ _ e (λ s ran next.

@@ -21,9 +21,9 @@ use Rattle.rules.specs.Tokens.{freeEnd, claimed}
 use Rattle.rules.specs.Steps.{Token, Taken, stepAt, afterElement, closed, Todo, take′, elements, ending, stepsOf, todoOf}
 use Rattle.rules.specs.Cells.{Cell}
 use Rattle.rules.specs.Errors.{Error}
-use Rattle.rules.specs.Run.{ok, _>>=_, State, Parsed, Call, call, withMine, Runner, Go, Next, allIn, kept, newest, spend, make, chosen}
-use Rattle.rules.specs.Run.{withToken, variants, oneRun, rounds, runCall, runIdentifier, plainNext, listNext, stops}
-use Rattle.rules.specs.Run.{reentry, enter, enterChild, follow, followed, stepUnit, orAbsent, choice, listing, steps, runner, run}
+use Rattle.rules.specs.Run.{Result, ok, _>>=_, State, Parsed, Call, call, withMine, Runner, Go, Next, allIn, kept, newest, spend, make, chosen}
+use Rattle.rules.specs.Run.{withToken, variants, oneRun, rounds, runCall, named, runIdentifier, plainNext, listNext, stops}
+use Rattle.rules.specs.Run.{nested, reentry, enter, enterChild, followMore, follow, followed, stepUnit, orAbsent, choice, listing, steps, runner, run}
 use Rattle.rules.specs.Exactness.Lists.{_∈_, nth}
 use Rattle.rules.specs.Exactness.Results.{met-ok, ok-inj, none-some, after, option-cases, list-cases, governor-cases, after-cases, some-inj, taken-cases, nested-run, chosen-same}
 use Rattle.rules.specs.Exactness.Sets.{Distinct}
@@ -46,10 +46,10 @@ child-token : {M : ℕ} {t : Token} → Taken.child M ≡ Taken.token t → ⊥
 child-token e = let z : _≡_ {A = ℕ} 0 1 = cc in omega arith
 
 -- ---- States and results that differ in nothing that is held
-spend-grown : {text : List ℕ} (allowance : ℕ) (s t : State) → Tabled text (s .cells) → spend allowance s ≡ ok t → Grown text (s .cells) (t .cells)
+spend-grown : {text : List ℕ} (s t : State) → Tabled text (s .cells) → spend s ≡ ok t → Grown text (s .cells) (t .cells)
 unfolding spend
-spend-grown {text} allowance s t h e =
-    by-test (ltb (s .work) allowance)
+spend-grown {text} s t h e =
+    by-test (ltb 0 (s .units))
     (λ p. subst (λ (z : State). Grown text (s .cells) (z .cells)) (ok-inj (rw p at e)) (grown-refl h))
     (λ p. absurd (met-ok (rw p at e)))
 
@@ -57,7 +57,7 @@ chosen-gives : {text : List ℕ} {C : List Cell} (c : Call) (at : ℕ) (a : Opti
 chosen-gives {text} {C} c at a b g =
     let k = chosen-same c at a b (λ out t. Grown text C (t .cells) × Held text (t .cells) out) (g .grown, g .set) in record { grown = k .0; set = k .1 }
 
-module _ (book : Book) (text : List ℕ) (allowance : ℕ)
+module _ (book : Book) (text : List ℕ)
     (passing-ok : (j : ℕ) → variantNumber book j .passing ≡ true → (M : ℕ) × (stepsOf book (variantNumber book j) ≡ Step.Nonterminal M ∷ [])) where
   -- the law of what is left of a variant
   abbrev Good : Runner → Type 0
@@ -116,7 +116,7 @@ module _ (book : Book) (text : List ℕ) (allowance : ℕ)
         (λ t. gives-ok (rw t at (rw found at next)) (record { grown = g .grown; set = g .set }))))
 
   identifier-gives : (c : Call) (s : State) (r : Parsed) → Tabled text (s .cells) → runIdentifier book text c s ≡ ok r → Gives text (s .cells) r
-  unfolding runIdentifier
+  unfolding runIdentifier named
   identifier-gives c s r h e =
       by-test (claimed book text (c .path) base (c .start))
       (λ t. gives-ok (rw t at e) (record { grown = grown-refl h; set = holds-none }))
@@ -128,7 +128,7 @@ module _ (book : Book) (text : List ℕ) (allowance : ℕ)
 
   -- ---- One level of nesting
   reentry-gives : (inner : Option Runner) (l : List (Parse ℕ)) (d : Error) (s : State) → Tabled text (s .cells) → Held text (s .cells) l →
-      Gives text (s .cells) (reentry book text allowance inner l d s)
+      Gives text (s .cells) (reentry book text inner l d s)
   unfolding reentry
   reentry-gives inner [] d s h l = record { grown = grown-refl h; set = l }
   reentry-gives inner (p ∷ ps) d s h l = record { grown = grown-refl h; set = l }
@@ -187,15 +187,15 @@ module _ (book : Book) (text : List ℕ) (allowance : ℕ)
     opened P S N u h k = record { tabled = h; stored = k; mine = holds-none; set = holds-none }
 
     enter-gives : (P : Path) (S : List (List (Parse ℕ))) (N u : ℕ) (s : State) (r : Parsed) → Tabled text (s .cells) →
-        ((i : ℕ) → Held text (s .cells) (nth S i)) → enter book text allowance inner P S N u s ≡ ok r → Gives text (s .cells) r
+        ((i : ℕ) → Held text (s .cells) (nth S i)) → enter book text inner P S N u s ≡ ok r → Gives text (s .cells) r
     unfolding enter
     enter-gives P S N u s₀ r h k e =
         after _ _ e (λ s spent next.
-        let g = spend-grown allowance s₀ s h spent in
+        let g = spend-grown s₀ s h spent in
         let stored : (i : ℕ) → Held text (s .cells) (nth S i) = λ i. holds-still (g .prefix) (k i) in
         gives-from g
         (governor-cases (governor P base N u)
-        (λ m gov. nested-run book text allowance inner s _ (rw gov at next) (λ f there ran. by-test (hasMark book 2 N)
+        (λ m gov. nested-run book text inner s _ (rw gov at next) (λ f there ran. by-test (hasMark book 2 N)
         (λ mark. identifier-gives (call P S N u []) s r (g .tabled) (rw mark at ran))
         (λ mark. after _ _ (rw mark at ran) (λ a called is.
         let o = run-call-gives f (goods f there) (call P S N u []) m _ a (opened P S N u (g .tabled) stored) called in
@@ -208,25 +208,36 @@ module _ (book : Book) (text : List ℕ) (allowance : ℕ)
     around c h zero = h .mine
     around c h (suc i) = h .stored i
 
+    -- one parse is followed, and then the others
+    one-gives : (C : List Cell) (c : Call) (next : Next) → GoodNext C c next → (q : Parse ℕ) (qs set : List (Parse ℕ)) (s : State) (r : Parsed) (k : Parsed → Result Parsed) →
+        Prefix C (s .cells) → Ready text (s .cells) c set → ((o : Parse ℕ) → o ∈ (q ∷ qs) → Item text (s .cells) (o .value)) →
+        (nested book text inner s (λ f. next q s f set) >>= k) ≡ ok r →
+        ((a : Parsed) → Prefix C (a .state .cells) → Ready text (a .state .cells) c (a .set) → ((o : Parse ℕ) → o ∈ qs → Item text (a .state .cells) (o .value)) → k a ≡ ok r →
+        Gives text (a .state .cells) r) → Gives text (s .cells) r
+    one-gives C c next good q qs set s r k p h i e others =
+        after _ _ e (λ a first-ran then-ran.
+        nested-run book text inner s _ first-ran (λ f there ran.
+        let g = good q s f set a (goods f there) p h (i q (List·Memᴰ·head refl)) ran in
+        let p′ = g .grown .prefix in
+        gives-from (g .grown) (others a (prefix-then p p′) (ready-after h g) (λ o m. item-still text p′ (o .value) (i o (List·Memᴰ·tail m))) then-ran)))
+
+    follow-more-gives : (C : List Cell) (c : Call) (next : Next) → GoodNext C c next → (qs set : List (Parse ℕ)) (d : Option Error) (s : State) (r : Parsed) → Prefix C (s .cells) →
+        Ready text (s .cells) c set → ((q : Parse ℕ) → q ∈ qs → Item text (s .cells) (q .value)) → followMore book text inner next qs set d s ≡ ok r → Gives text (s .cells) r
+    unfolding followMore
+    follow-more-gives C c next good [] set d s r p h i e = gives-ok e (gives-set h)
+    follow-more-gives C c next good (q ∷ qs) set d s r p h i e =
+        one-gives C c next good q qs set s r _ p h i e (λ a p′ h′ i′ ran. follow-more-gives C c next good qs (a .set) _ (a .state) r p′ h′ i′ ran)
+
     follow-gives : (C : List Cell) (c : Call) (next : Next) → GoodNext C c next → (qs set : List (Parse ℕ)) (s : State) (r : Parsed) → Prefix C (s .cells) →
         Ready text (s .cells) c set → ((q : Parse ℕ) → q ∈ qs → Item text (s .cells) (q .value)) →
-        follow book text allowance inner next qs set s ≡ ok r → Gives text (s .cells) r
+        follow book text inner next qs set s ≡ ok r → Gives text (s .cells) r
     unfolding follow
     follow-gives C c next good [] set s r p h i e = gives-ok e (gives-set h)
-    follow-gives C c next good (q ∷ []) set s r p h i e =
-        nested-run book text allowance inner s _ e (λ f there ran. good q s f set r (goods f there) p h (i q (List·Memᴰ·head refl)) ran)
-    follow-gives C c next good (q ∷ q′ ∷ qs) set s r p h i e =
-        after _ _ e (λ a first-ran others.
-        nested-run book text allowance inner s _ first-ran (λ f there ran.
-        let g = good q s f set a (goods f there) p h (i q (List·Memᴰ·head refl)) ran in
-        after _ _ others (λ b others-ran is.
-        let p′ = g .grown .prefix in
-        let i′ : (o : Parse ℕ) → o ∈ (q′ ∷ qs) → Item text (a .state .cells) (o .value) = λ o m. item-still text p′ (o .value) (i o (List·Memᴰ·tail m)) in
-        let k = follow-gives C c next good (q′ ∷ qs) (a .set) (a .state) b (prefix-then p p′) (ready-after h g) i′ others-ran in
-        gives-ok is (record { grown = grown-then (g .grown) (k .grown); set = k .set }))))
+    follow-gives C c next good (q ∷ qs) set s r p h i e =
+        one-gives C c next good q qs set s r _ p h i e (λ a p′ h′ i′ ran. follow-more-gives C c next good qs (a .set) _ (a .state) r p′ h′ i′ ran)
 
     followed-gives : (C : List Cell) (c : Call) (next : Next) → GoodNext C c next → (set : List (Parse ℕ)) (a r : Parsed) → Prefix C (a .state .cells) →
-        Ready text (a .state .cells) c set → Held text (a .state .cells) (a .set) → followed book text allowance inner next set a ≡ ok r →
+        Ready text (a .state .cells) c set → Held text (a .state .cells) (a .set) → followed book text inner next set a ≡ ok r →
         Gives text (a .state .cells) r
     unfolding followed
     followed-gives C c next good set a r p h k e =
@@ -235,8 +246,8 @@ module _ (book : Book) (text : List ℕ) (allowance : ℕ)
         (λ d failed. gives-ok (rw failed at e) (gives-set h))
 
     child-gives : (C : List Cell) (c : Call) (j M x : ℕ) (next : Next) → GoodNext C c next → (set : List (Parse ℕ)) (s : State) (a r : Parsed) →
-        Prefix C (s .cells) → Ready text (s .cells) c set → enterChild book text allowance inner c j M x s ≡ ok a →
-        followed book text allowance inner next set a ≡ ok r → Gives text (s .cells) r
+        Prefix C (s .cells) → Ready text (s .cells) c set → enterChild book text inner c j M x s ≡ ok a →
+        followed book text inner next set a ≡ ok r → Gives text (s .cells) r
     unfolding enterChild
     child-gives C c j M x next good set s a r p h entered e =
         let g = enter-gives _ (c .mine ∷ c .stored) M (skipFrom text x) s a (h .tabled) (around c h) entered in
@@ -244,8 +255,8 @@ module _ (book : Book) (text : List ℕ) (allowance : ℕ)
 
     -- both sides of a choice: one side has the result a, and then a child is tried
     sides-give : (c : Call) (j M x : ℕ) (next : Next) (set : List (Parse ℕ)) (s : State) (a b d : Parsed) → GoodNext (s .cells) c next →
-        Ready text (s .cells) c set → Gives text (s .cells) a → enterChild book text allowance inner c j M x (a .state) ≡ ok b →
-        followed book text allowance inner next (a .set) b ≡ ok d → Gives text (s .cells) (chosen c (skipFrom text x) (a .failure) d)
+        Ready text (s .cells) c set → Gives text (s .cells) a → enterChild book text inner c j M x (a .state) ≡ ok b →
+        followed book text inner next (a .set) b ≡ ok d → Gives text (s .cells) (chosen c (skipFrom text x) (a .failure) d)
     sides-give c j M x next set s a b d good h g entered e =
         chosen-gives c (skipFrom text x) (a .failure) d
         (gives-from (g .grown) (child-gives (s .cells) c j M x next good (a .set) (a .state) b d (g .grown .prefix) (ready-after h g) entered e))
@@ -253,7 +264,7 @@ module _ (book : Book) (text : List ℕ) (allowance : ℕ)
     -- ---- Steps
     module _ (c : Call) (j : ℕ) (rest : List (Todo ℕ)) (go : Go) (good : GoodGo c j rest go) where
       or-absent-gives : (M x items : ℕ) (set : List (Parse ℕ)) (s : State) (r : Parsed) → Ready text (s .cells) c set →
-          Wants book text (s .cells) j rest items → orAbsent book text allowance inner c j M rest go x items set s ≡ ok r → Gives text (s .cells) r
+          Wants book text (s .cells) j rest items → orAbsent book text inner c j M rest go x items set s ≡ ok r → Gives text (s .cells) r
       unfolding orAbsent
       or-absent-gives M x items set s r h w e =
           after _ _ e (λ absent missing e₁. after _ _ e₁ (λ m linked e₂. after _ _ e₂ (λ a ran e₃. after _ _ e₃ (λ b entered e₄. after _ _ e₄ (λ d tried is.
@@ -267,11 +278,11 @@ module _ (book : Book) (text : List ℕ) (allowance : ℕ)
 
       choice-gives : (comma : Bool) (M values : ℕ) (close : Option ℕ) (x items : ℕ) (set : List (Parse ℕ)) (s : State) (r : Parsed) →
           Ready text (s .cells) c set → List-left book text (s .cells) j values rest items →
-          choice book text allowance inner c j comma M values close rest go x items set s ≡ ok r → Gives text (s .cells) r
+          choice book text inner c j comma M values close rest go x items set s ≡ ok r → Gives text (s .cells) r
       unfolding choice
       choice-gives comma M values close x items set s₀ r h₀ l₀ e =
           after _ _ e (λ s spent e₁. after _ _ e₁ (λ a stopped e₂. after _ _ e₂ (λ b entered e₃. after _ _ e₃ (λ d tried is.
-          let way = spend-grown allowance s₀ s (h₀ .tabled) spent in
+          let way = spend-grown s₀ s (h₀ .tabled) spent in
           let h = ready-still way h₀ in
           let l = list-still rest items (way .prefix) l₀ in
           let g = stops-give c j values close rest go good x items set s a h l stopped in
@@ -282,7 +293,7 @@ module _ (book : Book) (text : List ℕ) (allowance : ℕ)
 
       listing-gives : (comma : Bool) (M : ℕ) (close : Option ℕ) (x items : ℕ) (set : List (Parse ℕ)) (s : State) (r : Parsed) →
           Ready text (s .cells) c set → Wants book text (s .cells) j rest items →
-          listing book text allowance inner c j comma M close rest go x items set s ≡ ok r → Gives text (s .cells) r
+          listing book text inner c j comma M close rest go x items set s ≡ ok r → Gives text (s .cells) r
       unfolding listing
       listing-gives comma M close x items set s r h w e =
           after _ _ e (λ m begun next.
@@ -315,15 +326,15 @@ module _ (book : Book) (text : List ℕ) (allowance : ℕ)
     not-passing j step rest x items t l e passing =
         let k = l .passing passing .0 in child-token (sym (ap (λ (z : Step). stepAt book text z x) (k .1)) ∙ e)
 
-    unit-grown : (step : Step) (s t : State) → Tabled text (s .cells) → stepUnit book text allowance inner step s ≡ ok t → Grown text (s .cells) (t .cells)
+    unit-grown : (step : Step) (s t : State) → Tabled text (s .cells) → stepUnit book text inner step s ≡ ok t → Grown text (s .cells) (t .cells)
     unfolding stepUnit
     unit-grown step s t h e =
         by-test (between 10 11 (stepNumber step))
         (λ p. subst (λ (z : State). Grown text (s .cells) (z .cells)) (ok-inj (rw p at e)) (grown-refl h))
-        (λ p. spend-grown allowance s t h (rw p at e))
+        (λ p. spend-grown s t h (rw p at e))
 
-    take-gives : (c : Call) (j : ℕ) (step : Step) (rest : List (Todo ℕ)) → GoodGo c j rest (steps book text allowance inner c j rest) →
-        GoodGo c j (take′ step ∷ rest) (steps book text allowance inner c j (take′ step ∷ rest))
+    take-gives : (c : Call) (j : ℕ) (step : Step) (rest : List (Todo ℕ)) → GoodGo c j rest (steps book text inner c j rest) →
+        GoodGo c j (take′ step ∷ rest) (steps book text inner c j (take′ step ∷ rest))
     unfolding steps
     take-gives c j step rest good x items set s₀ r h₀ l₀ e =
         after _ _ e (λ s unit ran.
@@ -341,25 +352,25 @@ module _ (book : Book) (text : List ℕ) (allowance : ℕ)
         (λ comma M close y takes. listing-gives c j rest _ good comma M close y items set s r h w (rw takes at ran))
         (λ y takes. unopened-gives c j rest _ good y items set s r h w (rw takes at ran))))
 
-    steps-give : Good (steps book text allowance inner)
+    steps-give : Good (steps book text inner)
     unfolding steps
     steps-give c j [] x items set s r h l e = complete-gives book text j x items set s r h l e
     steps-give c j (elements comma M values close ∷ rest) x items set s r h l e =
-        choice-gives c j rest (steps book text allowance inner c j rest) (steps-give c j rest) comma M values close x items set s r h (elements-left l) e
+        choice-gives c j rest (steps book text inner c j rest) (steps-give c j rest) comma M values close x items set s r h (elements-left l) e
     steps-give c j (ending values close ∷ rest) x items set s r h l e =
-        stops-give c j values close rest (steps book text allowance inner c j rest) (steps-give c j rest) x items set s r h (ending-left l) e
+        stops-give c j values close rest (steps book text inner c j rest) (steps-give c j rest) x items set s r h (ending-left l) e
     steps-give c j (take′ step ∷ rest) x items set s r h l e = take-gives c j step rest (steps-give c j rest) x items set s r h l e
 
   -- ---- The whole run
-  runner-good : (n : ℕ) (f : Runner) → runner book text allowance n ≡ some f → Good f
+  runner-good : (n : ℕ) (f : Runner) → runner book text n ≡ some f → Good f
   unfolding runner
   runner-good zero f e = absurd (none-some e)
-  runner-good (suc n) f e = subst Good (some-inj e) (steps-give (runner book text allowance n) (runner-good n))
+  runner-good (suc n) f e = subst Good (some-inj e) (steps-give (runner book text n) (runner-good n))
 
   -- the table, the values and the set with which the run ends
-  pub run-keeps : (start : ℕ) (r : Parsed) → run book text allowance start ≡ ok r → Kept text r
+  pub run-keeps : (allowance start : ℕ) (r : Parsed) → run book text allowance start ≡ ok r → Kept text r
   unfolding run
-  run-keeps start r e =
+  run-keeps allowance start r e =
       let tabled : Tabled text [] = record { table = no-cells; cells = omega arith } in
-      let g = enter-gives (runner book text allowance 200) (runner-good 200) [] [] start (skipFrom text 0) _ r tabled (λ i. holds-none) e in
+      let g = enter-gives (runner book text 200) (runner-good 200) [] [] start (skipFrom text 0) _ r tabled (λ i. holds-none) e in
       record { table = g .grown .tabled .table; cells = g .grown .tabled .cells; values = g .set .values; distinct = g .set .distinct; size = g .set .size }

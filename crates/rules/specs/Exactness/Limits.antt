@@ -20,24 +20,24 @@ use Rattle.rules.specs.Steps.{Item, stepAt, afterElement, closed, Todo, 
 use Rattle.rules.specs.Cells.{Cell, findCell}
 use Rattle.rules.specs.Errors.{Error}
 use Rattle.rules.specs.Run.{Result, met, ok, _>>=_, State, Parsed, Call, Runner, Go, Next, has, allIn, newest, add, addAll, spend, make, begin, withCell}
-use Rattle.rules.specs.Run.{withToken, complete, variants, oneRun, rounds, runCall, runIdentifier, plainNext, listNext, stops, nested, enter, enterChild}
-use Rattle.rules.specs.Run.{follow, followed, stepUnit, orAbsent, choice, listing, steps, runner, run}
+use Rattle.rules.specs.Run.{withToken, complete, variants, oneRun, rounds, runCall, named, runIdentifier, plainNext, listNext, stops, nested, enter, enterChild}
+use Rattle.rules.specs.Run.{followMore, follow, followed, stepUnit, orAbsent, choice, listing, steps, runner, run}
 use Rattle.rules.specs.Exactness.Results.{met-ok, option-cases, list-cases, governor-cases, after-cases, taken-cases}
 
 -- no other limit than 20 to 23
 pub record Limited {A : Type 0} (x : Result A) : Type 0 where
-  pub limits : (number work : ℕ) → x ≡ met number work → between 20 23 number ≡ true
+  pub limits : (number units : ℕ) → x ≡ met number units → between 20 23 number ≡ true
 
-met-number : {A : Type 0} {n w number work : ℕ} → _≡_ {A = Result A} (met n w) (met number work) → n ≡ number
+met-number : {A : Type 0} {n w number units : ℕ} → _≡_ {A = Result A} (met n w) (met number units) → n ≡ number
 met-number e = cc
 
 -- a limit from 20 to 23
 meets : {A : Type 0} (n w : ℕ) → between 20 23 n ≡ true → Limited {A = A} (met n w)
-meets n w b = record { limits = λ number work e. subst (λ z. between 20 23 z ≡ true) (met-number e) b }
+meets n w b = record { limits = λ number units e. subst (λ z. between 20 23 z ≡ true) (met-number e) b }
 
 -- a result is no limit
 done : {A : Type 0} {a : A} → Limited (ok a)
-done = record { limits = λ number work e. absurd (met-ok (sym e)) }
+done = record { limits = λ number units e. absurd (met-ok (sym e)) }
 
 -- two parts one after the other
 then : {A B : Type 0} (m : Result A) (f : A → Result B) → Limited m → ((a : A) → Limited (f a)) → Limited (m >>= f)
@@ -60,26 +60,26 @@ LimitedGo go = (x items : ℕ) (set : List (Parse ℕ)) (s : State) → Limited 
 abbrev LimitedNext : Next → Type 0
 LimitedNext next = (q : Parse ℕ) (s : State) (f : Runner) (set : List (Parse ℕ)) → LimitedRunner f → Limited (next q s f set)
 
--- ---- Sets, work and cells
+-- ---- Sets, units and cells
 add-limited : (s : State) (set : List (Parse ℕ)) (p : Parse ℕ) → Limited (add s set p)
 unfolding add
 add-limited s set p =
-    by-test (has set p) (λ t. rw t done) (λ t. by-test (ltb (length set) 64) (λ u. rw (t, u) done) (λ u. rw (t, u) (meets 22 (s .work) refl)))
+    by-test (has set p) (λ t. rw t done) (λ t. by-test (ltb (length set) 64) (λ u. rw (t, u) done) (λ u. rw (t, u) (meets 22 (s .units) refl)))
 
 add-all-limited : (s : State) (set ps : List (Parse ℕ)) → Limited (addAll s set ps)
 unfolding addAll
 add-all-limited s set [] = done
 add-all-limited s set (p ∷ ps) = then _ _ (add-limited s set p) (λ more. add-all-limited s more ps)
 
-spend-limited : (allowance : ℕ) (s : State) → Limited (spend allowance s)
+spend-limited : (s : State) → Limited (spend s)
 unfolding spend
-spend-limited allowance s = by-test (ltb (s .work) allowance) (λ t. rw t done) (λ t. rw t (meets 20 allowance refl))
+spend-limited s = by-test (ltb 0 (s .units)) (λ t. rw t done) (λ t. rw t (meets 20 0 refl))
 
 make-limited : (text : List ℕ) (c : Cell) (s : State) → Limited (make text c s)
 unfolding make
 make-limited text c s =
     by-test (eqb (findCell text c 1 (s .cells)) 0)
-    (λ t. by-test (ltb (length (s .cells)) 4096) (λ u. rw (t, u) done) (λ u. rw (t, u) (meets 23 (s .work) refl)))
+    (λ t. by-test (ltb (length (s .cells)) 4096) (λ u. rw (t, u) done) (λ u. rw (t, u) (meets 23 (s .units) refl)))
     (λ t. rw t done)
 
 module _ (book : Book) (text : List ℕ) where
@@ -119,7 +119,7 @@ module _ (book : Book) (text : List ℕ) where
 
     rounds-limited : (n : ℕ) (c : Call) (m : ℕ) (s : State) → Limited (rounds book text n f c m s)
     unfolding rounds
-    rounds-limited zero c m s = meets 22 (s .work) refl
+    rounds-limited zero c m s = meets 22 (s .units) refl
     rounds-limited (suc n) c m s =
         then _ _ (one-run-limited c m s) (λ r.
         by-test (allIn (c .mine) (r .set))
@@ -135,7 +135,7 @@ module _ (book : Book) (text : List ℕ) where
         (λ p ps there. by-test (newest (r .state .asked)) (λ t. rw (there, t) (rounds-limited 65 _ m (r .state))) (λ t. rw (there, t) done)))
 
   identifier-limited : (c : Call) (s : State) → Limited (runIdentifier book text c s)
-  unfolding runIdentifier
+  unfolding runIdentifier named
   identifier-limited c s =
       by-test (claimed book text (c .path) base (c .start))
       (λ t. rw t done)
@@ -166,45 +166,49 @@ module _ (book : Book) (text : List ℕ) where
       (λ y ends. rw ends (then _ _ (with-cell-limited j items (l .cell) (l .state)) (λ m. h y (m .cell) set (m .state)))))
 
   -- ---- One level of nesting
-  nested-limited : (allowance : ℕ) (inner : Option Runner) → LimitedInner inner → (s : State) (k : Runner → Result Parsed) →
-      ((f : Runner) → LimitedRunner f → Limited (k f)) → Limited (nested book text allowance inner s k)
+  nested-limited : (inner : Option Runner) → LimitedInner inner → (s : State) (k : Runner → Result Parsed) →
+      ((f : Runner) → LimitedRunner f → Limited (k f)) → Limited (nested book text inner s k)
   unfolding nested
-  nested-limited allowance none i s k h = meets 21 (s .work) refl
-  nested-limited allowance (some f) i s k h = h f i
+  nested-limited none i s k h = meets 21 (s .units) refl
+  nested-limited (some f) i s k h = h f i
 
-  module _ (allowance : ℕ) (inner : Option Runner) (limited : LimitedInner inner) where
-    enter-limited : (P : Path) (S : List (List (Parse ℕ))) (N u : ℕ) (s : State) → Limited (enter book text allowance inner P S N u s)
+  module _ (inner : Option Runner) (limited : LimitedInner inner) where
+    enter-limited : (P : Path) (S : List (List (Parse ℕ))) (N u : ℕ) (s : State) → Limited (enter book text inner P S N u s)
     unfolding enter
     enter-limited P S N u s₀ =
-        then _ _ (spend-limited allowance s₀) (λ s.
+        then _ _ (spend-limited s₀) (λ s.
         governor-cases (governor P base N u)
-        (λ m gov. rw gov (nested-limited allowance inner limited s _ (λ f h.
+        (λ m gov. rw gov (nested-limited inner limited s _ (λ f h.
         by-test (hasMark book 2 N)
         (λ mark. rw mark (identifier-limited _ s))
         (λ mark. rw mark (then _ _ (run-call-limited f h _ m _) (λ r. done))))))
         (λ i f Q gov. rw gov done))
 
-    enter-child-limited : (c : Call) (j M x : ℕ) (s : State) → Limited (enterChild book text allowance inner c j M x s)
+    enter-child-limited : (c : Call) (j M x : ℕ) (s : State) → Limited (enterChild book text inner c j M x s)
     unfolding enterChild
     enter-child-limited c j M x s = enter-limited _ _ M _ s
 
-    follow-limited : (next : Next) → LimitedNext next → (qs set : List (Parse ℕ)) (s : State) → Limited (follow book text allowance inner next qs set s)
+    follow-more-limited : (next : Next) → LimitedNext next → (qs set : List (Parse ℕ)) (d : Option Error) (s : State) → Limited (followMore book text inner next qs set d s)
+    unfolding followMore
+    follow-more-limited next h [] set d s = done
+    follow-more-limited next h (q ∷ qs) set d s =
+        then _ _ (nested-limited inner limited s _ (λ f g. h q s f set g)) (λ a. follow-more-limited next h qs (a .set) _ (a .state))
+
+    follow-limited : (next : Next) → LimitedNext next → (qs set : List (Parse ℕ)) (s : State) → Limited (follow book text inner next qs set s)
     unfolding follow
     follow-limited next h [] set s = done
-    follow-limited next h (q ∷ []) set s = nested-limited allowance inner limited s _ (λ f g. h q s f set g)
-    follow-limited next h (q ∷ r ∷ qs) set s =
-        then _ _ (nested-limited allowance inner limited s _ (λ f g. h q s f set g)) (λ a.
-        then _ _ (follow-limited next h (r ∷ qs) (a .set) (a .state)) (λ b. done))
+    follow-limited next h (q ∷ qs) set s =
+        then _ _ (nested-limited inner limited s _ (λ f g. h q s f set g)) (λ a. follow-more-limited next h qs (a .set) (a .failure) (a .state))
 
-    followed-limited : (next : Next) → LimitedNext next → (set : List (Parse ℕ)) (r : Parsed) → Limited (followed book text allowance inner next set r)
+    followed-limited : (next : Next) → LimitedNext next → (set : List (Parse ℕ)) (r : Parsed) → Limited (followed book text inner next set r)
     unfolding followed
     followed-limited next h set r = option-cases (r .failure) (λ found. rw found (follow-limited next h (r .set) set (r .state))) (λ e fails. rw fails done)
 
-    step-unit-limited : (step : Step) (s : State) → Limited (stepUnit book text allowance inner step s)
+    step-unit-limited : (step : Step) (s : State) → Limited (stepUnit book text inner step s)
     unfolding stepUnit
-    step-unit-limited step s = by-test (between 10 11 (stepNumber step)) (λ t. rw t done) (λ t. rw t (spend-limited allowance s))
+    step-unit-limited step s = by-test (between 10 11 (stepNumber step)) (λ t. rw t done) (λ t. rw t (spend-limited s))
 
-    or-absent-limited : (c : Call) (j M : ℕ) (rest : List (Todo ℕ)) (go : Go) → LimitedGo go → LimitedGo (orAbsent book text allowance inner c j M rest go)
+    or-absent-limited : (c : Call) (j M : ℕ) (rest : List (Todo ℕ)) (go : Go) → LimitedGo go → LimitedGo (orAbsent book text inner c j M rest go)
     unfolding orAbsent
     or-absent-limited c j M rest go h x items set s =
         then _ _ (make-limited text Cell.absent s) (λ absent.
@@ -214,28 +218,28 @@ module _ (book : Book) (text : List ℕ) where
         then _ _ (followed-limited _ (plain-next-limited c j rest items) (a .set) r) (λ b. done)))))
 
     choice-limited : (c : Call) (j : ℕ) (comma : Bool) (M values : ℕ) (close : Option ℕ) (rest : List (Todo ℕ)) (go : Go) → LimitedGo go →
-        LimitedGo (choice book text allowance inner c j comma M values close rest go)
+        LimitedGo (choice book text inner c j comma M values close rest go)
     unfolding choice
     choice-limited c j comma M values close rest go h x items set s₀ =
-        then _ _ (spend-limited allowance s₀) (λ s.
+        then _ _ (spend-limited s₀) (λ s.
         then _ _ (stops-limited j values close go h x items set s) (λ a.
         then _ _ (enter-child-limited c j M x (a .state)) (λ r.
         then _ _ (followed-limited _ (list-next-limited c j comma M values close rest items) (a .set) r) (λ b. done))))
 
     listing-limited : (c : Call) (j : ℕ) (comma : Bool) (M : ℕ) (close : Option ℕ) (rest : List (Todo ℕ)) (go : Go) → LimitedGo go →
-        LimitedGo (listing book text allowance inner c j comma M close rest go)
+        LimitedGo (listing book text inner c j comma M close rest go)
     unfolding listing
     listing-limited c j comma M close rest go h x items set s =
         then _ _ (make-limited text Cell.empty s) (λ e. choice-limited c j comma M (e .cell) close rest go h x items set (e .state))
 
-    steps-limited : LimitedRunner (steps book text allowance inner)
+    steps-limited : LimitedRunner (steps book text inner)
     unfolding steps
     steps-limited c j [] x items set s = complete-limited j x items set s
     steps-limited c j (elements comma M values close ∷ rest) x items set s =
         choice-limited c j comma M values close rest _ (λ y is u t. steps-limited c j rest y is u t) x items set s
     steps-limited c j (ending values close ∷ rest) x items set s = stops-limited j values close _ (λ y is u t. steps-limited c j rest y is u t) x items set s
     steps-limited c j (take′ step ∷ rest) x items set s₀ =
-        let go = steps book text allowance inner c j rest in
+        let go = steps book text inner c j rest in
         let h : LimitedGo go = λ y is u t. steps-limited c j rest y is u t in
         then _ _ (step-unit-limited step s₀) (λ s.
         taken-cases (stepAt book text step x)
@@ -247,13 +251,13 @@ module _ (book : Book) (text : List ℕ) where
         (λ y takes. rw takes (then _ _ (make-limited text Cell.empty s) (λ e. stops-limited j (e .cell) none go h y items set (e .state)))))
 
 -- ---- The whole run
-runner-limited : (book : Book) (text : List ℕ) (allowance n : ℕ) → LimitedInner (runner book text allowance n)
+runner-limited : (book : Book) (text : List ℕ) (n : ℕ) → LimitedInner (runner book text n)
 unfolding runner
-runner-limited book text allowance zero = tt
-runner-limited book text allowance (suc n) = steps-limited book text allowance (runner book text allowance n) (runner-limited book text allowance n)
+runner-limited book text zero = tt
+runner-limited book text (suc n) = steps-limited book text (runner book text n) (runner-limited book text n)
 
-pub run-limits : (book : Book) (text : List ℕ) (allowance start number work : ℕ) → run book text allowance start ≡ met number work →
+pub run-limits : (book : Book) (text : List ℕ) (allowance start number units : ℕ) → run book text allowance start ≡ met number units →
     between 20 23 number ≡ true
 unfolding run
-run-limits book text allowance start number work e =
-    enter-limited book text allowance (runner book text allowance 200) (runner-limited book text allowance 200) [] [] start _ _ .limits number work e
+run-limits book text allowance start number units e =
+    enter-limited book text (runner book text 200) (runner-limited book text 200) [] [] start _ _ .limits number units e

@@ -18,7 +18,7 @@ use Rattle.rules.specs.Tokens.{freeEnd, claimed}
 use Rattle.rules.specs.Steps.{Todo, take′, elements, ending, stepsOf, todoOf}
 use Rattle.rules.specs.Cells.{Cell}
 use Rattle.rules.specs.Errors.{Error}
-use Rattle.rules.specs.Run.{ok, State, Parsed, parsed, Made, Call, call, withMine, Runner, allIn, kept, ask, newest, others, withAsked, spend, variants, oneRun, rounds, runCall, runIdentifier, reentry, enter, run}
+use Rattle.rules.specs.Run.{ok, State, Parsed, parsed, Made, Call, call, withMine, Runner, allIn, kept, ask, newest, others, withAsked, spend, variants, oneRun, rounds, runCall, named, runIdentifier, reentry, enter, run}
 use Rattle.rules.specs.Exactness.Lists.{_∈_, sift, nth, Joins, either}
 use Rattle.rules.specs.Exactness.BigStep.{Open, open′, identifiers, Enters, again, identifier, quiet, barren, grown, Runs, runs, Rounds, last, more, Variants, no-more, too-low, taken, Steps}
 use Rattle.rules.specs.Exactness.Results.{met-ok, ok-inj, got, after, option-cases, list-cases, governor-cases, nested-run}
@@ -53,7 +53,7 @@ module _ (text : List ℕ) (Cf : List Cell) where
   steps-for [] = refl
   steps-for (s ∷ l) = ap (λ (t : List (Todo Trees)). take′ s ∷ t) (steps-for l)
 
-module _ (book : Book) (text : List ℕ) (allowance : ℕ) (Cf : List Cell) (table : Table text Cf) where
+module _ (book : Book) (text : List ℕ) (Cf : List Cell) (table : Table text Cf) where
   -- what the relation finds, of a variant's rest, beside a set
   pub record Finds (c : Call) (j : ℕ) (todo : List (Todo ℕ)) (x : ℕ) (ts : Trees) (set : List (Parse ℕ)) (s : State) (out : List (Parse ℕ)) (t : State) : Type 0 where
     pub R : List (Parse Tree)
@@ -78,10 +78,10 @@ module _ (book : Book) (text : List ℕ) (allowance : ℕ) (Cf : List Cell) (tab
   }
 
   -- a state with another work figure
-  pub spend-way : (s t : State) → spend allowance s ≡ ok t → Before Cf t → Way Cf s t
+  pub spend-way : (s t : State) → spend s ≡ ok t → Before Cf t → Way Cf s t
   unfolding spend
   spend-way s t e b =
-      by-test (ltb (s .work) allowance)
+      by-test (ltb 0 (s .units))
       (λ p. subst (λ z. Before Cf z → Way Cf s z) (ok-inj (rw p at e)) (λ b′. record { back = b′; asked = refl }) b)
       (λ p. absurd (met-ok (rw p at e)))
 
@@ -202,7 +202,7 @@ module _ (book : Book) (text : List ℕ) (allowance : ℕ) (Cf : List Cell) (tab
     missing-ok s e is b = record { back = b; run = identifier gov mark is refl }
 
     identifier-ok : (s : State) (r : Parsed) → runIdentifier book text (call P S N u []) s ≡ ok r → Before Cf (r .state) → EnterOk P S N u s r
-    unfolding runIdentifier
+    unfolding runIdentifier named
     identifier-ok s r e b =
         by-test (claimed book text P base u)
         (λ t. subst (λ (z : Parsed). Before Cf (z .state) → EnterOk P S N u s z) (ok-inj (rw t at e)) (missing-ok s _ (rw t refl)) b)
@@ -219,12 +219,12 @@ module _ (book : Book) (text : List ℕ) (allowance : ℕ) (Cf : List Cell) (tab
         }) b))
 
   reentry-ok : (inner : Option Runner) (P Q : Path) (S : List (List (Parse ℕ))) (N u i : ℕ) (f : Use) (l : List (Parse ℕ)) (e : Error) (s t : State) → governor P base N u ≡ same-start i f Q →
-      trees text Cf l ≡ sift (keeps f) (nth (map (trees text Cf) S) i) → t .asked ≡ ask i (s .asked) → Before Cf s → EnterOk P S N u s (reentry book text allowance inner l e t)
+      trees text Cf l ≡ sift (keeps f) (nth (map (trees text Cf) S) i) → t .asked ≡ ask i (s .asked) → Before Cf s → EnterOk P S N u s (reentry book text inner l e t)
   unfolding reentry
   reentry-ok inner P Q S N u i f [] e s t gov is marks b = record { back = b; run = again gov is marks }
   reentry-ok inner P Q S N u i f (p ∷ ps) e s t gov is marks b = record { back = b; run = again gov is marks }
 
-  reentry-state : (inner : Option Runner) (l : List (Parse ℕ)) (e : Error) (t : State) → reentry book text allowance inner l e t .state ≡ t
+  reentry-state : (inner : Option Runner) (l : List (Parse ℕ)) (e : Error) (t : State) → reentry book text inner l e t .state ≡ t
   unfolding reentry
   reentry-state inner [] e t = refl
   reentry-state inner (p ∷ ps) e t = refl
@@ -242,12 +242,12 @@ module _ (book : Book) (text : List ℕ) (allowance : ℕ) (Cf : List Cell) (tab
         EnterOk P S N u s r
     call-ok P S N u s a r o is = subst (λ z. EnterOk P S N u s z) is (record { back = o .back; run = o .run })
 
-    pub enter-ok : (P : Path) (S : List (List (Parse ℕ))) (N u : ℕ) (s : State) (r : Parsed) → enter book text allowance inner P S N u s ≡ ok r → Before Cf (r .state) → EnterOk P S N u s r
+    pub enter-ok : (P : Path) (S : List (List (Parse ℕ))) (N u : ℕ) (s : State) (r : Parsed) → enter book text inner P S N u s ≡ ok r → Before Cf (r .state) → EnterOk P S N u s r
     unfolding enter
     enter-ok P S N u s₀ r e b =
         after _ _ e (λ s ran next.
         governor-cases (governor P base N u)
-        (λ m gov. nested-run book text allowance inner s _ (rw gov at next) (λ f inside-it ran-it.
+        (λ m gov. nested-run book text inner s _ (rw gov at next) (λ f inside-it ran-it.
         by-test (hasMark book 2 N)
         (λ mark. let o = identifier-ok P S N u m gov mark s r (rw mark at ran-it) b in enter-from P S N u s₀ s r (spend-way s₀ s ran (o .back)) o)
         (λ mark. after _ _ (rw mark at ran-it) (λ a called is.

@@ -14,7 +14,7 @@ use Rattle.rules.specs.Steps.{Token, Taken, stepAt, After, goes, halts, 
 use Rattle.rules.specs.Derivations.{valueOf, withItem}
 use Rattle.rules.specs.Cells.{Cell}
 use Rattle.rules.specs.Errors.{Error}
-use Rattle.rules.specs.Run.{ok, _>>=_, State, Parsed, Made, Call, Runner, Go, Next, add, make, withCell, withToken, complete, plainNext, listNext, stops, enterChild, follow, followed, stepUnit, orAbsent, choice, listing, steps, runner, run}
+use Rattle.rules.specs.Run.{ok, _>>=_, State, Parsed, Made, Call, Runner, Go, Next, add, make, withCell, withToken, complete, plainNext, listNext, stops, enterChild, nested, followMore, follow, followed, stepUnit, orAbsent, choice, listing, steps, runner, run}
 use Rattle.rules.specs.Exactness.Lists.{Joins}
 use Rattle.rules.specs.Exactness.BigStep.{around, Follows, plain, listing as listed, Left, inside, onward, resume, Enters, Steps, s-done, s-nothing, s-token, s-child, s-optional, s-list, s-unopened, s-elements, s-unclosed, s-ending, Each, e-none, e-one}
 use Rattle.rules.specs.Exactness.Results.{ok-inj, some-inj, none-some, after, option-cases, after-cases, taken-cases, nested-run, chosen-same}
@@ -24,15 +24,15 @@ use Rattle.rules.specs.Exactness.Table.{Table}
 use Rattle.rules.specs.Exactness.Made.{treeFor, treesFor, Before, Way, way-refl, make-way, made-empty, made-chain, made-variant, made-list, made-absent, Stands, with-cell-ok, with-token-ok}
 use Rattle.rules.specs.Exactness.Link.{trees, todoFor, openFor, Finds as FindsOf, RunOk as RunOkOf, Good as GoodOf, finds-from, spend-way, enter-ok}
 
-module _ (book : Book) (text : List ℕ) (allowance : ℕ) (Cf : List Cell) (table : Table text Cf) where
+module _ (book : Book) (text : List ℕ) (Cf : List Cell) (table : Table text Cf) where
   abbrev Finds : Call → ℕ → List (Todo ℕ) → ℕ → Trees → List (Parse ℕ) → State → List (Parse ℕ) → State → Type 0
-  Finds = FindsOf book text allowance Cf table
+  Finds = FindsOf book text Cf table
 
   abbrev RunOk : Call → ℕ → List (Todo ℕ) → ℕ → ℕ → List (Parse ℕ) → State → List (Parse ℕ) → State → Type 0
-  RunOk = RunOkOf book text allowance Cf table
+  RunOk = RunOkOf book text Cf table
 
   abbrev Good : Runner → Type 0
-  Good = GoodOf book text allowance Cf table
+  Good = GoodOf book text Cf table
 
   module _ (inner : Option Runner) (goods : (f : Runner) → inner ≡ some f → Good f) where
     -- ---- What follows a child's parses
@@ -70,20 +70,27 @@ module _ (book : Book) (text : List ℕ) (allowance : ℕ) (Cf : List Cell) (tab
         both : {l : Follows} → NextFinds c j l q set s mid t → EachFinds c j l qs mid t out u → EachFinds c j l (q ∷ qs) set s out u
         both f g = record { R = f .R ++ g .R; run = e-one (f .run) (g .run) (joins-append (f .R) (g .R)); joins = joins-two (f .joins) (g .joins) }
 
+    first-ok : (c : Call) (j items : ℕ) (k : Trees → Follows) (next : Next) → GoodNext c j items k next → (q : Parse ℕ) (qs set : List (Parse ℕ)) (s : State) (a r : Parsed) →
+        nested book text inner s (λ f. next q s f set) ≡ ok a → EachOk c j items k qs (a .set) (a .state) (r .set) (r .state) → EachOk c j items k (q ∷ qs) set s (r .set) (r .state)
+    first-ok c j items k next good q qs set s a r ran w =
+        nested-run book text inner s _ ran (λ f there first-ran.
+        one-then c j items k q qs set (a .set) (r .set) s (a .state) (r .state) (good q s f set a (goods f there) first-ran (w .back)) w)
+
+    follow-more-ok : (c : Call) (j items : ℕ) (k : Trees → Follows) (next : Next) → GoodNext c j items k next → (qs set : List (Parse ℕ)) (d : Option Error) (s : State) (r : Parsed) →
+        followMore book text inner next qs set d s ≡ ok r → Before Cf (r .state) → EachOk c j items k qs set s (r .set) (r .state)
+    unfolding followMore
+    follow-more-ok c j items k next good [] set d s r e b =
+        subst (λ (z : Parsed). Before Cf (z .state) → EachOk c j items k [] set s (z .set) (z .state)) (ok-inj e) (no-parses c j items k set s) b
+    follow-more-ok c j items k next good (q ∷ qs) set d s r e b =
+        after _ _ e (λ a ran others. first-ok c j items k next good q qs set s a r ran (follow-more-ok c j items k next good qs (a .set) _ (a .state) r others b))
+
     follow-ok : (c : Call) (j items : ℕ) (k : Trees → Follows) (next : Next) → GoodNext c j items k next → (qs set : List (Parse ℕ)) (s : State) (r : Parsed) →
-        follow book text allowance inner next qs set s ≡ ok r → Before Cf (r .state) → EachOk c j items k qs set s (r .set) (r .state)
+        follow book text inner next qs set s ≡ ok r → Before Cf (r .state) → EachOk c j items k qs set s (r .set) (r .state)
     unfolding follow
     follow-ok c j items k next good [] set s r e b =
         subst (λ (z : Parsed). Before Cf (z .state) → EachOk c j items k [] set s (z .set) (z .state)) (ok-inj e) (no-parses c j items k set s) b
-    follow-ok c j items k next good (q ∷ []) set s r e b =
-        nested-run book text allowance inner s _ e (λ f there ran.
-        let a = good q s f set r (goods f there) ran b in one-then c j items k q [] set (r .set) (r .set) s (r .state) (r .state) a (no-parses c j items k (r .set) (r .state) b))
-    follow-ok c j items k next good (q ∷ q′ ∷ qs) set s r e b =
-        after _ _ e (λ a ran next-ran. after _ _ next-ran (λ d followed-on is.
-        subst (λ (z : Parsed). Before Cf (z .state) → EachOk c j items k (q ∷ q′ ∷ qs) set s (z .set) (z .state)) (ok-inj is)
-        (λ b′. let w = follow-ok c j items k next good (q′ ∷ qs) (a .set) (a .state) d followed-on b′ in
-        nested-run book text allowance inner s _ ran (λ f there first-ran.
-        one-then c j items k q (q′ ∷ qs) set (a .set) (d .set) s (a .state) (d .state) (good q s f set a (goods f there) first-ran (w .back)) w)) b))
+    follow-ok c j items k next good (q ∷ qs) set s r e b =
+        after _ _ e (λ a ran others. first-ok c j items k next good q qs set s a r ran (follow-more-ok c j items k next good qs (a .set) (a .failure) (a .state) r others b))
 
     -- a child's call and what follows its parses
     record TailOk (c : Call) (j M x items : ℕ) (k : Trees → Follows) (set : List (Parse ℕ)) (s : State) (out : List (Parse ℕ)) (t : State) : Type 0 where
@@ -94,7 +101,7 @@ module _ (book : Book) (text : List ℕ) (allowance : ℕ) (Cf : List Cell) (tab
       finds : (ts : Trees) → Stands text Cf table book j items ts → EachFinds c j (k ts) found set mid out t
 
     followed-ok : (c : Call) (j items : ℕ) (k : Trees → Follows) (next : Next) → GoodNext c j items k next → (set : List (Parse ℕ)) (a r : Parsed) →
-        ((e : Error) → a .failure ≡ some e → a .set ≡ []) → followed book text allowance inner next set a ≡ ok r → Before Cf (r .state) →
+        ((e : Error) → a .failure ≡ some e → a .set ≡ []) → followed book text inner next set a ≡ ok r → Before Cf (r .state) →
         EachOk c j items k (a .set) set (a .state) (r .set) (r .state)
     unfolding followed
     followed-ok c j items k next good set a r fails e b =
@@ -104,13 +111,13 @@ module _ (book : Book) (text : List ℕ) (allowance : ℕ) (Cf : List Cell) (tab
         (λ b′. subst (λ l. EachOk c j items k l set (a .state) set (a .state)) (sym (fails d failed)) (no-parses c j items k set (a .state) b′)) b)
 
     tail-ok : (c : Call) (j M x items : ℕ) (k : Trees → Follows) (next : Next) → GoodNext c j items k next → (set : List (Parse ℕ)) (s : State) (a r : Parsed) →
-        enterChild book text allowance inner c j M x s ≡ ok a → followed book text allowance inner next set a ≡ ok r → Before Cf (r .state) →
+        enterChild book text inner c j M x s ≡ ok a → followed book text inner next set a ≡ ok r → Before Cf (r .state) →
         TailOk c j M x items k set s (r .set) (r .state)
     unfolding enterChild
-    tail-ok c j M x items k next good set s a r e₁ e₂ b = with-rest (followed-ok c j items k next good set a r (enter-fails book text allowance inner _ _ M (skipFrom text x) s a e₁ .fails) e₂ b)
+    tail-ok c j M x items k next good set s a r e₁ e₂ b = with-rest (followed-ok c j items k next good set a r (enter-fails book text inner _ _ M (skipFrom text x) s a e₁ .fails) e₂ b)
       where
         with-rest : EachOk c j items k (a .set) set (a .state) (r .set) (r .state) → TailOk c j M x items k set s (r .set) (r .state)
-        with-rest w = let o = enter-ok book text allowance Cf table inner goods _ _ M (skipFrom text x) s a e₁ (w .back) in record { back = o .back; found = a .set; mid = a .state; called = o .run; finds = w .finds }
+        with-rest w = let o = enter-ok book text Cf table inner goods _ _ M (skipFrom text x) s a e₁ (w .back) in record { back = o .back; found = a .set; mid = a .state; called = o .run; finds = w .finds }
 
     -- the item is added, and the steps go on
     plain-next-ok : (c : Call) (j : ℕ) (rest : List (Todo ℕ)) (items : ℕ) → GoodNext c j items (plain (map (todoFor text Cf) rest)) (plainNext book text c j rest items)
@@ -124,7 +131,7 @@ module _ (book : Book) (text : List ℕ) (allowance : ℕ) (Cf : List Cell) (tab
             let v = with-cell-ok text Cf table book j items (q .value) (treeFor text Cf (q .value)) s m made (w .back) refl in
             record {
               back = v .way .back;
-              finds = λ ts h. let g = finds-from book text allowance Cf table (v .way) (w .finds (ts ▸ treeFor text Cf (q .value)) (v .stands ts h)) in record { R = g .R; run = g .run; joins = g .joins };
+              finds = λ ts h. let g = finds-from book text Cf table (v .way) (w .finds (ts ▸ treeFor text Cf (q .value)) (v .stands ts h)) in record { R = g .R; run = g .run; joins = g .joins };
             }
 
     -- the element is added, and the list goes on or ends
@@ -143,7 +150,7 @@ module _ (book : Book) (text : List ℕ) (allowance : ℕ) (Cf : List Cell) (tab
       element-ok set s m r todo a y made there same w =
           let v = make-way text Cf table s m (Cell.chain values (q .value)) made (w .back) in
           let chain = made-chain text Cf table s m values (q .value) made (w .back) in
-          record { back = v .back; finds = λ ts h. left-so (finds-from book text allowance Cf table v (w .finds ts h)) (same ts chain) }
+          record { back = v .back; finds = λ ts h. left-so (finds-from book text Cf table v (w .finds ts h)) (same ts chain) }
         where
           left-so : {ts : Trees} → Finds c j (todo ∷ rest) y ts set s (r .set) (r .state) →
               behind ts a ≡ record { todo = map (todoFor text Cf) (todo ∷ rest); place = y; items = ts } → NextFinds c j (list-follows ts) q set s (r .set) (r .state)
@@ -185,7 +192,7 @@ module _ (book : Book) (text : List ℕ) (allowance : ℕ) (Cf : List Cell) (tab
         added w =
             let back = with-cell-ok text Cf table book j items item (treeFor text Cf item) s m made (w .back) refl .way .back in
             let v = with-cell-ok text Cf table book j items item t s m made (w .back) (means back) in
-            record { back = back; finds = λ ts h. finds-from book text allowance Cf table (v .way) (w .finds (ts ▸ t) (v .stands ts h)) }
+            record { back = back; finds = λ ts h. finds-from book text Cf table (v .way) (w .finds (ts ▸ t) (v .stands ts h)) }
 
     stops-ok : (c : Call) (j values : ℕ) (close : Option ℕ) (rest : List (Todo ℕ)) (go : Go) → GoodGo c j rest go → (x items : ℕ) (set : List (Parse ℕ)) (s : State) (r : Parsed) →
         stops book text j values close go x items set s ≡ ok r → Before Cf (r .state) → RunOk c j (ending values close ∷ rest) x items set s (r .set) (r .state)
@@ -195,12 +202,12 @@ module _ (book : Book) (text : List ℕ) (allowance : ℕ) (Cf : List Cell) (tab
         option-cases (closed text close x)
         (λ unclosed. subst (λ (z : Parsed). Before Cf (z .state) → RunOk c j (ending values close ∷ rest) x items set s (z .set) (z .state)) (ok-inj (rw unclosed at ran))
         (λ b′. let v = make-way text Cf table s l (Cell.list values) made b′ in
-        record { back = v .back; finds = λ ts h. finds-from book text allowance Cf table v (record { R = []; run = s-unclosed unclosed; joins = joins-nil }) }) b)
+        record { back = v .back; finds = λ ts h. finds-from book text Cf table v (record { R = []; run = s-unclosed unclosed; joins = joins-nil }) }) b)
         (λ y there. after _ _ (rw there at ran) (λ m with-it went.
         let w = with-item-ok c j rest go good y items (l .cell) (Tree.list (treesFor text Cf values)) set (l .state) m r with-it went b
         (λ b′. made-list text Cf table s l values made b′) in
         let v = make-way text Cf table s l (Cell.list values) made (w .back) in
-        record { back = v .back; finds = λ ts h. let g = finds-from book text allowance Cf table v (w .finds ts h) in record { R = g .R; run = s-ending there (g .run); joins = g .joins } })))
+        record { back = v .back; finds = λ ts h. let g = finds-from book text Cf table v (w .finds ts h) in record { R = g .R; run = s-ending there (g .run); joins = g .joins } })))
 
     -- both sides of a choice: what the first finds, then a child and what follows it
     record BothFind (c : Call) (j M x : ℕ) (k : Follows) (first : List Bool → List (Parse Tree) → List Bool → Type 0) (set : List (Parse ℕ)) (s : State) (out : List (Parse ℕ)) (u : State) : Type 0 where
@@ -231,7 +238,7 @@ module _ (book : Book) (text : List ℕ) (allowance : ℕ) (Cf : List Cell) (tab
     }
 
     choice-ok : (c : Call) (j : ℕ) (comma : Bool) (M values : ℕ) (close : Option ℕ) (rest : List (Todo ℕ)) (go : Go) → GoodGo c j rest go → (x items : ℕ) (set : List (Parse ℕ))
-        (s : State) (r : Parsed) → choice book text allowance inner c j comma M values close rest go x items set s ≡ ok r → Before Cf (r .state) →
+        (s : State) (r : Parsed) → choice book text inner c j comma M values close rest go x items set s ≡ ok r → Before Cf (r .state) →
         RunOk c j (elements comma M values close ∷ rest) x items set s (r .set) (r .state)
     unfolding choice
     choice-ok c j comma M values close rest go good x items set s₀ r e b =
@@ -240,8 +247,8 @@ module _ (book : Book) (text : List ℕ) (allowance : ℕ) (Cf : List Cell) (tab
         (chosen-same c (skipFrom text x) (a .failure) l (λ out t. Before Cf t → RunOk c j (elements comma M values close ∷ rest) x items set s₀ out t)
         (λ b′. let t = tail-ok c j M x items _ _ (list-next-ok c j comma M values close rest items) (a .set) (a .state) d l entered went b′ in
         let w = stops-ok c j values close rest go good x items set s a stopped (t .back) in
-        let v = spend-way book text allowance Cf table s₀ s spent (w .back) in
-        record { back = v .back; finds = λ ts h. finds-from book text allowance Cf table v (more-or-stop (both (w .finds ts h) (t .called) (t .finds ts h))) })) b))))
+        let v = spend-way book text Cf table s₀ s spent (w .back) in
+        record { back = v .back; finds = λ ts h. finds-from book text Cf table v (more-or-stop (both (w .finds ts h) (t .called) (t .finds ts h))) })) b))))
       where
         more-or-stop : {ts : Trees} {s : State} {out : List (Parse ℕ)} {u : State} →
             BothFind c j M x (listed comma M (treesFor text Cf values) close (map (todoFor text Cf) rest) ts)
@@ -250,7 +257,7 @@ module _ (book : Book) (text : List ℕ) (allowance : ℕ) (Cf : List Cell) (tab
         more-or-stop z = record { R = z .R₁ ++ z .R₂; run = s-elements (z .one) (z .called) (z .each) (joins-append (z .R₁) (z .R₂)); joins = z .joins }
 
     or-absent-ok : (c : Call) (j M : ℕ) (step : Step) (rest : List (Todo ℕ)) (go : Go) → GoodGo c j rest go → (x items : ℕ) (set : List (Parse ℕ)) (s : State) (r : Parsed) →
-        stepAt book text step x ≡ Taken.optional M → orAbsent book text allowance inner c j M rest go x items set s ≡ ok r → Before Cf (r .state) →
+        stepAt book text step x ≡ Taken.optional M → orAbsent book text inner c j M rest go x items set s ≡ ok r → Before Cf (r .state) →
         RunOk c j (take′ step ∷ rest) x items set s (r .set) (r .state)
     unfolding orAbsent
     or-absent-ok c j M step rest go good x items set s r takes e b =
@@ -260,7 +267,7 @@ module _ (book : Book) (text : List ℕ) (allowance : ℕ) (Cf : List Cell) (tab
         (λ b′. let t = tail-ok c j M x items _ _ (plain-next-ok c j rest items) (a .set) (a .state) d l entered went b′ in
         let w = with-item-ok c j rest go good x items (absent .cell) Tree.absent set (absent .state) m a with-it went-first (t .back) (λ b″. made-absent text Cf table s absent made b″) in
         let v = make-way text Cf table s absent Cell.absent made (w .back) in
-        record { back = v .back; finds = λ ts h. finds-from book text allowance Cf table v (one-or-absent (both (w .finds ts h) (t .called) (t .finds ts h))) })) b)))))
+        record { back = v .back; finds = λ ts h. finds-from book text Cf table v (one-or-absent (both (w .finds ts h) (t .called) (t .finds ts h))) })) b)))))
       where
         one-or-absent : {ts : Trees} {t : State} {out : List (Parse ℕ)} {u : State} →
             BothFind c j M x (plain (map (todoFor text Cf) rest) ts) (Steps book text (openFor text Cf c) j (map (todoFor text Cf) rest) x (ts ▸ Tree.absent)) set t out u →
@@ -268,14 +275,14 @@ module _ (book : Book) (text : List ℕ) (allowance : ℕ) (Cf : List Cell) (tab
         one-or-absent z = record { R = z .R₁ ++ z .R₂; run = s-optional takes (z .one) (z .called) (z .each) (joins-append (z .R₁) (z .R₂)); joins = z .joins }
 
     listing-ok : (c : Call) (j : ℕ) (step : Step) (comma : Bool) (M : ℕ) (close : Option ℕ) (rest : List (Todo ℕ)) (go : Go) → GoodGo c j rest go → (x y items : ℕ) (set : List (Parse ℕ))
-        (s : State) (r : Parsed) → stepAt book text step x ≡ Taken.list comma M close y → listing book text allowance inner c j comma M close rest go y items set s ≡ ok r → Before Cf (r .state) →
+        (s : State) (r : Parsed) → stepAt book text step x ≡ Taken.list comma M close y → listing book text inner c j comma M close rest go y items set s ≡ ok r → Before Cf (r .state) →
         RunOk c j (take′ step ∷ rest) x items set s (r .set) (r .state)
     unfolding listing
     listing-ok c j step comma M close rest go good x y items set s r takes e b =
         after _ _ e (λ m made ran.
         let w = choice-ok c j comma M (m .cell) close rest go good y items set (m .state) r ran b in
         let v = make-way text Cf table s m Cell.empty made (w .back) in
-        record { back = v .back; finds = λ ts h. begun (made-empty text Cf table s m made (w .back)) (finds-from book text allowance Cf table v (w .finds ts h)) })
+        record { back = v .back; finds = λ ts h. begun (made-empty text Cf table s m made (w .back)) (finds-from book text Cf table v (w .finds ts h)) })
       where
         begun : {n : ℕ} {ts : Trees} → treesFor text Cf n ≡ none′ → Finds c j (elements comma M n close ∷ rest) y ts set s (r .set) (r .state) → Finds c j (take′ step ∷ rest) x ts set s (r .set) (r .state)
         begun {ts = ts} empty g = record {
@@ -294,7 +301,7 @@ module _ (book : Book) (text : List ℕ) (allowance : ℕ) (Cf : List Cell) (tab
         (λ b′. made-list text Cf table (m .state) l (m .cell) listed-it b′) in
         let v = make-way text Cf table (m .state) l (Cell.list (m .cell)) listed-it (w .back) in
         let u = make-way text Cf table s m Cell.empty made (v .back) in
-        record { back = u .back; finds = λ ts h. none-there (made-empty text Cf table s m made (v .back)) (finds-from book text allowance Cf table u (finds-from book text allowance Cf table v (w .finds ts h))) })))
+        record { back = u .back; finds = λ ts h. none-there (made-empty text Cf table s m made (v .back)) (finds-from book text Cf table u (finds-from book text Cf table v (w .finds ts h))) })))
       where
         none-there : {ts values : Trees} → values ≡ none′ → Finds c j rest y (ts ▸ Tree.list values) set s (r .set) (r .state) → Finds c j (take′ step ∷ rest) x ts set s (r .set) (r .state)
         none-there {ts} empty g = record {
@@ -313,11 +320,11 @@ module _ (book : Book) (text : List ℕ) (allowance : ℕ) (Cf : List Cell) (tab
         let v = with-token-ok text Cf table book j items (t .item) s m made (w .back) in
         record {
           back = v .way .back;
-          finds = λ ts h. let g = finds-from book text allowance Cf table (v .way) (w .finds (withItem text ts (t .item)) (v .stands ts h)) in record { R = g .R; run = s-token takes (g .run); joins = g .joins };
+          finds = λ ts h. let g = finds-from book text Cf table (v .way) (w .finds (withItem text ts (t .item)) (v .stands ts h)) in record { R = g .R; run = s-token takes (g .run); joins = g .joins };
         })
 
     child-ok : (c : Call) (j M : ℕ) (step : Step) (rest : List (Todo ℕ)) (x items : ℕ) (set : List (Parse ℕ)) (s : State) (r : Parsed) → stepAt book text step x ≡ Taken.child M →
-        (enterChild book text allowance inner c j M x s >>= (λ d. followed book text allowance inner (plainNext book text c j rest items) set d)) ≡ ok r → Before Cf (r .state) →
+        (enterChild book text inner c j M x s >>= (λ d. followed book text inner (plainNext book text c j rest items) set d)) ≡ ok r → Before Cf (r .state) →
         RunOk c j (take′ step ∷ rest) x items set s (r .set) (r .state)
     child-ok c j M step rest x items set s r takes e b =
         after _ _ e (λ d entered went.
@@ -335,7 +342,7 @@ module _ (book : Book) (text : List ℕ) (allowance : ℕ) (Cf : List Cell) (tab
         RunOk c j [] x items set s all (m .state)
     completed-ok c j x items set all s m w means e = record {
       back = w .back;
-      finds = λ ts h. finds-from book text allowance Cf table w (record {
+      finds = λ ts h. finds-from book text Cf table w (record {
         R = tree (treeFor text Cf) (record { rest = x; level = variantNumber book j .level; associativity = variantNumber book j .associativity; value = m .cell }) ∷ [];
         run = s-done (ap (λ v. record { rest = x; level = variantNumber book j .level; associativity = variantNumber book j .associativity; value = v } ∷ []) (means ts h));
         joins = map-joins (tree (treeFor text Cf)) (add-joins (m .state) set _ e);
@@ -357,26 +364,26 @@ module _ (book : Book) (text : List ℕ) (allowance : ℕ) (Cf : List Cell) (tab
         completed-ok c j x items set all s m (make-way text Cf table s m (Cell.variant j items) made′ b′)
         (λ ts h. made-variant text Cf table s m j items made′ b′ ∙ ap (Tree.variant j) (h .plain p) ∙ rw p refl) added)) b))
 
-    unit-way : (step : Step) (s t : State) → stepUnit book text allowance inner step s ≡ ok t → Before Cf t → Way Cf s t
+    unit-way : (step : Step) (s t : State) → stepUnit book text inner step s ≡ ok t → Before Cf t → Way Cf s t
     unfolding stepUnit
     unit-way step s t e b =
         by-test (between 10 11 (stepNumber step))
         (λ p. subst (λ z. Before Cf z → Way Cf s z) (ok-inj (rw p at e)) way-refl b)
-        (λ p. spend-way book text allowance Cf table s t (rw p at e) b)
+        (λ p. spend-way book text Cf table s t (rw p at e) b)
 
     run-from : (c : Call) (j : ℕ) (todo : List (Todo ℕ)) (x items : ℕ) (set : List (Parse ℕ)) (s t : State) (r : Parsed) → (Before Cf t → Way Cf s t) →
         RunOk c j todo x items set t (r .set) (r .state) → RunOk c j todo x items set s (r .set) (r .state)
-    run-from c j todo x items set s t r w o = let v = w (o .back) in record { back = v .back; finds = λ ts h. finds-from book text allowance Cf table v (o .finds ts h) }
+    run-from c j todo x items set s t r w o = let v = w (o .back) in record { back = v .back; finds = λ ts h. finds-from book text Cf table v (o .finds ts h) }
 
-    steps-ok : Good (steps book text allowance inner)
+    steps-ok : Good (steps book text inner)
     unfolding steps
     steps-ok c j [] x items set s r e b = complete-ok c j x items set s r e b
     steps-ok c j (elements comma M values close ∷ rest) x items set s r e b =
-        choice-ok c j comma M values close rest (steps book text allowance inner c j rest) (λ y is u t q d b′. steps-ok c j rest y is u t q d b′) x items set s r e b
+        choice-ok c j comma M values close rest (steps book text inner c j rest) (λ y is u t q d b′. steps-ok c j rest y is u t q d b′) x items set s r e b
     steps-ok c j (ending values close ∷ rest) x items set s r e b =
-        stops-ok c j values close rest (steps book text allowance inner c j rest) (λ y is u t q d b′. steps-ok c j rest y is u t q d b′) x items set s r e b
+        stops-ok c j values close rest (steps book text inner c j rest) (λ y is u t q d b′. steps-ok c j rest y is u t q d b′) x items set s r e b
     steps-ok c j (take′ step ∷ rest) x items set s₀ r e b =
-        let go = steps book text allowance inner c j rest in
+        let go = steps book text inner c j rest in
         let good : GoodGo c j rest go = λ y is u t q d b′. steps-ok c j rest y is u t q d b′ in
         after _ _ e (λ s unit ran. run-from c j (take′ step ∷ rest) x items set s₀ s r (λ b′. unit-way step s₀ s unit b′)
         (taken-cases (stepAt book text step x)
@@ -388,12 +395,12 @@ module _ (book : Book) (text : List ℕ) (allowance : ℕ) (Cf : List Cell) (tab
         (λ y takes. unopened-ok c j step rest go good x y items set s r takes (rw takes at ran) b)))
 
   -- ---- The whole run
-  runner-ok : (n : ℕ) (f : Runner) → runner book text allowance n ≡ some f → Good f
+  runner-ok : (n : ℕ) (f : Runner) → runner book text n ≡ some f → Good f
   unfolding runner
   runner-ok zero f e = absurd (none-some e)
-  runner-ok (suc n) f e = subst Good (some-inj e) (steps-ok (runner book text allowance n) (runner-ok n))
+  runner-ok (suc n) f e = subst Good (some-inj e) (steps-ok (runner book text n) (runner-ok n))
 
   -- what the run of a text finds, the relation finds
-  pub run-ok : (start : ℕ) (r : Parsed) → run book text allowance start ≡ ok r → Before Cf (r .state) → Enters book text [] [] [] start (skipFrom text 0) (trees text Cf (r .set)) (r .state .asked)
+  pub run-ok : (allowance start : ℕ) (r : Parsed) → run book text allowance start ≡ ok r → Before Cf (r .state) → Enters book text [] [] [] start (skipFrom text 0) (trees text Cf (r .set)) (r .state .asked)
   unfolding run
-  run-ok start r e b = enter-ok book text allowance Cf table (runner book text allowance 200) (runner-ok 200) [] [] start (skipFrom text 0) _ r e b .run
+  run-ok allowance start r e b = enter-ok book text Cf table (runner book text 200) (runner-ok 200) [] [] start (skipFrom text 0) _ r e b .run

@@ -15,7 +15,7 @@ use Rattle.rules.specs.Errors.{Error}
 use Rattle.rules.specs.Run.{Result, met, ok, _>>=_, State, Parsed, Call, Runner, chosen, nested}
 
 -- a limit is no result
-pub met-ok : {A : Type 0} {number work : ℕ} {a : A} → met number work ≡ ok a → ⊥
+pub met-ok : {A : Type 0} {number units : ℕ} {a : A} → met number units ≡ ok a → ⊥
 met-ok e = let z : _≡_ {A = ℕ} 0 1 = cc in omega arith
 
 pub ok-inj : {A : Type 0} {a b : A} → ok a ≡ ok b → a ≡ b
@@ -35,7 +35,7 @@ pub record Got {A B : Type 0} (m : Result A) (f : A → Result B) (b : B) : Type
 
 pub got : {A B : Type 0} (m : Result A) (f : A → Result B) {b : B} → (m >>= f) ≡ ok b → Got m f b
 unfolding _>>=_
-got (met number work) f e = absurd (met-ok e)
+got (met number units) f e = absurd (met-ok e)
 got (ok a) f e = record { val = a; ran = refl; next = e }
 
 -- the same, handed to what follows
@@ -76,11 +76,11 @@ taken-cases (Taken.unopened y) n t c o l u = u y refl
 
 -- ---- Parts of the run
 -- what is nested ran one level further in
-pub nested-run : {X : Type 0} (book : Book) (text : List ℕ) (allowance : ℕ) (inner : Option Runner) (s : State) (k : Runner → Result Parsed) {r : Parsed} →
-    nested book text allowance inner s k ≡ ok r → ((f : Runner) → inner ≡ some f → k f ≡ ok r → X) → X
+pub nested-run : {X : Type 0} (book : Book) (text : List ℕ) (inner : Option Runner) (s : State) (k : Runner → Result Parsed) {r : Parsed} →
+    nested book text inner s k ≡ ok r → ((f : Runner) → inner ≡ some f → k f ≡ ok r → X) → X
 unfolding nested
-nested-run book text allowance none s k e h = absurd (met-ok e)
-nested-run book text allowance (some f) s k e h = h f refl e
+nested-run book text none s k e h = absurd (met-ok e)
+nested-run book text (some f) s k e h = h f refl e
 
 -- the other side of a choice changes no set and no state
 pub chosen-same : (c : Call) (at : ℕ) (a : Option Error) (b : Parsed)

@@ -4,7 +4,7 @@ use mathlib.Core.Path.{_≡_, refl, sym, _∙_, ap, subst}
 use mathlib.Core.Bool.{true, false, _||_}
 use mathlib.Core.List.{List, [], _∷_, map, List·Memᴰ·head, List·Memᴰ·tail, List·Memᴰ·not-nil, Memᴰ·map, Memᴰ·of-map}
 use mathlib.Core.Logic.{_↔_}
-use Prim.Native.Nat.{ℕ, suc}
+use Prim.Native.Nat.{ℕ, suc, _-_}
 use native.Mathlib.Omega.{arith}
 use lib.Dec.{leb, ltb, eqb}
 use lib.ListN.{length}
@@ -82,7 +82,7 @@ module _ (bytes : List ℕ) (book : Book) (accepted : checkBook bytes ≡ Outcom
   -- the trees of the set are the derivable parses
   found : (p : Parse Tree) → (p ∈ map (treeNow text r) (r .set)) ↔ DerivesText book text start p
   found p =
-      exact book text (no-variants bytes book accepted) start (skipFrom text 0) _ _ (run-ok book text allowance (r .state .cells) (h .table) start r ran (prefix-refl (r .state .cells))) p
+      exact book text (no-variants bytes book accepted) start (skipFrom text 0) _ _ (run-ok book text (r .state .cells) (h .table) allowance start r ran (prefix-refl (r .state .cells))) p
 
   -- a parse of the set, of a derivable one
   pub record Source (p : Parse Tree) : Type 0 where
@@ -135,9 +135,9 @@ module _ (bytes : List ℕ) (book : Book) (accepted : checkBook bytes ≡ Outcom
     first-parse : (p : Parse ℕ) × (p ∈ r .set)
     first-parse = list-cases (r .set) (λ e. absurd (some′ e)) (λ p ps e. (p, subst (λ l. p ∈ l) (sym e) (List·Memᴰ·head refl)))
 
-    exact-none-whole : wholeValues text (r .set) ≡ [] → Exact book text start (filled lentCells lentParses (answer 31 0 0 0 (r .state .work) (length (r .set)) 0) r)
+    exact-none-whole : wholeValues text (r .set) ≡ [] → Exact book text start (filled lentCells lentParses (answer 31 0 0 0 (allowance - r .state .units) (length (r .set)) 0) r)
     exact-none-whole none-whole =
-        exact-filled (answer 31 0 0 0 (r .state .work) (length (r .set)) 0) refl
+        exact-filled (answer 31 0 0 0 (allowance - r .state .units) (length (r .set)) 0) refl
         (says-none-whole book text start (record {
           some′ = (treeNow text r (first-parse .0), derives (first-parse .0) (first-parse .1));
           all = λ p d. by-test (whole text p)
@@ -161,30 +161,30 @@ module _ (bytes : List ℕ) (book : Book) (accepted : checkBook bytes ≡ Outcom
             all-same (List·Memᴰ·head e) = sym e
             all-same {w} (List·Memᴰ·tail m) = all-are v vs same w m
 
-        exact-value : Exact book text start (filled lentCells lentParses (answer 0 0 0 0 (r .state .work) (length (r .set)) v) r)
+        exact-value : Exact book text start (filled lentCells lentParses (answer 0 0 0 0 (allowance - r .state .units) (length (r .set)) v) r)
         exact-value =
             let w = reaches v-in in
-            exact-filled (answer 0 0 0 0 (r .state .work) (length (r .set)) v) refl
+            exact-filled (answer 0 0 0 0 (allowance - r .state .units) (length (r .set)) v) refl
             (says-value book text start (record { some′ = (treeNow text r (w .0), w .2); all = λ p q d e. sym (value-is p d) ∙ value-is q e }))
-            (λ e p d. subst (λ t. StandsFor text (filled lentCells lentParses (answer 0 0 0 0 (r .state .work) (length (r .set)) v) r .cells) v t) (value-is p d)
-            (stands-for text r h lentCells lentParses (answer 0 0 0 0 (r .state .work) (length (r .set)) v) v (subst (λ n. Item text (r .state .cells) n) (sym (w .3)) (h .values (w .0) (w .1)))))
+            (λ e p d. subst (λ t. StandsFor text (filled lentCells lentParses (answer 0 0 0 0 (allowance - r .state .units) (length (r .set)) v) r .cells) v t) (value-is p d)
+            (stands-for text r h lentCells lentParses (answer 0 0 0 0 (allowance - r .state .units) (length (r .set)) v) v (subst (λ n. Item text (r .state .cells) n) (sym (w .3)) (h .values (w .0) (w .1)))))
 
       -- two differ
-      exact-differ : allAre v vs ≡ false → Exact book text start (filled lentCells lentParses (answer 32 0 0 0 (r .state .work) (length (r .set)) 0) r)
+      exact-differ : allAre v vs ≡ false → Exact book text start (filled lentCells lentParses (answer 32 0 0 0 (allowance - r .state .units) (length (r .set)) 0) r)
       exact-differ apart =
           let u = not-all v vs apart in
           let w = reaches v-in in
           let z = reaches (subst (λ l. u .0 ∈ l) (sym values) (List·Memᴰ·tail (u .1))) in
-          exact-filled (answer 32 0 0 0 (r .state .work) (length (r .set)) 0) refl
+          exact-filled (answer 32 0 0 0 (allowance - r .state .units) (length (r .set)) 0) refl
           (says-differ book text start (record {
             one′ = treeNow text r (w .0);
             other = treeNow text r (z .0);
             reaches = (w .2, z .2);
-            apart = λ e. u .2 (w .3 ∙ value-once text r h lentCells lentParses (answer 32 0 0 0 (r .state .work) (length (r .set)) 0) (w .0) (z .0) (w .1) (z .1) e ∙ sym (z .3));
+            apart = λ e. u .2 (w .3 ∙ value-once text r h lentCells lentParses (answer 32 0 0 0 (allowance - r .state .units) (length (r .set)) 0) (w .0) (z .0) (w .1) (z .1) e ∙ sym (z .3));
           }))
           (λ e. no-value e)
 
-    exact-by-values : Exact book text start (byValues lentCells lentParses (wholeValues text (r .set)) r)
+    exact-by-values : Exact book text start (byValues lentCells lentParses (wholeValues text (r .set)) (allowance - r .state .units) r)
     unfolding byValues
     exact-by-values =
         list-cases (wholeValues text (r .set))
@@ -194,7 +194,7 @@ module _ (bytes : List ℕ) (book : Book) (accepted : checkBook bytes ≡ Outcom
         (λ apart. rw (values, apart) (exact-differ v vs values apart)))
 
   -- the set is empty: 30
-  exact-no-parse : (e : Error) → r .set ≡ [] → Exact book text start (cleared lentCells lentParses (answer 30 (e .place) (e .kind) (e .argument) (r .state .work) 0 0))
+  exact-no-parse : (e : Error) → r .set ≡ [] → Exact book text start (cleared lentCells lentParses (answer 30 (e .place) (e .kind) (e .argument) (allowance - r .state .units) 0 0))
   exact-no-parse e empty = record {
     derivable = λ p. (λ d. absurd (no-derivation p d), λ l. absurd (omega (arith, l .1)));
     once = λ p i k x y f g. absurd (omega (arith, x));
@@ -212,10 +212,10 @@ module _ (bytes : List ℕ) (book : Book) (accepted : checkBook bytes ≡ Outcom
       says : Says book text start 30
       says = says-no-parse book text start no-derivation
 
-  exact-at-end : Exact book text start (atEnd lentCells lentParses text (ok r))
+  exact-at-end : Exact book text start (atEnd lentCells lentParses text allowance (ok r))
   unfolding atEnd run
   exact-at-end =
-      let f = enter-fails book text allowance (runner book text allowance 200) [] [] start (skipFrom text 0) _ r ran in
+      let f = enter-fails book text (runner book text 200) [] [] start (skipFrom text 0) _ r ran in
       option-cases (r .failure)
       (λ fine. rw fine (exact-by-values (f .finds fine)))
       (λ e failed. rw failed (exact-no-parse e (f .fails e failed)))
@@ -223,20 +223,20 @@ module _ (bytes : List ℕ) (book : Book) (accepted : checkBook bytes ≡ Outcom
 -- ---- The answer
 module _ (cells parses bytes text : List ℕ) (start allowance : ℕ) (book : Book) (accepted : checkBook bytes ≡ Outcome.book book) where
   -- the run's result, or its limit
-  result-cases : {P′ : Type 0} (x : Result Parsed) → ((r : Parsed) → x ≡ ok r → P′) → ((number work : ℕ) → x ≡ met number work → P′) → P′
+  result-cases : {P′ : Type 0} (x : Result Parsed) → ((r : Parsed) → x ≡ ok r → P′) → ((number units : ℕ) → x ≡ met number units → P′) → P′
   result-cases (ok r) f g = f r refl
-  result-cases (met number work) f g = g number work refl
+  result-cases (met number units) f g = g number units refl
 
-  after-run : between 20 23 (atEnd cells parses text (run book text allowance start) .answer .refusal) ≡ false → Exact book text start (atEnd cells parses text (run book text allowance start))
+  after-run : between 20 23 (atEnd cells parses text allowance (run book text allowance start) .answer .refusal) ≡ false → Exact book text start (atEnd cells parses text allowance (run book text allowance start))
   unfolding atEnd
   after-run no-limit =
       result-cases (run book text allowance start)
-      (λ r ran. rw ran (exact-at-end bytes book accepted text start allowance r ran (run-keeps book text allowance (passing-step bytes book accepted) start r ran) cells parses))
-      (λ number work limit. clash (run-limits book text allowance start number work limit) (rw limit at no-limit))
+      (λ r ran. rw ran (exact-at-end bytes book accepted text start allowance r ran (run-keeps book text (passing-step bytes book accepted) allowance start r ran) cells parses))
+      (λ number units limit. clash (run-limits book text allowance start number units limit) (rw limit at no-limit))
 
   -- an answer that isn't refused before the run is the run's
   by-run : between 1 11 (answerOf cells parses bytes text start allowance .answer .refusal) ≡ false →
-      answerOf cells parses bytes text start allowance ≡ atEnd cells parses text (run book text allowance start)
+      answerOf cells parses bytes text start allowance ≡ atEnd cells parses text allowance (run book text allowance start)
   unfolding answerOf onBook
   by-run e =
       by-test (ltb (length cells) 12288 || ltb (length parses) 256)
