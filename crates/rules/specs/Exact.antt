@@ -68,7 +68,7 @@ module _ (book : Book) (text : List ℕ) (start : ℕ) where
     pub none-whole : a .answer .refusal ≡ 31 ↔ NoneWhole
     pub differ : a .answer .refusal ≡ 32 ↔ Differ
 
--- The theorem (Exactness.Theorem): of every call whose book is accepted, that isn't refused before the run (1 to 11), and that meets no limit (20 to 23), whatever the
+-- The theorem (Theorem.Found): of every call whose book is accepted, that isn't refused before the run (1 to 11), and that meets no limit (20 to 23), whatever the
 -- lent lists held
 abbrev pub FoundIsDerivable : Type 0
 FoundIsDerivable = (cells parses bytes text : List ℕ) (start allowance : ℕ) (book : Book) → checkBook bytes ≡ Outcome.book book →

@@ -10,4 +10,4 @@ pub mod RoundLaws
 pub mod Answer
 pub mod Rows
 pub mod Exact
-pub mod Exactness
+pub mod Theorem

@@ -23,11 +23,11 @@ use Rattle.rules.specs.Steps.{Item as Read, Todo, take′, elements, end
 use Rattle.rules.specs.Cells.{Cell, one, several, meaningOf, meanings}
 use Rattle.rules.specs.Errors.{Error}
 use Rattle.rules.specs.Run.{ok, State, Parsed, parsed, Made, made, Call, kept, add, addAll, make, itemCell, begin, withCell, withToken, complete}
-use Rattle.rules.specs.Exactness.Lists.{_∈_, sift, sift-out, nth, either}
-use Rattle.rules.specs.Exactness.Results.{ok-inj, after}
-use Rattle.rules.specs.Exactness.Sets.{Distinct, distinct-nil, distinct-cons, kept-sift}
-use Rattle.rules.specs.Exactness.Sets.{add-joins, add-distinct, add-size, add-all-joins, add-all-distinct, add-all-size}
-use Rattle.rules.specs.Exactness.Table.{Table, Item, Chain, Fits, Prefix, prefix-refl, prefix-then, item-still, chain-still, make-grows, make-most, make-ok}
+use Rattle.rules.specs.Theorem.Lists.{_∈_, sift, sift-out, nth, either}
+use Rattle.rules.specs.Theorem.Results.{ok-inj, after}
+use Rattle.rules.specs.Theorem.Sets.{Distinct, distinct-nil, distinct-cons, kept-sift}
+use Rattle.rules.specs.Theorem.Sets.{add-joins, add-distinct, add-size, add-all-joins, add-all-distinct, add-all-size}
+use Rattle.rules.specs.Theorem.Table.{Table, Item, Chain, Fits, Prefix, prefix-refl, prefix-then, item-still, chain-still, make-grows, make-most, make-ok}
 
 -- the cells so far, "a 4,097th" among them never
 pub record Tabled (text : List ℕ) (C : List Cell) : Type 0 where

@@ -8,11 +8,11 @@ use Rattle.rules.specs.Values.{Tree, Trees, Parse}
 use Rattle.rules.specs.Uses.{Path}
 use Rattle.rules.specs.Steps.{Todo}
 use Rattle.rules.specs.Run.{others}
-use Rattle.rules.specs.Exactness.Lists.{Le, le-refl, le-then, le-others, le-both-others, le-ask}
-use Rattle.rules.specs.Exactness.BigStep.{Sets, Open, Follows}
-use Rattle.rules.specs.Exactness.BigStep.{Enters, again, identifier, quiet, barren, grown, Runs, runs, Rounds, last, more, Variants, no-more, too-low, taken}
-use Rattle.rules.specs.Exactness.BigStep.{Steps, s-done, s-nothing, s-token, s-child, s-optional, s-list, s-unopened, s-elements, s-unclosed, s-ending}
-use Rattle.rules.specs.Exactness.BigStep.{Each, e-none, e-one}
+use Rattle.rules.specs.Theorem.Lists.{Le, le-refl, le-then, le-others, le-both-others, le-ask}
+use Rattle.rules.specs.Theorem.BigStep.{Sets, Open, Follows}
+use Rattle.rules.specs.Theorem.BigStep.{Enters, again, identifier, quiet, barren, grown, Runs, runs, Rounds, last, more, Variants, no-more, too-low, taken}
+use Rattle.rules.specs.Theorem.BigStep.{Steps, s-done, s-nothing, s-token, s-child, s-optional, s-list, s-unopened, s-elements, s-unclosed, s-ending}
+use Rattle.rules.specs.Theorem.BigStep.{Each, e-none, e-one}
 
 -- marks that come to be equal to others
 le-to : {A B C : List Bool} → C ≡ B → Le A B → Le A C

@@ -15,11 +15,11 @@ use Rattle.rules.specs.Tokens.{freeEnd, claimed}
 use Rattle.rules.specs.Steps.{After, goes, halts, afterElement, Todo, elements, todoOf}
 use Rattle.rules.specs.Derivations.{Derives, by-variant, by-governor, by-identifier}
 use Rattle.rules.specs.Derivations.{Through, done, by-token, by-child, by-absent, by-one, by-list, by-unopened, by-stop, by-more, by-last, by-ending}
-use Rattle.rules.specs.Exactness.Lists.{_∈_, sift-out, nth, only, either}
-use Rattle.rules.specs.Exactness.BigStep.{Sets, Open, open′, around, inside, Follows, Left, onward, resume, named}
-use Rattle.rules.specs.Exactness.BigStep.{Enters, again, identifier, quiet, barren, grown, Runs, runs, Rounds, last, more, Variants, no-more, too-low, taken}
-use Rattle.rules.specs.Exactness.BigStep.{Steps, s-done, s-nothing, s-token, s-child, s-optional, s-list, s-unopened, s-elements, s-unclosed, s-ending}
-use Rattle.rules.specs.Exactness.BigStep.{Each, e-none, e-one}
+use Rattle.rules.specs.Theorem.Lists.{_∈_, sift-out, nth, only, either}
+use Rattle.rules.specs.Theorem.BigStep.{Sets, Open, open′, around, inside, Follows, Left, onward, resume, named}
+use Rattle.rules.specs.Theorem.BigStep.{Enters, again, identifier, quiet, barren, grown, Runs, runs, Rounds, last, more, Variants, no-more, too-low, taken}
+use Rattle.rules.specs.Theorem.BigStep.{Steps, s-done, s-nothing, s-token, s-child, s-optional, s-list, s-unopened, s-elements, s-unclosed, s-ending}
+use Rattle.rules.specs.Theorem.BigStep.{Each, e-none, e-one}
 
 -- ---- A governor stands in the path
 -- use number i of a path, and its own path

@@ -21,15 +21,15 @@ use Rattle.rules.specs.Tokens.{freeEnd, claimed}
 use Rattle.rules.specs.Steps.{Taken, stepAt, After, afterElement, closed, Todo, take′, elements, ending, todoOf}
 use Rattle.rules.specs.Derivations.{parseOf, withItem}
 use Rattle.rules.specs.Run.{newest, others}
-use Rattle.rules.specs.Exactness.Lists.{_∈_, sift-in, nth, flag, flag-ask, flag-newest, flag-others, Le, le-then, Joins, only-in}
-use Rattle.rules.specs.Exactness.BigStep.{Sets, Open, open′, around, inside, Follows, plain, listing, Left, onward, resume, named, identifiers}
-use Rattle.rules.specs.Exactness.BigStep.{Enters, again, identifier, quiet, barren, grown, Runs, runs, Rounds, last, more, Variants, no-more, too-low, taken}
-use Rattle.rules.specs.Exactness.BigStep.{Steps, s-done, s-nothing, s-token, s-child, s-optional, s-list, s-unopened, s-elements, s-unclosed, s-ending}
-use Rattle.rules.specs.Exactness.BigStep.{Each, e-none, e-one}
-use Rattle.rules.specs.Exactness.Heights.{Der, h-variant, h-governor, h-identifier, der-zero, raise}
-use Rattle.rules.specs.Exactness.Heights.{DThrough, h-done, h-token, h-child, h-absent, h-one, h-list, h-unopened, h-stop, h-more, h-last, h-ending}
-use Rattle.rules.specs.Exactness.Sound.{At, here, there, gov-at}
-use Rattle.rules.specs.Exactness.Marks.{m-enters, m-variants, m-each}
+use Rattle.rules.specs.Theorem.Lists.{_∈_, sift-in, nth, flag, flag-ask, flag-newest, flag-others, Le, le-then, Joins, only-in}
+use Rattle.rules.specs.Theorem.BigStep.{Sets, Open, open′, around, inside, Follows, plain, listing, Left, onward, resume, named, identifiers}
+use Rattle.rules.specs.Theorem.BigStep.{Enters, again, identifier, quiet, barren, grown, Runs, runs, Rounds, last, more, Variants, no-more, too-low, taken}
+use Rattle.rules.specs.Theorem.BigStep.{Steps, s-done, s-nothing, s-token, s-child, s-optional, s-list, s-unopened, s-elements, s-unclosed, s-ending}
+use Rattle.rules.specs.Theorem.BigStep.{Each, e-none, e-one}
+use Rattle.rules.specs.Theorem.Heights.{Der, h-variant, h-governor, h-identifier, der-zero, raise}
+use Rattle.rules.specs.Theorem.Heights.{DThrough, h-done, h-token, h-child, h-absent, h-one, h-list, h-unopened, h-stop, h-more, h-last, h-ending}
+use Rattle.rules.specs.Theorem.Sound.{At, here, there, gov-at}
+use Rattle.rules.specs.Theorem.Marks.{m-enters, m-variants, m-each}
 
 -- a mark-2 nonterminal has no variants: the run reads an identifier for it, and tries no variant
 abbrev pub PlainBook : Book → Type 0

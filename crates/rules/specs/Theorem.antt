@@ -30,4 +30,4 @@ pub mod Limits
 pub mod Numbers
 pub mod Listing
 pub mod Outcomes
-pub mod Theorem
+pub mod Found

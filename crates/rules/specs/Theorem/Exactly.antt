@@ -7,11 +7,11 @@ use Rattle.book.specs.Book.{Book}
 use Rattle.rules.specs.Values.{Tree, Parse}
 use Rattle.rules.specs.Uses.{Use, Path}
 use Rattle.rules.specs.Derivations.{Derives}
-use Rattle.rules.specs.Exactness.Lists.{_∈_}
-use Rattle.rules.specs.Exactness.BigStep.{Enters}
-use Rattle.rules.specs.Exactness.Heights.{height}
-use Rattle.rules.specs.Exactness.Sound.{At, s-enters}
-use Rattle.rules.specs.Exactness.Complete.{PlainBook, complete}
+use Rattle.rules.specs.Theorem.Lists.{_∈_}
+use Rattle.rules.specs.Theorem.BigStep.{Enters}
+use Rattle.rules.specs.Theorem.Heights.{height}
+use Rattle.rules.specs.Theorem.Sound.{At, s-enters}
+use Rattle.rules.specs.Theorem.Complete.{PlainBook, complete}
 
 none-at : {i : ℕ} {f : Use} {Q : Path} → At [] i f Q → ⊥
 none-at a = elim a [ ]

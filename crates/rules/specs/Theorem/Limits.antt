@@ -22,7 +22,7 @@ use Rattle.rules.specs.Errors.{Error}
 use Rattle.rules.specs.Run.{Result, met, ok, _>>=_, State, Parsed, Call, Runner, Go, Next, has, allIn, newest, add, addAll, spend, make, begin, withCell}
 use Rattle.rules.specs.Run.{withToken, complete, variants, oneRun, rounds, runCall, named, runIdentifier, plainNext, listNext, stops, nested, enter, enterChild}
 use Rattle.rules.specs.Run.{followMore, follow, followed, stepUnit, orAbsent, choice, listing, steps, runner, run}
-use Rattle.rules.specs.Exactness.Results.{met-ok, option-cases, list-cases, governor-cases, after-cases, taken-cases}
+use Rattle.rules.specs.Theorem.Results.{met-ok, option-cases, list-cases, governor-cases, after-cases, taken-cases}
 
 -- no other limit than 20 to 23
 pub record Limited {A : Type 0} (x : Result A) : Type 0 where

@@ -19,12 +19,12 @@ use Rattle.rules.specs.Steps.{Todo, take′, elements, ending, stepsOf, 
 use Rattle.rules.specs.Cells.{Cell}
 use Rattle.rules.specs.Errors.{Error}
 use Rattle.rules.specs.Run.{ok, State, Parsed, parsed, Made, Call, call, withMine, Runner, allIn, kept, ask, newest, others, withAsked, spend, variants, oneRun, rounds, runCall, named, runIdentifier, reentry, enter, run}
-use Rattle.rules.specs.Exactness.Lists.{_∈_, sift, nth, Joins, either}
-use Rattle.rules.specs.Exactness.BigStep.{Open, open′, identifiers, Enters, again, identifier, quiet, barren, grown, Runs, runs, Rounds, last, more, Variants, no-more, too-low, taken, Steps}
-use Rattle.rules.specs.Exactness.Results.{met-ok, ok-inj, got, after, option-cases, list-cases, governor-cases, nested-run}
-use Rattle.rules.specs.Exactness.Sets.{joins-nil, joins-append, joins-two, kept-sift, all-in, add-all-joins, map-joins, map-sub, nth-map, tree, sift-trees}
-use Rattle.rules.specs.Exactness.Table.{Table}
-use Rattle.rules.specs.Exactness.Made.{treeFor, treesFor, Before, Way, make-way, made-name, Stands, BeginOk, begin-ok}
+use Rattle.rules.specs.Theorem.Lists.{_∈_, sift, nth, Joins, either}
+use Rattle.rules.specs.Theorem.BigStep.{Open, open′, identifiers, Enters, again, identifier, quiet, barren, grown, Runs, runs, Rounds, last, more, Variants, no-more, too-low, taken, Steps}
+use Rattle.rules.specs.Theorem.Results.{met-ok, ok-inj, got, after, option-cases, list-cases, governor-cases, nested-run}
+use Rattle.rules.specs.Theorem.Sets.{joins-nil, joins-append, joins-two, kept-sift, all-in, add-all-joins, map-joins, map-sub, nth-map, tree, sift-trees}
+use Rattle.rules.specs.Theorem.Table.{Table}
+use Rattle.rules.specs.Theorem.Made.{treeFor, treesFor, Before, Way, make-way, made-name, Stands, BeginOk, begin-ok}
 
 -- ---- Sets
 none-in : {A : Type 0} (l : List A) → Joins [] [] l → l ≡ []

@@ -9,12 +9,12 @@ use Rattle.rules.specs.Values.{Tree, Parse}
 use Rattle.rules.specs.Cells.{one, treeIn}
 use Rattle.rules.specs.Run.{Parsed}
 use Rattle.rules.specs.Answer.{Answer, Answered, filled, written, parseNumbers}
-use Rattle.rules.specs.Exactness.Lists.{_∈_}
-use Rattle.rules.specs.Exactness.Sets.{getD-in, distinct-places, parse-fields, associativity-once, tree}
-use Rattle.rules.specs.Exactness.Table.{Item, meaning, same-cell}
-use Rattle.rules.specs.Exactness.Forward.{Kept}
-use Rattle.rules.specs.Exactness.Numbers.{cells-back, ParseAt, parse-back}
-use Rattle.rules.specs.Exactness.Made.{treeFor}
+use Rattle.rules.specs.Theorem.Lists.{_∈_}
+use Rattle.rules.specs.Theorem.Sets.{getD-in, distinct-places, parse-fields, associativity-once, tree}
+use Rattle.rules.specs.Theorem.Table.{Item, meaning, same-cell}
+use Rattle.rules.specs.Theorem.Forward.{Kept}
+use Rattle.rules.specs.Theorem.Numbers.{cells-back, ParseAt, parse-back}
+use Rattle.rules.specs.Theorem.Made.{treeFor}
 use Rattle.rules.specs.Exact.{StandsFor, Holds}
 
 -- a member stands at some place

@@ -15,14 +15,14 @@ use Rattle.rules.specs.Derivations.{valueOf, withItem}
 use Rattle.rules.specs.Cells.{Cell}
 use Rattle.rules.specs.Errors.{Error}
 use Rattle.rules.specs.Run.{ok, _>>=_, State, Parsed, Made, Call, Runner, Go, Next, add, make, withCell, withToken, complete, plainNext, listNext, stops, enterChild, nested, followMore, follow, followed, stepUnit, orAbsent, choice, listing, steps, runner, run}
-use Rattle.rules.specs.Exactness.Lists.{Joins}
-use Rattle.rules.specs.Exactness.BigStep.{around, Follows, plain, listing as listed, Left, inside, onward, resume, Enters, Steps, s-done, s-nothing, s-token, s-child, s-optional, s-list, s-unopened, s-elements, s-unclosed, s-ending, Each, e-none, e-one}
-use Rattle.rules.specs.Exactness.Results.{ok-inj, some-inj, none-some, after, option-cases, after-cases, taken-cases, nested-run, chosen-same}
-use Rattle.rules.specs.Exactness.Sets.{joins-nil, joins-append, joins-two, add-joins, map-joins, tree}
-use Rattle.rules.specs.Exactness.Failures.{enter-fails}
-use Rattle.rules.specs.Exactness.Table.{Table}
-use Rattle.rules.specs.Exactness.Made.{treeFor, treesFor, Before, Way, way-refl, make-way, made-empty, made-chain, made-variant, made-list, made-absent, Stands, with-cell-ok, with-token-ok}
-use Rattle.rules.specs.Exactness.Link.{trees, todoFor, openFor, Finds as FindsOf, RunOk as RunOkOf, Good as GoodOf, finds-from, spend-way, enter-ok}
+use Rattle.rules.specs.Theorem.Lists.{Joins}
+use Rattle.rules.specs.Theorem.BigStep.{around, Follows, plain, listing as listed, Left, inside, onward, resume, Enters, Steps, s-done, s-nothing, s-token, s-child, s-optional, s-list, s-unopened, s-elements, s-unclosed, s-ending, Each, e-none, e-one}
+use Rattle.rules.specs.Theorem.Results.{ok-inj, some-inj, none-some, after, option-cases, after-cases, taken-cases, nested-run, chosen-same}
+use Rattle.rules.specs.Theorem.Sets.{joins-nil, joins-append, joins-two, add-joins, map-joins, tree}
+use Rattle.rules.specs.Theorem.Failures.{enter-fails}
+use Rattle.rules.specs.Theorem.Table.{Table}
+use Rattle.rules.specs.Theorem.Made.{treeFor, treesFor, Before, Way, way-refl, make-way, made-empty, made-chain, made-variant, made-list, made-absent, Stands, with-cell-ok, with-token-ok}
+use Rattle.rules.specs.Theorem.Link.{trees, todoFor, openFor, Finds as FindsOf, RunOk as RunOkOf, Good as GoodOf, finds-from, spend-way, enter-ok}
 
 module _ (book : Book) (text : List ℕ) (Cf : List Cell) (table : Table text Cf) where
   abbrev Finds : Call → ℕ → List (Todo ℕ) → ℕ → Trees → List (Parse ℕ) → State → List (Parse ℕ) → State → Type 0

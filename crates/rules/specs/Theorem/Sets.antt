@@ -16,8 +16,8 @@ use Rattle.book.specs.declared.records.Associativity.{Associativity}
 use Rattle.rules.specs.Values.{Tree, Parse}
 use Rattle.rules.specs.Uses.{Use, keeps}
 use Rattle.rules.specs.Run.{ok, State, sameParse, has, allIn, kept, add, addAll}
-use Rattle.rules.specs.Exactness.Lists.{_∈_, sift, nth, Joins, either}
-use Rattle.rules.specs.Exactness.Results.{met-ok, ok-inj, got, split}
+use Rattle.rules.specs.Theorem.Lists.{_∈_, sift, nth, Joins, either}
+use Rattle.rules.specs.Theorem.Results.{met-ok, ok-inj, got, split}
 
 -- ---- Joined sets
 pub joins-nil : {A : Type 0} {U : List A} → Joins U [] U

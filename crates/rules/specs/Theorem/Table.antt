@@ -17,10 +17,10 @@ use Rattle.characters.specs.Spelling.{same}
 use Rattle.characters.specs.SpellingLaws.{same-equal, same-itself}
 use Rattle.rules.specs.Cells.{Cell, identityOf, meaningOf, meanings, findCell}
 use Rattle.rules.specs.Run.{ok, State, Made, make}
-use Rattle.rules.specs.Exactness.Results.{met-ok, ok-inj}
-use Rattle.rules.specs.Exactness.Meanings.{cellAt, cell-still, new-cell, fits-still, means-still, new-meaning, same-meaning, Single, same-identity}
-pub use Rattle.rules.specs.Exactness.Meanings.{meaning, Placed, Item, Chain, Prefix, prefix-refl, prefix-then, prefix-placed, still, item-still, chain-still}
-unfoldable pub use Rattle.rules.specs.Exactness.Meanings.{Fits}
+use Rattle.rules.specs.Theorem.Results.{met-ok, ok-inj}
+use Rattle.rules.specs.Theorem.Meanings.{cellAt, cell-still, new-cell, fits-still, means-still, new-meaning, same-meaning, Single, same-identity}
+pub use Rattle.rules.specs.Theorem.Meanings.{meaning, Placed, Item, Chain, Prefix, prefix-refl, prefix-then, prefix-placed, still, item-still, chain-still}
+unfoldable pub use Rattle.rules.specs.Theorem.Meanings.{Fits}
 
 -- cells made one after the other, equal ones once
 pub data Table (text : List ℕ) : List Cell → Type 0 where

@@ -13,7 +13,7 @@ use Rattle.book.specs.Book.{associativityNumber}
 use Rattle.rules.specs.Values.{Parse}
 use Rattle.rules.specs.Cells.{Cell, numbersOf, cellsIn}
 use Rattle.rules.specs.Answer.{cellNumbers, parseNumbers, written}
-use Rattle.rules.specs.Exactness.Table.{meaning, Placed, Prefix, still}
+use Rattle.rules.specs.Theorem.Table.{meaning, Placed, Prefix, still}
 
 -- ---- Numbers at the head of a list
 record Begins (numbers list : List ℕ) : Type 0 where

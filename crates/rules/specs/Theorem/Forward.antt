@@ -24,15 +24,15 @@ use Rattle.rules.specs.Errors.{Error}
 use Rattle.rules.specs.Run.{Result, ok, _>>=_, State, Parsed, Call, call, withMine, Runner, Go, Next, allIn, kept, newest, spend, make, chosen}
 use Rattle.rules.specs.Run.{withToken, variants, oneRun, rounds, runCall, named, runIdentifier, plainNext, listNext, stops}
 use Rattle.rules.specs.Run.{nested, reentry, enter, enterChild, followMore, follow, followed, stepUnit, orAbsent, choice, listing, steps, runner, run}
-use Rattle.rules.specs.Exactness.Lists.{_∈_, nth}
-use Rattle.rules.specs.Exactness.Results.{met-ok, ok-inj, none-some, after, option-cases, list-cases, governor-cases, after-cases, some-inj, taken-cases, nested-run, chosen-same}
-use Rattle.rules.specs.Exactness.Sets.{Distinct}
-use Rattle.rules.specs.Exactness.Table.{Table, no-cells, Item, Prefix, prefix-refl, prefix-then, item-still, chain-still}
-use Rattle.rules.specs.Exactness.Holding.{Tabled, Grown, Held, Gives, Ready, Left, Wants, List-left, grown-refl, grown-then, gives-from, gives-ok}
-use Rattle.rules.specs.Exactness.Holding.{holds-still, ready-still, ready-after, gives-set, left-still, wants-still, wants-take, list-still}
-use Rattle.rules.specs.Exactness.Holding.{elements-left, ending-left, left-elements, left-ending, holds-none, holds-one, holds-kept, holds-all}
-use Rattle.rules.specs.Exactness.Holding.{new-empty, new-link, new-list, new-absent, new-name}
-use Rattle.rules.specs.Exactness.Holding.{begin-onward, with-cell-onward, with-token-onward, complete-gives}
+use Rattle.rules.specs.Theorem.Lists.{_∈_, nth}
+use Rattle.rules.specs.Theorem.Results.{met-ok, ok-inj, none-some, after, option-cases, list-cases, governor-cases, after-cases, some-inj, taken-cases, nested-run, chosen-same}
+use Rattle.rules.specs.Theorem.Sets.{Distinct}
+use Rattle.rules.specs.Theorem.Table.{Table, no-cells, Item, Prefix, prefix-refl, prefix-then, item-still, chain-still}
+use Rattle.rules.specs.Theorem.Holding.{Tabled, Grown, Held, Gives, Ready, Left, Wants, List-left, grown-refl, grown-then, gives-from, gives-ok}
+use Rattle.rules.specs.Theorem.Holding.{holds-still, ready-still, ready-after, gives-set, left-still, wants-still, wants-take, list-still}
+use Rattle.rules.specs.Theorem.Holding.{elements-left, ending-left, left-elements, left-ending, holds-none, holds-one, holds-kept, holds-all}
+use Rattle.rules.specs.Theorem.Holding.{new-empty, new-link, new-list, new-absent, new-name}
+use Rattle.rules.specs.Theorem.Holding.{begin-onward, with-cell-onward, with-token-onward, complete-gives}
 
 -- what the run of a text ends with
 pub record Kept (text : List ℕ) (r : Parsed) : Type 0 where

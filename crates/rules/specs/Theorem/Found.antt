@@ -19,19 +19,19 @@ use Rattle.rules.specs.Errors.{Error}
 use Rattle.rules.specs.Derivations.{DerivesText}
 use Rattle.rules.specs.Run.{Result, met, ok, Parsed, runner, run}
 use Rattle.rules.specs.Answer.{Answer, Answered, answer, cleared, filled, wholeValues, allAre, firstHigh, byValues, atEnd, onBook, answerOf}
-use Rattle.rules.specs.Exactness.Lists.{_∈_}
-use Rattle.rules.specs.Exactness.Exactly.{exact}
-use Rattle.rules.specs.Exactness.Results.{option-cases, list-cases}
-use Rattle.rules.specs.Exactness.Table.{Item, prefix-refl}
-use Rattle.rules.specs.Exactness.BookFacts.{no-variants, passing-step}
-use Rattle.rules.specs.Exactness.Forward.{Kept, run-keeps}
-use Rattle.rules.specs.Exactness.Failures.{enter-fails}
-use Rattle.rules.specs.Exactness.Limits.{run-limits}
-use Rattle.rules.specs.Exactness.Made.{treeFor}
-use Rattle.rules.specs.Exactness.LinkSteps.{run-ok}
+use Rattle.rules.specs.Theorem.Lists.{_∈_}
+use Rattle.rules.specs.Theorem.Exactly.{exact}
+use Rattle.rules.specs.Theorem.Results.{option-cases, list-cases}
+use Rattle.rules.specs.Theorem.Table.{Item, prefix-refl}
+use Rattle.rules.specs.Theorem.BookFacts.{no-variants, passing-step}
+use Rattle.rules.specs.Theorem.Forward.{Kept, run-keeps}
+use Rattle.rules.specs.Theorem.Failures.{enter-fails}
+use Rattle.rules.specs.Theorem.Limits.{run-limits}
+use Rattle.rules.specs.Theorem.Made.{treeFor}
+use Rattle.rules.specs.Theorem.LinkSteps.{run-ok}
 use Rattle.rules.specs.Exact.{StandsFor, Reaches, Exact, FoundIsDerivable}
-use Rattle.rules.specs.Exactness.Outcomes.{Says, says-value, says-no-parse, says-none-whole, says-differ}
-use Rattle.rules.specs.Exactness.Listing.{treeNow, entry, stands-for, holds-entry, holds-only, holds-once, listed, unlisted, value-once}
+use Rattle.rules.specs.Theorem.Outcomes.{Says, says-value, says-no-parse, says-none-whole, says-differ}
+use Rattle.rules.specs.Theorem.Listing.{treeNow, entry, stands-for, holds-entry, holds-only, holds-once, listed, unlisted, value-once}
 
 -- ---- The values of the whole parses
 module _ (text : List ℕ) where

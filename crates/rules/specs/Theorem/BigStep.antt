@@ -15,7 +15,7 @@ use Rattle.rules.specs.Tokens.{freeEnd, spelled, claimed}
 use Rattle.rules.specs.Steps.{Token, Taken, stepAt, After, goes, halts, afterElement, closed, Todo, take′, elements, ending, todoOf}
 use Rattle.rules.specs.Derivations.{parseOf, withItem}
 use Rattle.rules.specs.Run.{ask, newest, others}
-use Rattle.rules.specs.Exactness.Lists.{_∈_, sift, nth, Joins}
+use Rattle.rules.specs.Theorem.Lists.{_∈_, sift, nth, Joins}
 
 abbrev pub Sets : Type 0
 Sets = List (List (Parse Tree))
