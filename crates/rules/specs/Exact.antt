@@ -73,4 +73,5 @@ module _ (book : Book) (text : List ℕ) (start : ℕ) where
 abbrev pub FoundIsDerivable : Type 0
 FoundIsDerivable = (cells parses bytes text : List ℕ) (start allowance : ℕ) (book : Book) → checkBook bytes ≡ Outcome.book book →
     between 1 11 (answerOf cells parses bytes text start allowance .answer .refusal) ≡ false →
-    between 20 23 (answerOf cells parses bytes text start allowance .answer .refusal) ≡ false → Exact book text start (answerOf cells parses bytes text start allowance)
+    between 20 23 (answerOf cells parses bytes text start allowance .answer .refusal) ≡ false →
+    Exact book text start (answerOf cells parses bytes text start allowance)

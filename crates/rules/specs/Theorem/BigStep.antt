@@ -88,7 +88,8 @@ module _ (book : Book) (text : List ℕ) where
 
     -- the rounds after the first run, from a stored set
     pub data Rounds : Path → Sets → ℕ → ℕ → ℕ → List (Parse Tree) → List Bool → List (Parse Tree) → List Bool → Type 0 where
-      last : {P : Path} {S : Sets} {m N u : ℕ} {T R U : List (Parse Tree)} {B B′ A′ : List Bool} → Runs P S m N u T B R B′ → ((p : Parse Tree) → p ∈ R → p ∈ T) →
+      last : {P : Path} {S : Sets} {m N u : ℕ} {T R U : List (Parse Tree)} {B B′ A′ : List Bool} → Runs P S m N u T B R B′ →
+          ((p : Parse Tree) → p ∈ R → p ∈ T) →
           U ≡ T → A′ ≡ others B′ → Rounds P S m N u T B U A′
       more : {P : Path} {S : Sets} {m N u : ℕ} {T R T₁ U : List (Parse Tree)} {B B′ A′ : List Bool} → Runs P S m N u T B R B′ → Joins T R T₁ →
           Rounds P S m N u T₁ B′ U A′ → Rounds P S m N u T B U A′
@@ -96,10 +97,12 @@ module _ (book : Book) (text : List ℕ) where
     -- n variants from j on
     pub data Variants : Open → ℕ → ℕ → ℕ → List Bool → List (Parse Tree) → List Bool → Type 0 where
       no-more : {o : Open} {m j : ℕ} {B : List Bool} → Variants o m zero j B [] B
-      too-low : {o : Open} {m n j : ℕ} {B B′ : List Bool} {R : List (Parse Tree)} → leb m (variantNumber book j .level) ≡ false → Variants o m n (suc j) B R B′ →
+      too-low : {o : Open} {m n j : ℕ} {B B′ : List Bool} {R : List (Parse Tree)} → leb m (variantNumber book j .level) ≡ false →
+          Variants o m n (suc j) B R B′ →
           Variants o m (suc n) j B R B′
       taken : {o : Open} {m n j : ℕ} {B B₁ B′ : List Bool} {R R₁ R₂ : List (Parse Tree)} → leb m (variantNumber book j .level) ≡ true →
-          Steps o j (todoOf book (variantNumber book j)) (o .start) none′ B R₁ B₁ → Variants o m n (suc j) B₁ R₂ B′ → Joins R₁ R₂ R → Variants o m (suc n) j B R B′
+          Steps o j (todoOf book (variantNumber book j)) (o .start) none′ B R₁ B₁ → Variants o m n (suc j) B₁ R₂ B′ → Joins R₁ R₂ R →
+          Variants o m (suc n) j B R B′
 
     -- what is left of variant j from a place, after these items
     pub data Steps : Open → ℕ → List (Todo Trees) → ℕ → Trees → List Bool → List (Parse Tree) → List Bool → Type 0 where
@@ -116,14 +119,17 @@ module _ (book : Book) (text : List ℕ) where
           Enters (inside o j (skipFrom text x)) (around o) B₁ M (skipFrom text x) Q B₂ → Each o j (plain rest items) Q B₂ R₂ B′ → Joins R₁ R₂ R →
           Steps o j (take′ s ∷ rest) x items B R B′
       s-list : {o : Open} {j x y M : ℕ} {s : Step} {comma : Bool} {close : Option ℕ} {rest : List (Todo Trees)} {items : Trees} {B B′ : List Bool} {R : List (Parse Tree)} →
-          stepAt book text s x ≡ Taken.list comma M close y → Steps o j (elements comma M none′ close ∷ rest) y items B R B′ → Steps o j (take′ s ∷ rest) x items B R B′
+          stepAt book text s x ≡ Taken.list comma M close y → Steps o j (elements comma M none′ close ∷ rest) y items B R B′ →
+          Steps o j (take′ s ∷ rest) x items B R B′
       s-unopened : {o : Open} {j x y : ℕ} {s : Step} {rest : List (Todo Trees)} {items : Trees} {B B′ : List Bool} {R : List (Parse Tree)} →
           stepAt book text s x ≡ Taken.unopened y → Steps o j rest y (items ▸ list none′) B R B′ → Steps o j (take′ s ∷ rest) x items B R B′
       s-elements : {o : Open} {j x M : ℕ} {comma : Bool} {values : Trees} {close : Option ℕ} {rest : List (Todo Trees)} {items : Trees} {B B₁ B₂ B′ : List Bool}
           {Q R R₁ R₂ : List (Parse Tree)} → Steps o j (ending values close ∷ rest) x items B R₁ B₁ →
-          Enters (inside o j (skipFrom text x)) (around o) B₁ M (skipFrom text x) Q B₂ → Each o j (listing comma M values close rest items) Q B₂ R₂ B′ → Joins R₁ R₂ R →
+          Enters (inside o j (skipFrom text x)) (around o) B₁ M (skipFrom text x) Q B₂ → Each o j (listing comma M values close rest items) Q B₂ R₂ B′ →
+          Joins R₁ R₂ R →
           Steps o j (elements comma M values close ∷ rest) x items B R B′
-      s-unclosed : {o : Open} {j x : ℕ} {values : Trees} {close : Option ℕ} {rest : List (Todo Trees)} {items : Trees} {B : List Bool} → closed text close x ≡ none →
+      s-unclosed : {o : Open} {j x : ℕ} {values : Trees} {close : Option ℕ} {rest : List (Todo Trees)} {items : Trees} {B : List Bool} →
+          closed text close x ≡ none →
           Steps o j (ending values close ∷ rest) x items B [] B
       s-ending : {o : Open} {j x y : ℕ} {values : Trees} {close : Option ℕ} {rest : List (Todo Trees)} {items : Trees} {B B′ : List Bool} {R : List (Parse Tree)} →
           closed text close x ≡ some y → Steps o j rest y (items ▸ list values) B R B′ → Steps o j (ending values close ∷ rest) x items B R B′

@@ -59,12 +59,14 @@ module _ (book : Book) (text : List ℕ) where
   full-down {h} F = record { holds = λ i f Q a e p d. F .holds i f Q a e p (raise book text d (suc h) (omega arith)) }
 
   -- the newest mark is the open call's own, the others are of the calls around it
-  own-holds : {h : ℕ} (P : Path) (S : Sets) (N u : ℕ) (T : List (Parse Tree)) (B : List Bool) → (newest B ≡ true → HoldsAll h P N u T) → Full h P S (others B) →
+  own-holds : {h : ℕ} (P : Path) (S : Sets) (N u : ℕ) (T : List (Parse Tree)) (B : List Bool) → (newest B ≡ true → HoldsAll h P N u T) →
+      Full h P S (others B) →
       (j x i : ℕ) (f : Use) (Q : Path) → At (useOf book N u j x ∷ P) i f Q → flag B i ≡ true → HoldsAll h Q (f .nonterminal) (f .start) (nth (T ∷ S) i)
   own-holds P S N u T B t F j x zero f Q here e p d = t (sym (flag-newest B) ∙ e) p d
   own-holds P S N u T B t F j x (suc i) f Q (there a) e p d = F .holds i f Q a (sym (flag-others B i) ∙ e) p d
 
-  own-full : {h : ℕ} (P : Path) (S : Sets) (N u : ℕ) (T : List (Parse Tree)) (B : List Bool) → (newest B ≡ true → HoldsAll h P N u T) → Full h P S (others B) →
+  own-full : {h : ℕ} (P : Path) (S : Sets) (N u : ℕ) (T : List (Parse Tree)) (B : List Bool) → (newest B ≡ true → HoldsAll h P N u T) →
+      Full h P S (others B) →
       FullIn h (open′ P S N u T) B
   own-full P S N u T B t F = record { inner = λ j x. record { holds = own-holds P S N u T B t F j x } }
 

@@ -209,7 +209,8 @@ module _ (book : Book) (text : List ℕ)
     around c h (suc i) = h .stored i
 
     -- one parse is followed, and then the others
-    one-gives : (C : List Cell) (c : Call) (next : Next) → GoodNext C c next → (q : Parse ℕ) (qs set : List (Parse ℕ)) (s : State) (r : Parsed) (k : Parsed → Result Parsed) →
+    one-gives : (C : List Cell) (c : Call) (next : Next) → GoodNext C c next →
+        (q : Parse ℕ) (qs set : List (Parse ℕ)) (s : State) (r : Parsed) (k : Parsed → Result Parsed) →
         Prefix C (s .cells) → Ready text (s .cells) c set → ((o : Parse ℕ) → o ∈ (q ∷ qs) → Item text (s .cells) (o .value)) →
         (nested book text inner s (λ f. next q s f set) >>= k) ≡ ok r →
         ((a : Parsed) → Prefix C (a .state .cells) → Ready text (a .state .cells) c (a .set) → ((o : Parse ℕ) → o ∈ qs → Item text (a .state .cells) (o .value)) → k a ≡ ok r →
@@ -221,8 +222,10 @@ module _ (book : Book) (text : List ℕ)
         let p′ = g .grown .prefix in
         gives-from (g .grown) (others a (prefix-then p p′) (ready-after h g) (λ o m. item-still text p′ (o .value) (i o (List·Memᴰ·tail m))) then-ran)))
 
-    follow-more-gives : (C : List Cell) (c : Call) (next : Next) → GoodNext C c next → (qs set : List (Parse ℕ)) (d : Option Error) (s : State) (r : Parsed) → Prefix C (s .cells) →
-        Ready text (s .cells) c set → ((q : Parse ℕ) → q ∈ qs → Item text (s .cells) (q .value)) → followMore book text inner next qs set d s ≡ ok r → Gives text (s .cells) r
+    follow-more-gives : (C : List Cell) (c : Call) (next : Next) → GoodNext C c next →
+        (qs set : List (Parse ℕ)) (d : Option Error) (s : State) (r : Parsed) → Prefix C (s .cells) →
+        Ready text (s .cells) c set → ((q : Parse ℕ) → q ∈ qs → Item text (s .cells) (q .value)) → followMore book text inner next qs set d s ≡ ok r →
+        Gives text (s .cells) r
     unfolding followMore
     follow-more-gives C c next good [] set d s r p h i e = gives-ok e (gives-set h)
     follow-more-gives C c next good (q ∷ qs) set d s r p h i e =

@@ -46,7 +46,8 @@ module _ (text : List ℕ) where
       later : (q : Parse ℕ) × (q ∈ set) × (whole text q ≡ true) × (v ≡ q .value) → (q : Parse ℕ) × (q ∈ (p ∷ set)) × (whole text q ≡ true) × (v ≡ q .value)
       later q = (q .0, List·Memᴰ·tail (q .1), q .2, q .3)
 
-      first-or-later : whole text p ≡ true → v ∈ (p .value ∷ wholeValues text set) → (v ∈ wholeValues text set → (q : Parse ℕ) × (q ∈ set) × (whole text q ≡ true) × (v ≡ q .value)) →
+      first-or-later : whole text p ≡ true → v ∈ (p .value ∷ wholeValues text set) →
+          (v ∈ wholeValues text set → (q : Parse ℕ) × (q ∈ set) × (whole text q ≡ true) × (v ≡ q .value)) →
           (q : Parse ℕ) × (q ∈ (p ∷ set)) × (whole text q ≡ true) × (v ≡ q .value)
       first-or-later t (List·Memᴰ·head e) k = (p, List·Memᴰ·head refl, t, e)
       first-or-later t (List·Memᴰ·tail n) k = later (k n)
@@ -108,7 +109,8 @@ module _ (bytes : List ℕ) (book : Book) (accepted : checkBook bytes ≡ Outcom
     abbrev exit : Answered
     exit = filled lentCells lentParses a r
 
-    exact-filled : Says book text start (a .refusal) → (a .refusal ≡ 0 → (p : Parse Tree) → Reaches book text start p → StandsFor text (exit .cells) (a .value) (p .value)) → Exact book text start exit
+    exact-filled : Says book text start (a .refusal) →
+        (a .refusal ≡ 0 → (p : Parse Tree) → Reaches book text start p → StandsFor text (exit .cells) (a .value) (p .value)) → Exact book text start exit
     exact-filled says cell = record {
       derivable = λ p. (
         λ d. let l = listed text r h lentCells lentParses a p (found p .1 d) in (l .0, omega (arith, l .1, number), l .2),
@@ -135,7 +137,8 @@ module _ (bytes : List ℕ) (book : Book) (accepted : checkBook bytes ≡ Outcom
     first-parse : (p : Parse ℕ) × (p ∈ r .set)
     first-parse = list-cases (r .set) (λ e. absurd (some′ e)) (λ p ps e. (p, subst (λ l. p ∈ l) (sym e) (List·Memᴰ·head refl)))
 
-    exact-none-whole : wholeValues text (r .set) ≡ [] → Exact book text start (filled lentCells lentParses (answer 31 0 0 0 (allowance - r .state .units) (length (r .set)) 0) r)
+    exact-none-whole : wholeValues text (r .set) ≡ [] →
+        Exact book text start (filled lentCells lentParses (answer 31 0 0 0 (allowance - r .state .units) (length (r .set)) 0) r)
     exact-none-whole none-whole =
         exact-filled (answer 31 0 0 0 (allowance - r .state .units) (length (r .set)) 0) refl
         (says-none-whole book text start (record {
@@ -170,7 +173,8 @@ module _ (bytes : List ℕ) (book : Book) (accepted : checkBook bytes ≡ Outcom
             (stands-for text r h lentCells lentParses (answer 0 0 0 0 (allowance - r .state .units) (length (r .set)) v) v (subst (λ n. Item text (r .state .cells) n) (sym (w .3)) (h .values (w .0) (w .1)))))
 
       -- two differ
-      exact-differ : allAre v vs ≡ false → Exact book text start (filled lentCells lentParses (answer 32 0 0 0 (allowance - r .state .units) (length (r .set)) 0) r)
+      exact-differ : allAre v vs ≡ false →
+          Exact book text start (filled lentCells lentParses (answer 32 0 0 0 (allowance - r .state .units) (length (r .set)) 0) r)
       exact-differ apart =
           let u = not-all v vs apart in
           let w = reaches v-in in
@@ -194,7 +198,8 @@ module _ (bytes : List ℕ) (book : Book) (accepted : checkBook bytes ≡ Outcom
         (λ apart. rw (values, apart) (exact-differ v vs values apart)))
 
   -- the set is empty: 30
-  exact-no-parse : (e : Error) → r .set ≡ [] → Exact book text start (cleared lentCells lentParses (answer 30 (e .place) (e .kind) (e .argument) (allowance - r .state .units) 0 0))
+  exact-no-parse : (e : Error) → r .set ≡ [] →
+      Exact book text start (cleared lentCells lentParses (answer 30 (e .place) (e .kind) (e .argument) (allowance - r .state .units) 0 0))
   exact-no-parse e empty = record {
     derivable = λ p. (λ d. absurd (no-derivation p d), λ l. absurd (omega (arith, l .1)));
     once = λ p i k x y f g. absurd (omega (arith, x));
@@ -227,7 +232,8 @@ module _ (cells parses bytes text : List ℕ) (start allowance : ℕ) (book : Bo
   result-cases (ok r) f g = f r refl
   result-cases (met number units) f g = g number units refl
 
-  after-run : between 20 23 (atEnd cells parses text allowance (run book text allowance start) .answer .refusal) ≡ false → Exact book text start (atEnd cells parses text allowance (run book text allowance start))
+  after-run : between 20 23 (atEnd cells parses text allowance (run book text allowance start) .answer .refusal) ≡ false →
+      Exact book text start (atEnd cells parses text allowance (run book text allowance start))
   unfolding atEnd
   after-run no-limit =
       result-cases (run book text allowance start)

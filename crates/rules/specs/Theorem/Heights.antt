@@ -55,7 +55,8 @@ module _ (book : Book) (text : List ℕ) where
       h-more : {h : ℕ} {P : Path} {N u j x y M : ℕ} {comma : Bool} {values : Trees} {close : Option ℕ} {q p : Parse Tree} {rest : List (Todo Trees)}
           {items : Trees} →
           Der h (useOf book N u j (skipFrom text x) ∷ P) M (skipFrom text x) q → afterElement text comma (q .rest) ≡ goes y →
-          DThrough h P N u j (elements comma M (values ▸ q .value) close ∷ rest) y items p → DThrough h P N u j (elements comma M values close ∷ rest) x items p
+          DThrough h P N u j (elements comma M (values ▸ q .value) close ∷ rest) y items p →
+          DThrough h P N u j (elements comma M values close ∷ rest) x items p
       h-last : {h : ℕ} {P : Path} {N u j x y M : ℕ} {comma : Bool} {values : Trees} {close : Option ℕ} {q p : Parse Tree} {rest : List (Todo Trees)}
           {items : Trees} →
           Der h (useOf book N u j (skipFrom text x) ∷ P) M (skipFrom text x) q → afterElement text comma (q .rest) ≡ halts y →

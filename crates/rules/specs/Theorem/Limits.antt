@@ -188,7 +188,8 @@ module _ (book : Book) (text : List ℕ) where
     unfolding enterChild
     enter-child-limited c j M x s = enter-limited _ _ M _ s
 
-    follow-more-limited : (next : Next) → LimitedNext next → (qs set : List (Parse ℕ)) (d : Option Error) (s : State) → Limited (followMore book text inner next qs set d s)
+    follow-more-limited : (next : Next) → LimitedNext next → (qs set : List (Parse ℕ)) (d : Option Error) (s : State) →
+        Limited (followMore book text inner next qs set d s)
     unfolding followMore
     follow-more-limited next h [] set d s = done
     follow-more-limited next h (q ∷ qs) set d s =

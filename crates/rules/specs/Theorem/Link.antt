@@ -69,7 +69,8 @@ module _ (book : Book) (text : List ℕ) (Cf : List Cell) (table : Table text Cf
       Before Cf (r .state) → RunOk c j todo x items set s (r .set) (r .state)
 
   -- from the state before some cells were made
-  pub finds-from : {c : Call} {j : ℕ} {todo : List (Todo ℕ)} {x : ℕ} {ts : Trees} {set : List (Parse ℕ)} {s t : State} {out : List (Parse ℕ)} {u : State} → Way Cf s t →
+  pub finds-from : {c : Call} {j : ℕ} {todo : List (Todo ℕ)} {x : ℕ} {ts : Trees} {set : List (Parse ℕ)} {s t : State} {out : List (Parse ℕ)} {u : State} →
+      Way Cf s t →
       Finds c j todo x ts set t out u → Finds c j todo x ts set s out u
   finds-from {c} {j} {todo} {x} {ts} {u = u} w g = record {
     R = g .R;
@@ -124,13 +125,15 @@ module _ (book : Book) (text : List ℕ) (Cf : List Cell) (table : Table text Cf
       }
 
   -- a run's set may be kept in any way
-  set-as : {o : Open} {m n j : ℕ} {B : List Bool} {R R′ : List (Parse Tree)} {B′ : List Bool} → Variants book text o m n j B R B′ → Joins [] R R′ → Variants book text o m n j B R′ B′
+  set-as : {o : Open} {m n j : ℕ} {B : List Bool} {R R′ : List (Parse Tree)} {B′ : List Bool} → Variants book text o m n j B R B′ → Joins [] R R′ →
+      Variants book text o m n j B R′ B′
   set-as {R′ = R′} (no-more {o} {m} {j} {B}) h = subst (λ l. Variants book text o m zero j B l B) (sym (none-in R′ h)) no-more
   set-as (too-low t v) h = too-low t (set-as v h)
   set-as (taken t s v h′) h = taken t s v (joins-as h′ h)
 
   module _ (f : Runner) (good : Good f) where
-    variants-ok : (c : Call) (m n j : ℕ) (set : List (Parse ℕ)) (e : Option Error) (s : State) (r : Parsed) → variants book text f c m n j set e s ≡ ok r → Before Cf (r .state) →
+    variants-ok : (c : Call) (m n j : ℕ) (set : List (Parse ℕ)) (e : Option Error) (s : State) (r : Parsed) → variants book text f c m n j set e s ≡ ok r →
+        Before Cf (r .state) →
         VariantsOk c m n j set s r
     unfolding variants
     variants-ok c m zero j set d s r e b =
@@ -218,8 +221,10 @@ module _ (book : Book) (text : List ℕ) (Cf : List Cell) (table : Table text Cf
               (w .asked);
         }) b))
 
-  reentry-ok : (inner : Option Runner) (P Q : Path) (S : List (List (Parse ℕ))) (N u i : ℕ) (f : Use) (l : List (Parse ℕ)) (e : Error) (s t : State) → governor P base N u ≡ same-start i f Q →
-      trees text Cf l ≡ sift (keeps f) (nth (map (trees text Cf) S) i) → t .asked ≡ ask i (s .asked) → Before Cf s → EnterOk P S N u s (reentry book text inner l e t)
+  reentry-ok : (inner : Option Runner) (P Q : Path) (S : List (List (Parse ℕ))) (N u i : ℕ) (f : Use) (l : List (Parse ℕ)) (e : Error) (s t : State) →
+      governor P base N u ≡ same-start i f Q →
+      trees text Cf l ≡ sift (keeps f) (nth (map (trees text Cf) S) i) → t .asked ≡ ask i (s .asked) → Before Cf s →
+      EnterOk P S N u s (reentry book text inner l e t)
   unfolding reentry
   reentry-ok inner P Q S N u i f [] e s t gov is marks b = record { back = b; run = again gov is marks }
   reentry-ok inner P Q S N u i f (p ∷ ps) e s t gov is marks b = record { back = b; run = again gov is marks }
@@ -238,11 +243,13 @@ module _ (book : Book) (text : List ℕ) (Cf : List Cell) (table : Table text Cf
     enter-from P S N u s t r w o =
         record { back = w .back; run = subst (λ A. Enters book text P (map (trees text Cf) S) A N u (trees text Cf (r .set)) (r .state .asked)) (w .asked) (o .run) }
 
-    call-ok : (P : Path) (S : List (List (Parse ℕ))) (N u : ℕ) (s : State) (a r : Parsed) → CallOk P S N u s a → parsed (a .set) (a .failure) (withAsked (a .state) (others (a .state .asked))) ≡ r →
+    call-ok : (P : Path) (S : List (List (Parse ℕ))) (N u : ℕ) (s : State) (a r : Parsed) → CallOk P S N u s a →
+        parsed (a .set) (a .failure) (withAsked (a .state) (others (a .state .asked))) ≡ r →
         EnterOk P S N u s r
     call-ok P S N u s a r o is = subst (λ z. EnterOk P S N u s z) is (record { back = o .back; run = o .run })
 
-    pub enter-ok : (P : Path) (S : List (List (Parse ℕ))) (N u : ℕ) (s : State) (r : Parsed) → enter book text inner P S N u s ≡ ok r → Before Cf (r .state) → EnterOk P S N u s r
+    pub enter-ok : (P : Path) (S : List (List (Parse ℕ))) (N u : ℕ) (s : State) (r : Parsed) → enter book text inner P S N u s ≡ ok r →
+        Before Cf (r .state) → EnterOk P S N u s r
     unfolding enter
     enter-ok P S N u s₀ r e b =
         after _ _ e (λ s ran next.

@@ -63,20 +63,24 @@ module _ (book : Book) (text : List ℕ) (Cf : List Cell) (table : Table text Cf
     no-parses : (c : Call) (j items : ℕ) (k : Trees → Follows) (set : List (Parse ℕ)) (s : State) → Before Cf s → EachOk c j items k [] set s set s
     no-parses c j items k set s b = record { back = b; finds = λ ts h. record { R = []; run = e-none; joins = joins-nil } }
 
-    one-then : (c : Call) (j items : ℕ) (k : Trees → Follows) (q : Parse ℕ) (qs set mid out : List (Parse ℕ)) (s t u : State) → NextOk c j items k q set s mid t →
+    one-then : (c : Call) (j items : ℕ) (k : Trees → Follows) (q : Parse ℕ) (qs set mid out : List (Parse ℕ)) (s t u : State) →
+        NextOk c j items k q set s mid t →
         EachOk c j items k qs mid t out u → EachOk c j items k (q ∷ qs) set s out u
     one-then c j items k q qs set mid out s t u a b = record { back = a .back; finds = λ ts h. both (a .finds ts h) (b .finds ts h) }
       where
         both : {l : Follows} → NextFinds c j l q set s mid t → EachFinds c j l qs mid t out u → EachFinds c j l (q ∷ qs) set s out u
         both f g = record { R = f .R ++ g .R; run = e-one (f .run) (g .run) (joins-append (f .R) (g .R)); joins = joins-two (f .joins) (g .joins) }
 
-    first-ok : (c : Call) (j items : ℕ) (k : Trees → Follows) (next : Next) → GoodNext c j items k next → (q : Parse ℕ) (qs set : List (Parse ℕ)) (s : State) (a r : Parsed) →
-        nested book text inner s (λ f. next q s f set) ≡ ok a → EachOk c j items k qs (a .set) (a .state) (r .set) (r .state) → EachOk c j items k (q ∷ qs) set s (r .set) (r .state)
+    first-ok : (c : Call) (j items : ℕ) (k : Trees → Follows) (next : Next) → GoodNext c j items k next →
+        (q : Parse ℕ) (qs set : List (Parse ℕ)) (s : State) (a r : Parsed) →
+        nested book text inner s (λ f. next q s f set) ≡ ok a → EachOk c j items k qs (a .set) (a .state) (r .set) (r .state) →
+        EachOk c j items k (q ∷ qs) set s (r .set) (r .state)
     first-ok c j items k next good q qs set s a r ran w =
         nested-run book text inner s _ ran (λ f there first-ran.
         one-then c j items k q qs set (a .set) (r .set) s (a .state) (r .state) (good q s f set a (goods f there) first-ran (w .back)) w)
 
-    follow-more-ok : (c : Call) (j items : ℕ) (k : Trees → Follows) (next : Next) → GoodNext c j items k next → (qs set : List (Parse ℕ)) (d : Option Error) (s : State) (r : Parsed) →
+    follow-more-ok : (c : Call) (j items : ℕ) (k : Trees → Follows) (next : Next) → GoodNext c j items k next →
+        (qs set : List (Parse ℕ)) (d : Option Error) (s : State) (r : Parsed) →
         followMore book text inner next qs set d s ≡ ok r → Before Cf (r .state) → EachOk c j items k qs set s (r .set) (r .state)
     unfolding followMore
     follow-more-ok c j items k next good [] set d s r e b =
@@ -84,7 +88,8 @@ module _ (book : Book) (text : List ℕ) (Cf : List Cell) (table : Table text Cf
     follow-more-ok c j items k next good (q ∷ qs) set d s r e b =
         after _ _ e (λ a ran others. first-ok c j items k next good q qs set s a r ran (follow-more-ok c j items k next good qs (a .set) _ (a .state) r others b))
 
-    follow-ok : (c : Call) (j items : ℕ) (k : Trees → Follows) (next : Next) → GoodNext c j items k next → (qs set : List (Parse ℕ)) (s : State) (r : Parsed) →
+    follow-ok : (c : Call) (j items : ℕ) (k : Trees → Follows) (next : Next) → GoodNext c j items k next →
+        (qs set : List (Parse ℕ)) (s : State) (r : Parsed) →
         follow book text inner next qs set s ≡ ok r → Before Cf (r .state) → EachOk c j items k qs set s (r .set) (r .state)
     unfolding follow
     follow-ok c j items k next good [] set s r e b =
@@ -110,7 +115,8 @@ module _ (book : Book) (text : List ℕ) (Cf : List Cell) (table : Table text Cf
         (λ d failed. subst (λ (z : Parsed). Before Cf (z .state) → EachOk c j items k (a .set) set (a .state) (z .set) (z .state)) (ok-inj (rw failed at e))
         (λ b′. subst (λ l. EachOk c j items k l set (a .state) set (a .state)) (sym (fails d failed)) (no-parses c j items k set (a .state) b′)) b)
 
-    tail-ok : (c : Call) (j M x items : ℕ) (k : Trees → Follows) (next : Next) → GoodNext c j items k next → (set : List (Parse ℕ)) (s : State) (a r : Parsed) →
+    tail-ok : (c : Call) (j M x items : ℕ) (k : Trees → Follows) (next : Next) → GoodNext c j items k next →
+        (set : List (Parse ℕ)) (s : State) (a r : Parsed) →
         enterChild book text inner c j M x s ≡ ok a → followed book text inner next set a ≡ ok r → Before Cf (r .state) →
         TailOk c j M x items k set s (r .set) (r .state)
     unfolding enterChild
@@ -120,7 +126,8 @@ module _ (book : Book) (text : List ℕ) (Cf : List Cell) (table : Table text Cf
         with-rest w = let o = enter-ok book text Cf table inner goods _ _ M (skipFrom text x) s a e₁ (w .back) in record { back = o .back; found = a .set; mid = a .state; called = o .run; finds = w .finds }
 
     -- the item is added, and the steps go on
-    plain-next-ok : (c : Call) (j : ℕ) (rest : List (Todo ℕ)) (items : ℕ) → GoodNext c j items (plain (map (todoFor text Cf) rest)) (plainNext book text c j rest items)
+    plain-next-ok : (c : Call) (j : ℕ) (rest : List (Todo ℕ)) (items : ℕ) →
+        GoodNext c j items (plain (map (todoFor text Cf) rest)) (plainNext book text c j rest items)
     unfolding plainNext
     plain-next-ok c j rest items q s f set r good e b =
         after _ _ e (λ m made ran. added m made (good c j rest (q .rest) (m .cell) set (m .state) r ran b))
@@ -143,7 +150,8 @@ module _ (book : Book) (text : List ℕ) (Cf : List Cell) (table : Table text Cf
       behind ts a = onward book text a (treeFor text Cf (q .value)) comma M (treesFor text Cf values) close (map (todoFor text Cf) rest) ts
 
       -- what is left behind it is the same in the relation
-      element-ok : (set : List (Parse ℕ)) (s : State) (m : Made) (r : Parsed) (todo : Todo ℕ) (a : After) (y : ℕ) → make text (Cell.chain values (q .value)) s ≡ ok m →
+      element-ok : (set : List (Parse ℕ)) (s : State) (m : Made) (r : Parsed) (todo : Todo ℕ) (a : After) (y : ℕ) →
+          make text (Cell.chain values (q .value)) s ≡ ok m →
           afterElement text comma (q .rest) ≡ a → ((ts : Trees) → treesFor text Cf (m .cell) ≡ treesFor text Cf values ▸ treeFor text Cf (q .value) →
           behind ts a ≡ record { todo = map (todoFor text Cf) (todo ∷ rest); place = y; items = ts }) →
           RunOk c j (todo ∷ rest) y items set (m .state) (r .set) (r .state) → NextOk c j items list-follows q set s (r .set) (r .state)
@@ -183,7 +191,8 @@ module _ (book : Book) (text : List ℕ) (Cf : List Cell) (table : Table text Cf
       finds : (ts : Trees) → Stands text Cf table book j items ts → Finds c j rest x (ts ▸ t) set s out u
 
     -- an item is added, and what is left goes on: the first side of a choice
-    with-item-ok : (c : Call) (j : ℕ) (rest : List (Todo ℕ)) (go : Go) → GoodGo c j rest go → (x items item : ℕ) (t : Tree) (set : List (Parse ℕ)) (s : State) (m : Made) (r : Parsed) →
+    with-item-ok : (c : Call) (j : ℕ) (rest : List (Todo ℕ)) (go : Go) → GoodGo c j rest go →
+        (x items item : ℕ) (t : Tree) (set : List (Parse ℕ)) (s : State) (m : Made) (r : Parsed) →
         withCell book text j items item s ≡ ok m → go x (m .cell) set (m .state) ≡ ok r → Before Cf (r .state) → (Before Cf s → treeFor text Cf item ≡ t) →
         ItemOk c j rest x items t set s (r .set) (r .state)
     with-item-ok c j rest go good x items item t set s m r made ran b means = added (good x (m .cell) set (m .state) r ran b)
@@ -194,8 +203,10 @@ module _ (book : Book) (text : List ℕ) (Cf : List Cell) (table : Table text Cf
             let v = with-cell-ok text Cf table book j items item t s m made (w .back) (means back) in
             record { back = back; finds = λ ts h. finds-from book text Cf table (v .way) (w .finds (ts ▸ t) (v .stands ts h)) }
 
-    stops-ok : (c : Call) (j values : ℕ) (close : Option ℕ) (rest : List (Todo ℕ)) (go : Go) → GoodGo c j rest go → (x items : ℕ) (set : List (Parse ℕ)) (s : State) (r : Parsed) →
-        stops book text j values close go x items set s ≡ ok r → Before Cf (r .state) → RunOk c j (ending values close ∷ rest) x items set s (r .set) (r .state)
+    stops-ok : (c : Call) (j values : ℕ) (close : Option ℕ) (rest : List (Todo ℕ)) (go : Go) → GoodGo c j rest go →
+        (x items : ℕ) (set : List (Parse ℕ)) (s : State) (r : Parsed) →
+        stops book text j values close go x items set s ≡ ok r → Before Cf (r .state) →
+        RunOk c j (ending values close ∷ rest) x items set s (r .set) (r .state)
     unfolding stops
     stops-ok c j values close rest go good x items set s r e b =
         after _ _ e (λ l made ran.
@@ -237,7 +248,8 @@ module _ (book : Book) (text : List ℕ) (Cf : List Cell) (table : Table text Cf
       joins = joins-two (f .joins) (g .joins);
     }
 
-    choice-ok : (c : Call) (j : ℕ) (comma : Bool) (M values : ℕ) (close : Option ℕ) (rest : List (Todo ℕ)) (go : Go) → GoodGo c j rest go → (x items : ℕ) (set : List (Parse ℕ))
+    choice-ok : (c : Call) (j : ℕ) (comma : Bool) (M values : ℕ) (close : Option ℕ) (rest : List (Todo ℕ)) (go : Go) → GoodGo c j rest go →
+        (x items : ℕ) (set : List (Parse ℕ))
         (s : State) (r : Parsed) → choice book text inner c j comma M values close rest go x items set s ≡ ok r → Before Cf (r .state) →
         RunOk c j (elements comma M values close ∷ rest) x items set s (r .set) (r .state)
     unfolding choice
@@ -256,7 +268,8 @@ module _ (book : Book) (text : List ℕ) (Cf : List Cell) (table : Table text Cf
             Finds c j (elements comma M values close ∷ rest) x ts set s out u
         more-or-stop z = record { R = z .R₁ ++ z .R₂; run = s-elements (z .one) (z .called) (z .each) (joins-append (z .R₁) (z .R₂)); joins = z .joins }
 
-    or-absent-ok : (c : Call) (j M : ℕ) (step : Step) (rest : List (Todo ℕ)) (go : Go) → GoodGo c j rest go → (x items : ℕ) (set : List (Parse ℕ)) (s : State) (r : Parsed) →
+    or-absent-ok : (c : Call) (j M : ℕ) (step : Step) (rest : List (Todo ℕ)) (go : Go) → GoodGo c j rest go →
+        (x items : ℕ) (set : List (Parse ℕ)) (s : State) (r : Parsed) →
         stepAt book text step x ≡ Taken.optional M → orAbsent book text inner c j M rest go x items set s ≡ ok r → Before Cf (r .state) →
         RunOk c j (take′ step ∷ rest) x items set s (r .set) (r .state)
     unfolding orAbsent
@@ -274,8 +287,10 @@ module _ (book : Book) (text : List ℕ) (Cf : List Cell) (table : Table text Cf
             Finds c j (take′ step ∷ rest) x ts set t out u
         one-or-absent z = record { R = z .R₁ ++ z .R₂; run = s-optional takes (z .one) (z .called) (z .each) (joins-append (z .R₁) (z .R₂)); joins = z .joins }
 
-    listing-ok : (c : Call) (j : ℕ) (step : Step) (comma : Bool) (M : ℕ) (close : Option ℕ) (rest : List (Todo ℕ)) (go : Go) → GoodGo c j rest go → (x y items : ℕ) (set : List (Parse ℕ))
-        (s : State) (r : Parsed) → stepAt book text step x ≡ Taken.list comma M close y → listing book text inner c j comma M close rest go y items set s ≡ ok r → Before Cf (r .state) →
+    listing-ok : (c : Call) (j : ℕ) (step : Step) (comma : Bool) (M : ℕ) (close : Option ℕ) (rest : List (Todo ℕ)) (go : Go) → GoodGo c j rest go →
+        (x y items : ℕ) (set : List (Parse ℕ))
+        (s : State) (r : Parsed) → stepAt book text step x ≡ Taken.list comma M close y →
+        listing book text inner c j comma M close rest go y items set s ≡ ok r → Before Cf (r .state) →
         RunOk c j (take′ step ∷ rest) x items set s (r .set) (r .state)
     unfolding listing
     listing-ok c j step comma M close rest go good x y items set s r takes e b =
@@ -284,15 +299,18 @@ module _ (book : Book) (text : List ℕ) (Cf : List Cell) (table : Table text Cf
         let v = make-way text Cf table s m Cell.empty made (w .back) in
         record { back = v .back; finds = λ ts h. begun (made-empty text Cf table s m made (w .back)) (finds-from book text Cf table v (w .finds ts h)) })
       where
-        begun : {n : ℕ} {ts : Trees} → treesFor text Cf n ≡ none′ → Finds c j (elements comma M n close ∷ rest) y ts set s (r .set) (r .state) → Finds c j (take′ step ∷ rest) x ts set s (r .set) (r .state)
+        begun : {n : ℕ} {ts : Trees} → treesFor text Cf n ≡ none′ → Finds c j (elements comma M n close ∷ rest) y ts set s (r .set) (r .state) →
+            Finds c j (take′ step ∷ rest) x ts set s (r .set) (r .state)
         begun {ts = ts} empty g = record {
           R = g .R;
           run = s-list takes (subst (λ l. Steps book text (openFor text Cf c) j (elements comma M l close ∷ map (todoFor text Cf) rest) y ts (s .asked) (g .R) (r .state .asked)) empty (g .run));
           joins = g .joins;
         }
 
-    unopened-ok : (c : Call) (j : ℕ) (step : Step) (rest : List (Todo ℕ)) (go : Go) → GoodGo c j rest go → (x y items : ℕ) (set : List (Parse ℕ)) (s : State) (r : Parsed) →
-        stepAt book text step x ≡ Taken.unopened y → (make text Cell.empty s >>= (λ e. stops book text j (e .cell) none go y items set (e .state))) ≡ ok r → Before Cf (r .state) →
+    unopened-ok : (c : Call) (j : ℕ) (step : Step) (rest : List (Todo ℕ)) (go : Go) → GoodGo c j rest go →
+        (x y items : ℕ) (set : List (Parse ℕ)) (s : State) (r : Parsed) →
+        stepAt book text step x ≡ Taken.unopened y → (make text Cell.empty s >>= (λ e. stops book text j (e .cell) none go y items set (e .state))) ≡ ok r →
+        Before Cf (r .state) →
         RunOk c j (take′ step ∷ rest) x items set s (r .set) (r .state)
     unfolding stops closed
     unopened-ok c j step rest go good x y items set s r takes e b =
@@ -303,7 +321,8 @@ module _ (book : Book) (text : List ℕ) (Cf : List Cell) (table : Table text Cf
         let u = make-way text Cf table s m Cell.empty made (v .back) in
         record { back = u .back; finds = λ ts h. none-there (made-empty text Cf table s m made (v .back)) (finds-from book text Cf table u (finds-from book text Cf table v (w .finds ts h))) })))
       where
-        none-there : {ts values : Trees} → values ≡ none′ → Finds c j rest y (ts ▸ Tree.list values) set s (r .set) (r .state) → Finds c j (take′ step ∷ rest) x ts set s (r .set) (r .state)
+        none-there : {ts values : Trees} → values ≡ none′ → Finds c j rest y (ts ▸ Tree.list values) set s (r .set) (r .state) →
+            Finds c j (take′ step ∷ rest) x ts set s (r .set) (r .state)
         none-there {ts} empty g = record {
           R = g .R;
           run = s-unopened takes (subst (λ l. Steps book text (openFor text Cf c) j (map (todoFor text Cf) rest) y (ts ▸ Tree.list l) (s .asked) (g .R) (r .state .asked)) empty (g .run));
@@ -311,8 +330,10 @@ module _ (book : Book) (text : List ℕ) (Cf : List Cell) (table : Table text Cf
         }
 
     -- ---- Steps
-    token-ok : (c : Call) (j : ℕ) (step : Step) (t : Token) (rest : List (Todo ℕ)) (go : Go) → GoodGo c j rest go → (x items : ℕ) (set : List (Parse ℕ)) (s : State) (r : Parsed) →
-        stepAt book text step x ≡ Taken.token t → (withToken book text j items (t .item) s >>= (λ m. go (t .next) (m .cell) set (m .state))) ≡ ok r → Before Cf (r .state) →
+    token-ok : (c : Call) (j : ℕ) (step : Step) (t : Token) (rest : List (Todo ℕ)) (go : Go) → GoodGo c j rest go →
+        (x items : ℕ) (set : List (Parse ℕ)) (s : State) (r : Parsed) →
+        stepAt book text step x ≡ Taken.token t → (withToken book text j items (t .item) s >>= (λ m. go (t .next) (m .cell) set (m .state))) ≡ ok r →
+        Before Cf (r .state) →
         RunOk c j (take′ step ∷ rest) x items set s (r .set) (r .state)
     token-ok c j step t rest go good x items set s r takes e b =
         after _ _ e (λ m made went.
@@ -323,7 +344,8 @@ module _ (book : Book) (text : List ℕ) (Cf : List Cell) (table : Table text Cf
           finds = λ ts h. let g = finds-from book text Cf table (v .way) (w .finds (withItem text ts (t .item)) (v .stands ts h)) in record { R = g .R; run = s-token takes (g .run); joins = g .joins };
         })
 
-    child-ok : (c : Call) (j M : ℕ) (step : Step) (rest : List (Todo ℕ)) (x items : ℕ) (set : List (Parse ℕ)) (s : State) (r : Parsed) → stepAt book text step x ≡ Taken.child M →
+    child-ok : (c : Call) (j M : ℕ) (step : Step) (rest : List (Todo ℕ)) (x items : ℕ) (set : List (Parse ℕ)) (s : State) (r : Parsed) →
+        stepAt book text step x ≡ Taken.child M →
         (enterChild book text inner c j M x s >>= (λ d. followed book text inner (plainNext book text c j rest items) set d)) ≡ ok r → Before Cf (r .state) →
         RunOk c j (take′ step ∷ rest) x items set s (r .set) (r .state)
     child-ok c j M step rest x items set s r takes e b =
@@ -331,7 +353,8 @@ module _ (book : Book) (text : List ℕ) (Cf : List Cell) (table : Table text Cf
         let t = tail-ok c j M x items _ _ (plain-next-ok c j rest items) set s d r entered went b in
         record { back = t .back; finds = λ ts h. let g = t .finds ts h in record { R = g .R; run = s-child takes (t .called) (g .run); joins = g .joins } })
 
-    nothing-ok : (c : Call) (j : ℕ) (step : Step) (rest : List (Todo ℕ)) (x items : ℕ) (set : List (Parse ℕ)) (s : State) → stepAt book text step x ≡ Taken.nothing → Before Cf s →
+    nothing-ok : (c : Call) (j : ℕ) (step : Step) (rest : List (Todo ℕ)) (x items : ℕ) (set : List (Parse ℕ)) (s : State) →
+        stepAt book text step x ≡ Taken.nothing → Before Cf s →
         RunOk c j (take′ step ∷ rest) x items set s set s
     nothing-ok c j step rest x items set s takes b = record { back = b; finds = λ ts h. record { R = []; run = s-nothing takes; joins = joins-nil } }
 
@@ -349,7 +372,8 @@ module _ (book : Book) (text : List ℕ) (Cf : List Cell) (table : Table text Cf
       });
     }
 
-    complete-ok : (c : Call) (j x items : ℕ) (set : List (Parse ℕ)) (s : State) (r : Parsed) → complete book text j x items set s ≡ ok r → Before Cf (r .state) →
+    complete-ok : (c : Call) (j x items : ℕ) (set : List (Parse ℕ)) (s : State) (r : Parsed) → complete book text j x items set s ≡ ok r →
+        Before Cf (r .state) →
         RunOk c j [] x items set s (r .set) (r .state)
     unfolding complete
     complete-ok c j x items set s r e b =
@@ -401,6 +425,7 @@ module _ (book : Book) (text : List ℕ) (Cf : List Cell) (table : Table text Cf
   runner-ok (suc n) f e = subst Good (some-inj e) (steps-ok (runner book text n) (runner-ok n))
 
   -- what the run of a text finds, the relation finds
-  pub run-ok : (allowance start : ℕ) (r : Parsed) → run book text allowance start ≡ ok r → Before Cf (r .state) → Enters book text [] [] [] start (skipFrom text 0) (trees text Cf (r .set)) (r .state .asked)
+  pub run-ok : (allowance start : ℕ) (r : Parsed) → run book text allowance start ≡ ok r → Before Cf (r .state) →
+      Enters book text [] [] [] start (skipFrom text 0) (trees text Cf (r .set)) (r .state .asked)
   unfolding run
   run-ok allowance start r e b = enter-ok book text Cf table (runner book text 200) (runner-ok 200) [] [] start (skipFrom text 0) _ r e b .run

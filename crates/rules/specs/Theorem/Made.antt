@@ -48,11 +48,13 @@ module _ (text : List ℕ) (Cf : List Cell) (table : Table text Cf) where
     unfolding meaningOf treesIn
     made-empty e b = ap treesIn (make-means text Cf table Cell.empty s m e b)
 
-    pub made-chain : (c item : ℕ) → make text (Cell.chain c item) s ≡ ok m → Before Cf (m .state) → treesFor text Cf (m .cell) ≡ treesFor text Cf c ▸ treeFor text Cf item
+    pub made-chain : (c item : ℕ) → make text (Cell.chain c item) s ≡ ok m → Before Cf (m .state) →
+        treesFor text Cf (m .cell) ≡ treesFor text Cf c ▸ treeFor text Cf item
     unfolding meaningOf treesIn
     made-chain c item e b = ap treesIn (make-means text Cf table (Cell.chain c item) s m e b)
 
-    pub made-variant : (j c : ℕ) → make text (Cell.variant j c) s ≡ ok m → Before Cf (m .state) → treeFor text Cf (m .cell) ≡ Tree.variant j (treesFor text Cf c)
+    pub made-variant : (j c : ℕ) → make text (Cell.variant j c) s ≡ ok m → Before Cf (m .state) →
+        treeFor text Cf (m .cell) ≡ Tree.variant j (treesFor text Cf c)
     unfolding meaningOf treeIn
     made-variant j c e b = ap treeIn (make-means text Cf table (Cell.variant j c) s m e b)
 
@@ -64,7 +66,8 @@ module _ (text : List ℕ) (Cf : List Cell) (table : Table text Cf) where
     unfolding meaningOf treeIn
     made-absent e b = ap treeIn (make-means text Cf table Cell.absent s m e b)
 
-    pub made-name : (place size : ℕ) → make text (Cell.name place size) s ≡ ok m → Before Cf (m .state) → treeFor text Cf (m .cell) ≡ Tree.name (partOf text place size)
+    pub made-name : (place size : ℕ) → make text (Cell.name place size) s ≡ ok m → Before Cf (m .state) →
+        treeFor text Cf (m .cell) ≡ Tree.name (partOf text place size)
     unfolding meaningOf treeIn
     made-name place size e b = ap treeIn (make-means text Cf table (Cell.name place size) s m e b)
 
@@ -98,7 +101,8 @@ module _ (text : List ℕ) (Cf : List Cell) (table : Table text Cf) where
       pub way : Way Cf s (m .state)
       pub stands : (ts : Trees) → Stands items ts → Stands (m .cell) (add ts)
 
-    pub with-cell-ok : (items item : ℕ) (t : Tree) (s : State) (m : Made) → withCell book text j items item s ≡ ok m → Before Cf (m .state) → treeFor text Cf item ≡ t →
+    pub with-cell-ok : (items item : ℕ) (t : Tree) (s : State) (m : Made) → withCell book text j items item s ≡ ok m → Before Cf (m .state) →
+        treeFor text Cf item ≡ t →
         WithOk items (λ ts. ts ▸ t) s m
     unfolding withCell lastOf
     with-cell-ok items item t s m e b v =

@@ -60,7 +60,8 @@ distinct-places (distinct-cons {l = l} once rest) d (suc i) zero h₁ h₂ e = a
 distinct-places (distinct-cons once rest) d (suc i) (suc k) h₁ h₂ e = ap suc (distinct-places rest d i k (le-of-suc-le-suc h₁) (le-of-suc-le-suc h₂) e)
 
 -- ---- Equal parses
-pub parse-fields : {Value : Type 0} (p q : Parse Value) → p .rest ≡ q .rest → p .level ≡ q .level → p .associativity ≡ q .associativity → p .value ≡ q .value → p ≡ q
+pub parse-fields : {Value : Type 0} (p q : Parse Value) → p .rest ≡ q .rest → p .level ≡ q .level → p .associativity ≡ q .associativity →
+    p .value ≡ q .value → p ≡ q
 parse-fields p q r l a v = λ i. record { rest = r i; level = l i; associativity = a i; value = v i }
 
 pub associativity-once : (a b : Associativity) → associativityNumber a ≡ associativityNumber b → a ≡ b

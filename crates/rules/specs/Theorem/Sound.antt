@@ -93,7 +93,8 @@ module _ (book : Book) (text : List ℕ) where
       by-variant e (w .below) (subst (λ k. leb m (variantNumber book k .level) ≡ true) (w .is) (w .high))
       (subst (λ k. Through book text P N u k (todoOf book (variantNumber book k)) u none′ p) (w .is) (w .way))
 
-  by-named : {P : Path} {N u m : ℕ} {p : Parse Tree} → governor P base N u ≡ minimum m → hasMark book 2 N ≡ true → (b : Bool) → claimed book text P base u ≡ b →
+  by-named : {P : Path} {N u m : ℕ} {p : Parse Tree} → governor P base N u ≡ minimum m → hasMark book 2 N ≡ true → (b : Bool) →
+      claimed book text P base u ≡ b →
       (end : Option ℕ) → freeEnd book text u ≡ end → p ∈ cond b [] (named book text end u) → Derives book text P N u p
   by-named g k true c end e m = absurd (List·Memᴰ·not-nil m)
   by-named g k false c none e m = absurd (List·Memᴰ·not-nil m)
@@ -170,7 +171,8 @@ module _ (book : Book) (text : List ℕ) where
     s-steps (s-unclosed e) h t p m = absurd (List·Memᴰ·not-nil m)
     s-steps (s-ending e s) h t p m = by-ending e (s-steps s h t p m)
 
-    s-each : {o : Open} {j : ℕ} {c : Follows} {Q : List (Parse Tree)} {B : List Bool} {R : List (Parse Tree)} {B′ : List Bool} → Each book text o j c Q B R B′ →
+    s-each : {o : Open} {j : ℕ} {c : Follows} {Q : List (Parse Tree)} {B : List Bool} {R : List (Parse Tree)} {B′ : List Bool} →
+        Each book text o j c Q B R B′ →
         Truthful (o .path) (o .sets) → Mine o → (p : Parse Tree) → p ∈ R → Followed o j c Q p
     s-each e-none h t p m = absurd (List·Memᴰ·not-nil m)
     s-each (e-one {q = q} s es u) h t p m =

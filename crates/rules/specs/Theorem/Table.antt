@@ -167,7 +167,8 @@ module _ (text : List ℕ) where
     cells : m .state .cells ≡ s .cells ++ (c ∷ [])
     asked : m .state .asked ≡ s .asked
 
-  make-cases : {P : Type 0} (c : Cell) (s : State) (m : Made) → make text c s ≡ ok m → (Found c (s .cells) 1 (m .cell) → m .state ≡ s → P) → (New c s m → P) → P
+  make-cases : {P : Type 0} (c : Cell) (s : State) (m : Made) → make text c s ≡ ok m → (Found c (s .cells) 1 (m .cell) → m .state ≡ s → P) →
+      (New c s m → P) → P
   unfolding make
   make-cases c s m e old new =
       by-test (eqb (findCell text c 1 (s .cells)) 0)
