@@ -150,4 +150,5 @@ zeros unused beyond = replicate unused 0 ++ replicate beyond 7
     print(len(vectors), "vectors")
 
 
-main()
+if __name__ == "__main__":
+    main()

@@ -70,7 +70,7 @@ associativityNumber Associativity.Right = 1
 associativityNumber Associativity.None = 2
 associativityNumber Associativity.Both = 3
 
--- "Kinds: 0 character a; 1 word a; 2 identifier; ..."
+-- "Kinds: 0 character a; 1 word a; 2 identifier; .."
 abbrev pub stepNumber : Step → ℕ
 stepNumber (Step.Character a) = 0
 stepNumber (Step.Word a) = 1

@@ -12,7 +12,7 @@ pub data Cell : Type 0 where
   absent : Cell
   list : ℕ → Cell
 
--- "three numbers (.. unstated ones 0)": "1 empty chain; 2 chain, item; 3 variant, chain; 4 name place, length; 5 number high, low half; 6 name number, kind;
+-- "three numbers (.. unstated ones 0)": "1 empty chain ..; 2 chain, item; 3 variant .., chain; 4 name place, length ..; 5 number high, low half; 6 name number, kind;
 -- 7 absent; 8 list, chain"
 unfoldable pub numbersOf : Cell → List ℕ
 numbersOf empty = 1 ∷ 0 ∷ 0 ∷ []
@@ -24,7 +24,7 @@ numbersOf (variable i kind) = 6 ∷ i ∷ kind ∷ []
 numbersOf absent = 7 ∷ 0 ∷ 0 ∷ []
 numbersOf (list c) = 8 ∷ c ∷ 0 ∷ []
 
--- the cells that such numbers hold
+-- the cells that such numbers hold; three zeros, which are unused, read as an empty chain, which stands for no tree
 abbrev pub cellOf : ℕ → ℕ → ℕ → Cell
 cellOf form a b =
     getD (empty ∷ chain a b ∷ variant a b ∷ name a b ∷ number a b ∷ variable a b ∷ absent ∷ list a ∷ []) (form - 1) empty
@@ -52,7 +52,8 @@ findCell text c n [] = 0
 findCell text c n (d ∷ ds) = elim (same (identityOf text c) (identityOf text d)) [ true ↦ n | false ↦ findCell text c (suc n) ds ]
 
 -- ---- "A value is a tree, and its cell only stands for it"
--- what a cell stands for: a tree, or the trees of a chain
+-- what a cell stands for: a tree, or the trees of a chain. Every list of cells has some meaning: a number that is no earlier cell of the right kind
+-- counts as absent, or as no trees. A run makes no such cell
 pub data Meaning : Type 0 where
   one : Tree → Meaning
   several : Trees → Meaning

@@ -44,7 +44,7 @@ choiceError at N a b = elim (beyond at (join a b)) [ some e ↦ e | none ↦ err
 -- what a step gives where it takes nothing: "1 character (its code); 2 word (number); 3 identifier wanted; 4 text ended where step kinds
 -- 2 to 5 wanted a token; 5 variable found; 6 reserved word found; 7 unknown name; 8 wrong kind (kind wanted); 9 digits wanted; 10 number too large"
 module _ (book : Book) (text : List ℕ) where
-  -- an identifier was wanted: the text ended, none is there, or it is reserved; else another kind of error
+  -- an identifier was wanted: the text ended, it is reserved, or none is there; else another kind of error. Kind 2 has no other
   unfoldable pub identifierError : ℕ → Error → Error
   identifierError at other =
       when (eqb at (length text)) (λ _. error at 4 0)

@@ -1,4 +1,4 @@
--- What an answer has to do with the book's derivations: the parses listed, each once, are exactly those with a finite derivation; a value is returned exactly when
+-- Demand 3, what an answer has to do with the book's derivations: the parses listed, each once, are exactly those with a finite derivation; a value is returned exactly when
 -- some derivation reaches the end and all that do agree. Parses are alike if they are in rest, level, associativity and value.
 use mathlib.Core.Path.{_≡_}
 use mathlib.Core.Bool.{true, false}
@@ -27,7 +27,7 @@ pub record Holds (text : List ℕ) (a : Answered) (i : ℕ) (p : Parse Tree) : T
   pub associativity : getD (a .parses) (4 * i + 2) 0 ≡ associativityNumber (p .associativity)
   pub value : StandsFor text (a .cells) (getD (a .parses) (4 * i + 3) 0) (p .value)
 
--- a parse "whose derivation reaches the end"
+-- "its derivation reaches the end"
 pub record Reaches (book : Book) (text : List ℕ) (start : ℕ) (p : Parse Tree) : Type 0 where
   pub derived : DerivesText book text start p
   pub ends : whole text p ≡ true
@@ -70,8 +70,8 @@ module _ (book : Book) (text : List ℕ) (start : ℕ) where
 
 -- The theorem (Theorem.Found): of every call whose book is accepted, that isn't refused before the run (1 to 11), and that meets no limit (20 to 23), whatever the
 -- lent lists held
-abbrev pub FoundIsDerivable : Type 0
-FoundIsDerivable = (cells parses bytes text : List ℕ) (start allowance : ℕ) (book : Book) → checkBook bytes ≡ Outcome.book book →
+abbrev pub FoundIsExactlyDerivable : Type 0
+FoundIsExactlyDerivable = (cells parses bytes text : List ℕ) (start allowance : ℕ) (book : Book) → checkBook bytes ≡ Outcome.book book →
     between 1 11 (answerOf cells parses bytes text start allowance .answer .refusal) ≡ false →
     between 20 23 (answerOf cells parses bytes text start allowance .answer .refusal) ≡ false →
     Exact book text start (answerOf cells parses bytes text start allowance)

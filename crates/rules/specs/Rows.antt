@@ -3,7 +3,7 @@ use mathlib.Core.Path.{_≡_, refl}
 use mathlib.Core.List.{List, [], _∷_, _++_}
 use Prim.Native.Nat.{ℕ, _*_}
 use lib.Dec.{eqb}
-use lib.ListN.{take, replicate}
+use lib.ListN.{getD, take, replicate}
 use Rattle.rules.specs.Values.{Tree, none′, _▸_}
 use Rattle.characters.specs.Classes.{classOf}
 use Rattle.characters.specs.Skipping.{leading, spanEnd, commentAt, commentEnd, roundEnd, rounds, skipFrom}
@@ -12,7 +12,7 @@ use Rattle.characters.specs.Spelling.{same}
 use Rattle.book.specs.Book.{isReserved, lookupFrom}
 use Rattle.book.specs.Check.{checked, row, spelling, entry, nonterminal, variant, stepOf, step, allPass, ended, whole, checkBook}
 use Rattle.rules.specs.Uses.{outwards, govern, governor}
-use Rattle.rules.specs.Tokens.{isSome, characterEnd, identifierEnd, reservedAt, freeEnd, variableAt, claimant, when}
+use Rattle.rules.specs.Tokens.{isSome, characterEnd, identifierEnd, reservedAt, freeEnd, variableAt, hasClaimant, when}
 use Rattle.rules.specs.Steps.{stepAt, afterElement, closed}
 use Rattle.rules.specs.Cells.{numbersOf, cellsIn, identityOf, findCell, treeIn, treesIn, meaningOf, meanings, treeAt}
 use Rattle.rules.specs.Errors.{join, beyond, joinWith, choiceError, identifierError, stepError}
@@ -81,7 +81,7 @@ pub record Rows : Type 0 where
   pub row12 : reads (example 0) (40 ∷ 49 ∷ 56 ∷ 52 ∷ 52 ∷ 54 ∷ 55 ∷ 52 ∷ 52 ∷ 48 ∷ 55 ∷ 51 ∷ 55 ∷ 48 ∷ 57 ∷ 53 ∷ 53 ∷ 49 ∷ 54 ∷ 49 ∷ 54 ∷ []) ≡ refused 30 1 11 0
 
 pub rows : Rows
-unfolding classOf leading spanEnd commentAt commentEnd roundEnd rounds skipFrom identifierAt decimal numberOf numberAt same isReserved lookupFrom checked row spelling entry nonterminal variant stepOf step allPass ended whole checkBook outwards govern governor isSome characterEnd identifierEnd reservedAt freeEnd variableAt stepAt claimant afterElement closed numbersOf cellsIn identityOf findCell treeIn treesIn meaningOf meanings join beyond joinWith choiceError identifierError stepError _>>=_ sameParse has allIn kept add addAll ask newest others spend make itemCell withCell withToken nested closingOf begin complete counted variants oneRun roundsRun failedCall runCall named runIdentifier reentry enter enterChild either followMore follow followed plainNext listNext chosen stops stepUnit orAbsent choice listing steps runner run cellNumbers parseNumbers written wholeValues allAre firstHigh byValues atEnd onBook answerOf
+unfolding classOf leading spanEnd commentAt commentEnd roundEnd rounds skipFrom identifierAt decimal numberOf numberAt same isReserved lookupFrom checked row spelling entry nonterminal variant stepOf step allPass ended whole checkBook outwards govern governor isSome characterEnd identifierEnd reservedAt freeEnd variableAt stepAt hasClaimant afterElement closed numbersOf cellsIn identityOf findCell treeIn treesIn meaningOf meanings join beyond joinWith choiceError identifierError stepError _>>=_ sameParse has allIn kept add addAll ask newest others spend make itemCell withCell withToken nested closingOf begin complete counted variants oneRun roundsRun failedCall runCall named runIdentifier reentry enter enterChild either followMore follow followed plainNext listNext chosen stops stepUnit orAbsent choice listing steps runner run cellNumbers parseNumbers written wholeValues allAre firstHigh byValues atEnd onBook answerOf
 rows = record { row1 = refl; row2 = refl; row3 = refl; row4 = refl; row5 = refl; row6 = refl; row7 = refl; row8 = refl; row9 = refl; row10 = refl; row11 = refl; row12 = refl }
 
 -- ---- "More"
@@ -115,5 +115,28 @@ pub record More : Type 0 where
   pub order : take 9 (answerOf (replicate 12288 0) (replicate 256 0) twoEmpty [] 0 1000000 .cells) ≡ 1 ∷ 0 ∷ 0 ∷ 3 ∷ 0 ∷ 1 ∷ 3 ∷ 1 ∷ 1 ∷ []
 
 pub more : More
-unfolding classOf leading spanEnd commentAt commentEnd roundEnd rounds skipFrom identifierAt decimal numberOf numberAt same isReserved lookupFrom checked row spelling entry nonterminal variant stepOf step allPass ended whole checkBook outwards govern governor isSome characterEnd identifierEnd reservedAt freeEnd variableAt stepAt claimant afterElement closed numbersOf cellsIn identityOf findCell treeIn treesIn meaningOf meanings join beyond joinWith choiceError identifierError stepError _>>=_ sameParse has allIn kept add addAll ask newest others spend make itemCell withCell withToken nested closingOf begin complete counted variants oneRun roundsRun failedCall runCall named runIdentifier reentry enter enterChild either followMore follow followed plainNext listNext chosen stops stepUnit orAbsent choice listing steps runner run cellNumbers parseNumbers written wholeValues allAre firstHigh byValues atEnd onBook answerOf
+unfolding classOf leading spanEnd commentAt commentEnd roundEnd rounds skipFrom identifierAt decimal numberOf numberAt same isReserved lookupFrom checked row spelling entry nonterminal variant stepOf step allPass ended whole checkBook outwards govern governor isSome characterEnd identifierEnd reservedAt freeEnd variableAt stepAt hasClaimant afterElement closed numbersOf cellsIn identityOf findCell treeIn treesIn meaningOf meanings join beyond joinWith choiceError identifierError stepError _>>=_ sameParse has allIn kept add addAll ask newest others spend make itemCell withCell withToken nested closingOf begin complete counted variants oneRun roundsRun failedCall runCall named runIdentifier reentry enter enterChild either followMore follow followed plainNext listNext chosen stops stepUnit orAbsent choice listing steps runner run cellNumbers parseNumbers written wholeValues allAre firstHigh byValues atEnd onBook answerOf
 more = record { passing = refl; unpassing = refl; lastStep = refl; missingCharacter = refl; longest = refl; tooLong = refl; enough = refl; tooFew = refl; order = refl }
+
+-- ---- What neither the rows nor derivations and run together show, since these share it
+-- the rests of the parses listed
+abbrev pub restsOf : Answered → List ℕ
+restsOf a = getD (a .parses) 0 0 ∷ getD (a .parses) 4 0 ∷ []
+
+abbrev pub answered : List ℕ → List ℕ → Answered
+answered book text = answerOf (replicate 12288 0) (replicate 256 0) book text 0 1000000
+
+pub record Points : Type 0 where
+  -- "A comma looked for in vain .. still leaves the place skipped": a comma list of identifiers on `a `, and one or none of them
+  pub commaInVain : restsOf (answered (0 ∷ 0 ∷ 2 ∷ 0 ∷ 1 ∷ 2 ∷ 0 ∷ 1 ∷ 255 ∷ 3 ∷ 1 ∷ 1 ∷ 1 ∷ 11 ∷ 1 ∷ 0 ∷ 0 ∷ []) (97 ∷ 32 ∷ [])) ≡ 0 ∷ 2 ∷ []
+  -- "or an optional opening in vain": `-` and kind 13, on `- `
+  pub openingInVain : restsOf (answered (0 ∷ 0 ∷ 1 ∷ 0 ∷ 1 ∷ 1 ∷ 255 ∷ 3 ∷ 1 ∷ 2 ∷ 2 ∷ 0 ∷ 45 ∷ 0 ∷ 0 ∷ 13 ∷ 0 ∷ 40 ∷ 41 ∷ []) (45 ∷ 32 ∷ [])) ≡ 2 ∷ 0 ∷ []
+  -- "2, 4, 5 and a mark-2 use refuse a reserved word": the variable `a`, which is a reserved word too
+  pub reservedVariable : reads (1 ∷ 1 ∷ 1 ∷ 97 ∷ 1 ∷ 0 ∷ 1 ∷ 97 ∷ 1 ∷ 0 ∷ 1 ∷ 1 ∷ 255 ∷ 3 ∷ 1 ∷ 1 ∷ 1 ∷ 4 ∷ 0 ∷ 0 ∷ 0 ∷ []) (97 ∷ []) ≡ refused 30 0 11 0
+  -- "The furthest place wins, then least kind, then least argument": after `-`, 34 or 33; a number or 33
+  pub leastArgument : reads (0 ∷ 0 ∷ 1 ∷ 0 ∷ 2 ∷ 2 ∷ 255 ∷ 3 ∷ 1 ∷ 2 ∷ 255 ∷ 3 ∷ 1 ∷ 2 ∷ 4 ∷ 0 ∷ 45 ∷ 0 ∷ 0 ∷ 0 ∷ 34 ∷ 0 ∷ 0 ∷ 0 ∷ 45 ∷ 0 ∷ 0 ∷ 0 ∷ 33 ∷ 0 ∷ 0 ∷ []) (45 ∷ []) ≡ refused 30 1 1 33
+  pub leastKind : reads (0 ∷ 0 ∷ 1 ∷ 0 ∷ 2 ∷ 2 ∷ 255 ∷ 3 ∷ 1 ∷ 2 ∷ 255 ∷ 3 ∷ 1 ∷ 2 ∷ 4 ∷ 0 ∷ 45 ∷ 0 ∷ 0 ∷ 3 ∷ 0 ∷ 0 ∷ 0 ∷ 0 ∷ 45 ∷ 0 ∷ 0 ∷ 0 ∷ 33 ∷ 0 ∷ 0 ∷ []) (45 ∷ 120 ∷ []) ≡ refused 30 1 1 33
+
+pub points : Points
+unfolding classOf leading spanEnd commentAt commentEnd roundEnd rounds skipFrom identifierAt decimal numberOf numberAt same isReserved lookupFrom checked row spelling entry nonterminal variant stepOf step allPass ended whole checkBook outwards govern governor isSome characterEnd identifierEnd reservedAt freeEnd variableAt stepAt hasClaimant afterElement closed numbersOf cellsIn identityOf findCell treeIn treesIn meaningOf meanings join beyond joinWith choiceError identifierError stepError _>>=_ sameParse has allIn kept add addAll ask newest others spend make itemCell withCell withToken nested closingOf begin complete counted variants oneRun roundsRun failedCall runCall named runIdentifier reentry enter enterChild either followMore follow followed plainNext listNext chosen stops stepUnit orAbsent choice listing steps runner run cellNumbers parseNumbers written wholeValues allAre firstHigh byValues atEnd onBook answerOf
+points = record { commaInVain = refl; openingInVain = refl; reservedVariable = refl; leastArgument = refl; leastKind = refl }

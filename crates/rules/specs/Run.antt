@@ -160,7 +160,7 @@ unfoldable pub chosen : Call → ℕ → Option Error → Parsed → Parsed
 chosen c at none b = parsed (b .set) none (b .state)
 chosen c at (some a) b = elim (b .failure) [ none ↦ b | some e ↦ parsed (b .set) (some (choiceError at (c .nonterminal) a e)) (b .state) ]
 
--- the closing that is missing
+-- the closing that is missing; a list without one is never asked for it
 unfoldable pub closingOf : Option ℕ → ℕ
 closingOf none = 0
 closingOf (some c) = c
@@ -294,6 +294,7 @@ module _ (book : Book) (text : List ℕ) (inner : Option Runner) where
   followMore next [] set failure s = ok (parsed set failure s)
   followMore next (q ∷ qs) set failure s = nested s (λ run. next q s run set) >>= (λ a. followMore next qs (a .set) (either failure (a .failure)) (a .state))
 
+  -- a call without a parse fails, so that the list is never empty here
   unfoldable pub follow : Next → List (Parse ℕ) → List (Parse ℕ) → State → Result Parsed
   follow next [] set s = ok (parsed set none s)
   follow next (q ∷ qs) set s = nested s (λ run. next q s run set) >>= (λ a. followMore next qs (a .set) (a .failure) (a .state))

@@ -27,7 +27,7 @@ pub record Token : Type 0 where
 
 -- what a step takes at a place
 pub data Taken : Type 0 where
-  -- kinds 0 to 7: a token
+  -- kinds 0 to 7: a token; kinds 6 and 7 take one that is empty, where they reject nothing
   token : Token → Taken
   -- kinds 8 and 9: a child of a nonterminal, or perhaps one
   child optional : ℕ → Taken
@@ -44,7 +44,7 @@ read next item = token (record { next = next; item = item })
 abbrev pub readVariable : Variable → Taken
 readVariable v = read (v .end) (some (variable (v .number) (v .kind)))
 
--- "Every token skips first; what follows it is unskipped"; "Kinds 2 to 5 and 8 to 13 add one item, others none; 6 and 7 don't move the place"
+-- "Every token skips first; what follows it is unskipped"; "Kinds 2 to 5 .. add one item, others none; 6 and 7 don't move the place"
 unfoldable pub stepAt : Book → List ℕ → Step → ℕ → Taken
 stepAt book text (Step.Character a) x = elim (characterEnd text a x) [ some end ↦ read end none | none ↦ nothing ]
 stepAt book text (Step.Word a) x =

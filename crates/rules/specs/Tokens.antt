@@ -61,10 +61,10 @@ module _ (book : Book) (text : List ℕ) where
       ]
 
   -- whether an enclosing mark-1 use begins at a place of a scope
-  unfoldable pub claimant : Path → ℕ → ℕ → Bool
-  claimant [] scope u = false
-  claimant (f ∷ path) scope u = (hasMark book 1 (f .nonterminal) && (eqb (f .scope) scope && eqb (f .start) u)) || claimant path scope u
+  unfoldable pub hasClaimant : Path → ℕ → ℕ → Bool
+  hasClaimant [] scope u = false
+  hasClaimant (f ∷ path) scope u = (hasMark book 1 (f .nonterminal) && (eqb (f .scope) scope && eqb (f .start) u)) || hasClaimant path scope u
 
   -- "unless an enclosing mark-1 use at the same place and scope could read a variable there"
   abbrev pub claimed : Path → ℕ → ℕ → Bool
-  claimed path scope u = isSome (variableAt u) && claimant path scope u
+  claimed path scope u = isSome (variableAt u) && hasClaimant path scope u

@@ -57,7 +57,7 @@ govern true true f path around = same-start zero f path
 govern true false f path around = minimum (minimumOf (f .associativity) (f .level))
 govern false b f path around = outwards around
 
--- "Its governor is the nearest enclosing use of N, in the same scope, whose current child begins at u. No governor: minimum 0"
+-- "Its governor is the nearest enclosing use of N, in the same scope .., whose current child begins at u. No governor: minimum 0"
 unfoldable pub governor : Path → ℕ → ℕ → ℕ → Governor
 governor [] scope N u = minimum 0
 governor (f ∷ path) scope N u =

@@ -1,4 +1,4 @@
--- Document 01, "Derivations", its last paragraph: "A value is a tree".
+-- Document 01, "Derivations", its last paragraph: "A value is a tree"; and "The answer", for what is whole.
 use Prim.Native.Nat.{ℕ}
 use mathlib.Core.Bool.{Bool}
 use mathlib.Core.List.{List}

@@ -29,7 +29,7 @@ use Rattle.rules.specs.Theorem.Failures.{enter-fails}
 use Rattle.rules.specs.Theorem.Limits.{run-limits}
 use Rattle.rules.specs.Theorem.Made.{treeFor}
 use Rattle.rules.specs.Theorem.LinkSteps.{run-ok}
-use Rattle.rules.specs.Exact.{StandsFor, Reaches, Exact, FoundIsDerivable}
+use Rattle.rules.specs.Exact.{StandsFor, Reaches, Exact, FoundIsExactlyDerivable}
 use Rattle.rules.specs.Theorem.Outcomes.{Says, says-value, says-no-parse, says-none-whole, says-differ}
 use Rattle.rules.specs.Theorem.Listing.{treeNow, entry, stands-for, holds-entry, holds-only, holds-once, listed, unlisted, value-once}
 
@@ -257,8 +257,8 @@ module _ (cells parses bytes text : List ℕ) (start allowance : ℕ) (book : Bo
       (λ fine. rw (t, u, accepted, v, w, fine) refl)
       (λ i high. clash refl (rw (t, u, accepted, v, w, high) at e))))))
 
-pub found-is-derivable : FoundIsDerivable
-found-is-derivable cells parses bytes text start allowance book accepted not-refused no-limit =
+pub found-is-exactly-derivable : FoundIsExactlyDerivable
+found-is-exactly-derivable cells parses bytes text start allowance book accepted not-refused no-limit =
     let same = by-run cells parses bytes text start allowance book accepted not-refused in
     subst (Exact book text start) (sym same)
     (after-run cells parses bytes text start allowance book accepted (subst (λ (a : Answered). between 20 23 (a .answer .refusal) ≡ false) same no-limit))
