@@ -1,2 +1,4 @@
 pub mod Rows
 pub mod Model
+pub mod Keeps
+pub mod KeepsRun
