@@ -2,3 +2,4 @@ pub mod Rows
 pub mod Model
 pub mod Keeps
 pub mod KeepsRun
+pub mod Views
