@@ -3,3 +3,4 @@ pub mod Model
 pub mod Keeps
 pub mod KeepsRun
 pub mod Views
+pub mod Sim
