@@ -4,3 +4,4 @@ pub mod Keeps
 pub mod KeepsRun
 pub mod Views
 pub mod Sim
+pub mod SimCalls

@@ -69,30 +69,30 @@ pub record Picked (T : List Row) (k i g x : ℕ) : Type 0 where
 
 -- the governor by rows is the governor by the path
 pub data Agree (T : List Row) (u k i : ℕ) : ℕ → Governor → Type 0 where
-  none : (g : ℕ) → ltb 200 g ≡ true → Agree T u k i g (minimum 0)
-  after : (g : ℕ) → ltb 200 g ≡ false → eqb (rowOf T g .start) u ≡ false →
+  no-governor : (g : ℕ) → ltb 200 g ≡ true → Agree T u k i g (minimum 0)
+  after-start : (g : ℕ) → ltb 200 g ≡ false → eqb (rowOf T g .start) u ≡ false →
       Agree T u k i g (minimum (minimumOf (useAt (rowOf T g) .associativity) (rowOf T g .level)))
-  again : (g x : ℕ) (around : Path) → i ≤ g → g ≤ 200 → eqb (rowOf T g .start) u ≡ true → Picked T k i g x →
+  at-start : (g x : ℕ) (around : Path) → i ≤ g → g ≤ 200 → eqb (rowOf T g .start) u ≡ true → Picked T k i g x →
       Agree T u k i g (same-start x (useAt (rowOf T g)) around)
 
 module _ (T : List Row) (size : length T ≡ 201) (u k i : ℕ) where
   -- one row more, that is not live
   agree-past : (g : ℕ) (a : Governor) → eqb (rowOf T i .live) 1 ≡ false → Agree T u k (suc i) g a → Agree T u (suc k) i g a
   unfolding openFrom keepIf
-  agree-past g a h (none g₁ p) = none g₁ p
-  agree-past g a h (after g₁ p q) = after g₁ p q
-  agree-past g a h (again g₁ x around p q r w) =
+  agree-past g a h (no-governor g₁ p) = no-governor g₁ p
+  agree-past g a h (after-start g₁ p q) = after-start g₁ p q
+  agree-past g a h (at-start g₁ x around p q r w) =
       let f = row-else T g₁ i (wasAsked (rowOf T g₁)) (λ z. omega arith) in
-      again g₁ x around (omega arith) q r (record { sets = rw (h, openFrom, keepIf) (w .sets); marks = rw (f, h, openFrom, keepIf) (w .marks) })
+      at-start g₁ x around (omega arith) q r (record { sets = rw (h, openFrom, keepIf) (w .sets); marks = rw (f, h, openFrom, keepIf) (w .marks) })
 
   -- one row more, an open call that doesn't govern
   agree-outwards : (g : ℕ) (a : Governor) → rowOf T i .live ≡ 1 → Agree T u k (suc i) g a → Agree T u (suc k) i g (outwards a)
   unfolding openFrom keepIf outwards ask
-  agree-outwards g a h (none g₁ p) = none g₁ p
-  agree-outwards g a h (after g₁ p q) = after g₁ p q
-  agree-outwards g a h (again g₁ x around p q r w) =
+  agree-outwards g a h (no-governor g₁ p) = no-governor g₁ p
+  agree-outwards g a h (after-start g₁ p q) = after-start g₁ p q
+  agree-outwards g a h (at-start g₁ x around p q r w) =
       let f = row-else T g₁ i (wasAsked (rowOf T g₁)) (λ z. omega arith) in
-      again g₁ (suc x) around (omega arith) q r (record { sets = rw (h, openFrom, keepIf) (w .sets); marks = rw (f, h, openFrom, keepIf) (rw (w .marks)) })
+      at-start g₁ (suc x) around (omega arith) q r (record { sets = rw (h, openFrom, keepIf) (w .sets); marks = rw (f, h, openFrom, keepIf) (rw (w .marks)) })
 
   open-cons : {A : Type 0} (F : Row → A) (U : List Row) → rowOf U i .live ≡ 1 → openFrom F U (suc k) i ≡ F (rowOf U i) ∷ openFrom F U k (suc i)
   unfolding openFrom keepIf
@@ -107,7 +107,7 @@ module _ (T : List Row) (size : length T ≡ 201) (u k i : ℕ) where
       let z : openFrom askedAt U k (suc i) ≡ openFrom askedAt T k (suc i) =
       open-equal askedAt T U k (suc i) (λ j p. row-else T i j (wasAsked (rowOf T i)) (λ e. omega arith)) in
       let live : rowOf U i .live ≡ 1 = ap (λ r. r .live) f ∙ h in
-      again i 0 around (omega arith) l e (record {
+      at-start i 0 around (omega arith) l e (record {
         sets = ap (λ l. getD l 0 []) (open-cons setAt T h);
         marks = ap (λ l. ask 0 l) (open-cons askedAt T h) ∙ sym (open-cons askedAt U live ∙ rw (f, z));
       })
@@ -116,13 +116,13 @@ module _ (T : List Row) (size : length T ≡ 201) (u k i : ℕ) where
       Agree T u (suc k) i (elim t [ true ↦ i | false ↦ g ]) (govern t s (useAt (rowOf T i)) path a)
   unfolding govern
   agree-live l h true true e path g a A = agree-here path l h (sym e)
-  agree-live l h true false e path g a A = after i (le-ltb 200 i l) (sym e)
+  agree-live l h true false e path g a A = after-start i (le-ltb 200 i l) (sym e)
   agree-live l h false s e path g a A = agree-outwards g a h A
 
 pub agree : (T : List Row) → length T ≡ 201 → (N u k i : ℕ) → i + k ≡ 201 →
     Agree T u k i (newestGovernor T N u k i) (governor (openFrom useAt T k i) base N u)
 unfolding openFrom keepIf newestGovernor governor governs
-agree T size N u zero i e = let f : i ≡ 201 = omega arith in none i (rw f refl)
+agree T size N u zero i e = let f : i ≡ 201 = omega arith in no-governor i (rw f refl)
 agree T size N u (suc k) i e = by (eqb (rowOf T i .live) 1) refl (agree T size N u k (suc i) (omega arith))
   where
     by : (b : Bool) → b ≡ eqb (rowOf T i .live) 1 → Agree T u k (suc i) (newestGovernor T N u k (suc i)) (governor (openFrom useAt T k (suc i)) base N u) →
