@@ -5,3 +5,5 @@ pub mod KeepsRun
 pub mod Views
 pub mod Sim
 pub mod SimCalls
+pub mod SimSteps
+pub mod Theorem

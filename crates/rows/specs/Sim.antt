@@ -75,6 +75,34 @@ pub after-see : {A B : Type 0} (g : A → B) (a : After) (F H : ℕ → Result B
 after-see g (goes y) F H f h p q = p y
 after-see g (halts y) F H f h p q = q y
 
+pub taken-see : {A B : Type 0} (g : A → B) (k : Taken) (a : Result B) (b : Token → Result B) (c d : ℕ → Result B)
+    (e : Bool → ℕ → Option ℕ → ℕ → Result B) (f : ℕ → Result B) (a′ : Result A) (b′ : Token → Result A) (c′ d′ : ℕ → Result A)
+    (e′ : Bool → ℕ → Option ℕ → ℕ → Result A) (f′ : ℕ → Result A) →
+    a ≡ see g a′ → ((t : Token) → b t ≡ see g (b′ t)) → ((M : ℕ) → c M ≡ see g (c′ M)) → ((M : ℕ) → d M ≡ see g (d′ M)) →
+    ((comma : Bool) (M : ℕ) (close : Option ℕ) (y : ℕ) → e comma M close y ≡ see g (e′ comma M close y)) → ((y : ℕ) → f y ≡ see g (f′ y)) →
+    elim k [
+      | Taken.nothing ↦ a
+      | Taken.token t ↦ b t
+      | Taken.child M ↦ c M
+      | Taken.optional M ↦ d M
+      | Taken.list comma M close y ↦ e comma M close y
+      | Taken.unopened y ↦ f y
+    ]
+    ≡ see g (elim k [
+      | Taken.nothing ↦ a′
+      | Taken.token t ↦ b′ t
+      | Taken.child M ↦ c′ M
+      | Taken.optional M ↦ d′ M
+      | Taken.list comma M close y ↦ e′ comma M close y
+      | Taken.unopened y ↦ f′ y
+    ])
+taken-see g Taken.nothing a b c d e f a′ b′ c′ d′ e′ f′ ha hb hc hd he hf = ha
+taken-see g (Taken.token t) a b c d e f a′ b′ c′ d′ e′ f′ ha hb hc hd he hf = hb t
+taken-see g (Taken.child M) a b c d e f a′ b′ c′ d′ e′ f′ ha hb hc hd he hf = hc M
+taken-see g (Taken.optional M) a b c d e f a′ b′ c′ d′ e′ f′ ha hb hc hd he hf = hd M
+taken-see g (Taken.list comma M close y) a b c d e f a′ b′ c′ d′ e′ f′ ha hb hc hd he hf = he comma M close y
+taken-see g (Taken.unopened y) a b c d e f a′ b′ c′ d′ e′ f′ ha hb hc hd he hf = hf y
+
 -- ---- Functions that don't look at the marks
 pub record Plain (f : State → Result Made) : Type 0 where
   pub of : (units : ℕ) (cells : List Cell) (A B : List Bool) →
