@@ -1,31 +1,23 @@
--- What a part of the run over rows leaves of the rows: of a call at row n, those above n stay as they are but for marks that come; of steps of the call of row c, the
--- same, and of row c the place of the child and the run's set may change too. Scaffolding: no definition of document 01.
+-- What a part of the run over rows leaves of the rows: of a call at row n, those above n stay as they are but for marks that come; of steps of the call of
+-- row c, the same, and of row c the place of the child and the run's set may change too. Scaffolding: no definition of document 01.
 --
 -- Plan: rows that differ in little, by an equation of what is left when the fields that may differ are forgotten; tables that keep such rows from a row on;
--- results that have a property unless they are limits; then a lemma for each function of the model, in its order, and the runners by recursion on the levels left.
-use mathlib.Core.Path.{_≡_, refl, sym, ap, _∙_}
+-- results that have a property unless they are limits, and runners. The functions of the model are in KeepsRun.
+use mathlib.Core.Path.{_≡_, refl, ap, _∙_}
 use mathlib.Core.Bool.{Bool, true, false}
 use mathlib.Core.List.{List, [], _∷_}
 use mathlib.Core.Option.{Option, none, some}
-use Prim.Native.Nat.{ℕ, zero, suc, _+_, _-_, _<_, _≤_}
+use Prim.Native.Nat.{ℕ, zero, suc, _<_, _≤_}
 use native.Mathlib.Omega.{arith}
-use lib.Dec.{leb, eqb}
-use lib.ListN.{getD, set, length, length-set}
+use lib.ListN.{set, length, length-set}
 use lib.Seq.{getD-set-same, getD-set-other}
-use Rattle.characters.specs.Classes.{between}
-use Rattle.characters.specs.Skipping.{skipFrom}
-use Rattle.book.specs.Book.{Book, nonterminalNumber, variantNumber, stepNumber}
-use Rattle.book.specs.declared.records.Associativity.{Associativity}
-use Rattle.book.specs.declared.records.Step.{Step}
-use Rattle.rules.specs.Values.{Parse}
-use Rattle.rules.specs.Uses.{hasMark}
-use Rattle.rules.specs.Tokens.{when, freeEnd}
-use Rattle.rules.specs.Steps.{Token, Taken, stepAt, After, goes, halts, afterElement, closed, Todo, take′, elements, ending, todoOf}
+use Rattle.book.specs.Book.{Book}
+use Rattle.rules.specs.Tokens.{when}
+use Rattle.rules.specs.Steps.{Token, Taken, After, goes, halts, Todo}
 use Rattle.rules.specs.Cells.{Cell}
-use Rattle.rules.specs.Errors.{Error, joinWith}
-use Rattle.rules.specs.Run.{Result, met, ok, _>>=_, State, Made, allIn, kept, add, addAll, spend, make, begin, withCell, withToken, counted}
-use Rattle.rows.specs.Rows.{Row, row, opened, ended, withVariant, withChild, wasAsked, withSet, withRun, copied, noRow, rowOf, onRow, useAt, RowGovernor, minimum, same-start, governorOf}
-use Rattle.rows.specs.Model.{RowState, rowState, Outcome, outcome, RowMade, rowMade, RowRunner, RowGo, RowNext, unmarked, atRow, makes, spendRows, noParse, bareCall, together, valueCell, addRun, parseOf, completeRows, takeVariant, variantsRows, oneRunRows, settle, roundsRows, settleFirst, runCallRows, claimedRows, namedRows, runIdentifierRows, plainNextRows, listNextRows, stopsRows, nestedRows, answered, storedRows, enterRows, enterChildRows, followFrom, followRows, followedRows, stepUnitRows, orChild, orAbsentRows, choiceRows, listingRows, stepsRows, runnerRows}
+use Rattle.rules.specs.Run.{Result, met, ok, _>>=_, State, Made, spend}
+use Rattle.rows.specs.Rows.{Row, row, wasAsked, noRow, rowOf, onRow, RowGovernor, minimum, same-start}
+use Rattle.rows.specs.Model.{RowState, rowState, Outcome, RowMade, rowMade, RowRunner, unmarked, makes, spendRows, nestedRows}
 
 -- ---- Rows that differ in little
 abbrev pub lessMark : Row → Row
@@ -255,7 +247,8 @@ pub data Inner : ℕ → Option RowRunner → Type 0 where
   last : (n : ℕ) → Inner n none
   more : (m : ℕ) (S : RowRunner) → Keeping m S → Inner (suc m) (some S)
 
-pub on-nested : (Q : Outcome → Type 0) (book : Book) (text : List ℕ) (n : ℕ) (inner : Option RowRunner) → Inner n inner → (s : RowState) (f : RowRunner → Result Outcome) →
+pub on-nested : (Q : Outcome → Type 0) (book : Book) (text : List ℕ) (n : ℕ) (inner : Option RowRunner) → Inner n inner →
+    (s : RowState) (f : RowRunner → Result Outcome) →
     ((m : ℕ) (S : RowRunner) → n ≡ suc m → Keeping m S → On Q (f S)) → On Q (nestedRows book text inner n s f)
 unfolding nestedRows On
 on-nested Q book text n inner (last k) s f h = tt

@@ -1,27 +1,27 @@
--- What each function of the model leaves of the rows, in the model's order: `keeps-enter` for calls, `keeps-steps` for steps, `keeps-runner` for the runners, by
--- recursion on the levels left. Scaffolding: no definition of document 01.
-use mathlib.Core.Path.{_≡_, refl, sym, ap, _∙_}
+-- What each function of the model leaves of the rows, in the model's order: `keeps-enter` for calls, `keeps-steps` for steps, `keeps-runner` for the runners,
+-- by recursion on the levels left. Scaffolding: no definition of document 01.
+use mathlib.Core.Path.{_≡_, refl, _∙_}
 use mathlib.Core.Bool.{Bool, true, false}
 use mathlib.Core.List.{List, [], _∷_}
 use mathlib.Core.Option.{Option, none, some}
-use Prim.Native.Nat.{ℕ, zero, suc, _+_, _-_, _<_, _≤_}
+use Prim.Native.Nat.{ℕ, zero, suc, _<_, _≤_}
 use native.Mathlib.Omega.{arith}
 use lib.Dec.{leb, eqb}
 use lib.ListN.{getD, set, length, length-set}
 use Rattle.characters.specs.Classes.{between}
 use Rattle.characters.specs.Skipping.{skipFrom}
-use Rattle.book.specs.Book.{Book, nonterminalNumber, variantNumber, stepNumber}
+use Rattle.book.specs.Book.{Book, variantNumber, stepNumber}
 use Rattle.book.specs.declared.records.Step.{Step}
 use Rattle.rules.specs.Values.{Parse}
 use Rattle.rules.specs.Uses.{hasMark}
-use Rattle.rules.specs.Tokens.{when, freeEnd}
-use Rattle.rules.specs.Steps.{Token, Taken, stepAt, After, goes, halts, afterElement, closed, Todo, take′, elements, ending, todoOf}
+use Rattle.rules.specs.Tokens.{when}
+use Rattle.rules.specs.Steps.{stepAt, afterElement, closed, Todo, take′, elements, ending, todoOf}
 use Rattle.rules.specs.Cells.{Cell}
-use Rattle.rules.specs.Errors.{Error, joinWith}
-use Rattle.rules.specs.Run.{Result, met, ok, _>>=_, State, Made, allIn, kept, add, addAll, spend, make, begin, withCell, withToken, counted}
-use Rattle.rows.specs.Rows.{Row, row, opened, ended, withVariant, withChild, wasAsked, withSet, withRun, copied, noRow, rowOf, onRow, useAt, RowGovernor, minimum, same-start, governorOf}
-use Rattle.rows.specs.Model.{RowState, rowState, Outcome, outcome, RowMade, rowMade, RowRunner, RowGo, RowNext, unmarked, atRow, makes, spendRows, noParse, bareCall, together, valueCell, addRun, parseOf, completeRows, takeVariant, variantsRows, oneRunRows, settle, roundsRows, settleFirst, runCallRows, claimedRows, namedRows, runIdentifierRows, plainNextRows, listNextRows, stopsRows, nestedRows, answered, storedRows, enterRows, enterChildRows, followFrom, followRows, followedRows, stepUnitRows, chosenRows, orChild, orAbsentRows, choiceRows, listingRows, stepsRows, runnerRows}
-use Rattle.rows.specs.Keeps.{Same, Own, Core, row-put, Keeps, KeepsAt, KeepsRun, Called, keeps-refl, keeps-then, keeps-put, keeps-mark, at-refl, at-then, at-put, at-of, at-less, run-refl, run-then, run-put, run-of, called-put, called-then, On, on-met, on-ok, on-bind, on-map, on-any, on-when, on-option, on-list, on-after, on-governor, on-taken, on-makes, on-spend, Beside, Ran, Calls, Fits, Keeping, Inner, last, more, on-nested}
+use Rattle.rules.specs.Errors.{Error}
+use Rattle.rules.specs.Run.{Result, ok, _>>=_, allIn, addAll, begin}
+use Rattle.rows.specs.Rows.{Row, opened, ended, withChild, wasAsked, withSet, withRun, copied, rowOf, onRow, governorOf}
+use Rattle.rows.specs.Model.{RowState, rowState, Outcome, RowRunner, RowGo, RowNext, unmarked, atRow, spendRows, noParse, addRun, completeRows, takeVariant, variantsRows, oneRunRows, settle, roundsRows, settleFirst, runCallRows, namedRows, runIdentifierRows, plainNextRows, listNextRows, stopsRows, nestedRows, answered, storedRows, enterRows, enterChildRows, followFrom, followedRows, stepUnitRows, orChild, orAbsentRows, choiceRows, listingRows, stepsRows, runnerRows}
+use Rattle.rows.specs.Keeps.{Keeps, KeepsAt, Called, keeps-refl, keeps-then, keeps-put, keeps-mark, at-refl, at-then, at-put, at-of, at-less, run-refl, run-then, run-put, run-of, called-put, called-then, On, on-met, on-ok, on-bind, on-map, on-any, on-when, on-option, on-list, on-after, on-governor, on-taken, on-makes, on-spend, Beside, Ran, Calls, Fits, Keeping, Inner, last, more, on-nested}
 
 -- ---- A call at row n, whose variants run with row m = n - 1 free
 module _ (book : Book) (text : List ℕ) (m : ℕ) (S : RowRunner) (keeping : Keeping m S) (n : ℕ) (next : n ≡ suc m) (room : n ≤ 200) (least : ℕ) where
@@ -69,10 +69,10 @@ module _ (book : Book) (text : List ℕ) (m : ℕ) (S : RowRunner) (keeping : Ke
       on-bind (Ran n (s .rows)) (Calls n (s .rows)) _ _ (keeps-one-run s h)
       (λ o a. keeps-settle (s .rows) _ (o .state) (a .above .size ∙ h) (a .above) (λ t g. keeps-rounds k t g))
 
-  keeps-first : (T : List Row) (N u : ℕ) (again : RowState → Result Outcome) (o : Outcome) → length (o .state .rows) ≡ 201 → Keeps (suc n) T (o .state .rows) →
-      ((t : RowState) → length (t .rows) ≡ 201 → On (Calls n (t .rows)) (again t)) → On (Calls n T) (settleFirst book text n N u again o)
+  keeps-first : (T : List Row) (again : RowState → Result Outcome) (o : Outcome) → length (o .state .rows) ≡ 201 → Keeps (suc n) T (o .state .rows) →
+      ((t : RowState) → length (t .rows) ≡ 201 → On (Calls n (t .rows)) (again t)) → On (Calls n T) (settleFirst book text n again o)
   unfolding settleFirst
-  keeps-first T N u again o h k f =
+  keeps-first T again o h k f =
       let U = o .state .rows in
       let r = rowOf U n in
       let over : Called n T (onRow U n (λ r. ended (copied r))) = called-put n T U (ended (copied r)) (omega arith) k refl in
@@ -88,7 +88,7 @@ module _ (book : Book) (text : List ℕ) (m : ℕ) (S : RowRunner) (keeping : Ke
       let U = onRow (s .rows) n (opened N u) in
       let size : length U ≡ 201 = length-set (s .rows) n (opened N u (rowOf (s .rows) n)) ∙ h in
       on-bind (Ran n U) (Calls n (s .rows)) _ _ (keeps-one-run (atRow n (opened N u) s) size)
-      (λ o a. keeps-first (s .rows) N u _ o (a .above .size ∙ size) (keeps-then (keeps-put n (s .rows) (opened N u (rowOf (s .rows) n))) (a .above))
+      (λ o a. keeps-first (s .rows) _ o (a .above .size ∙ size) (keeps-then (keeps-put n (s .rows) (opened N u (rowOf (s .rows) n))) (a .above))
       (λ t g. keeps-rounds 65 t g))
 
 -- ---- A use of mark 2
@@ -99,7 +99,8 @@ keeps-named book text n N u T s h c none = on-ok (Calls n T) c
 keeps-named book text n N u T s h c (some end) =
     on-makes (Calls n T) _ s _ (λ cell units cells. on-ok (Calls n T) (called-put n T (s .rows) _ h (c .above) (c .shut)))
 
-keeps-identifier : (book : Book) (text : List ℕ) (n N u : ℕ) (s : RowState) → n < length (s .rows) → On (Calls n (s .rows)) (runIdentifierRows book text n N u s)
+keeps-identifier : (book : Book) (text : List ℕ) (n N u : ℕ) (s : RowState) → n < length (s .rows) →
+    On (Calls n (s .rows)) (runIdentifierRows book text n N u s)
 unfolding runIdentifierRows
 keeps-identifier book text n N u s h =
     let r = ended (withSet [] (rowOf (s .rows) n)) in
@@ -281,11 +282,13 @@ module _ (book : Book) (text : List ℕ) (n : ℕ) (inner : Option RowRunner) (i
 
 -- ---- Runners
 module _ (book : Book) (text : List ℕ) where
+  pub keeping-steps : (n : ℕ) (inner : Option RowRunner) → Inner n inner → Keeping n (stepsRows book text inner n)
+  keeping-steps n inner inners = record {
+    of = λ c j todo x items s f.
+        keeps-steps book text n inner inners (omega (arith, f .below, f .within)) c (f .below) (f .within) j todo x items s (f .size);
+  }
+
   pub keeps-runner : (n : ℕ) → Inner n (runnerRows book text n)
   unfolding runnerRows
   keeps-runner zero = last zero
-  keeps-runner (suc n) =
-      more n _ (record {
-        of = λ c j todo x items s f.
-            keeps-steps book text n (runnerRows book text n) (keeps-runner n) (omega (arith, f .below, f .within)) c (f .below) (f .within) j todo x items s (f .size);
-      })
+  keeps-runner (suc n) = more n _ (keeping-steps n (runnerRows book text n) (keeps-runner n))

@@ -1,9 +1,10 @@
--- The run over the rows, function by function as the definition of the run has it. Scaffolding between that definition and the code: no definition of document 01.
+-- The run over the rows, function by function as the definition of the run has it. Scaffolding between that definition and the code: no definition of
+-- document 01.
 --
--- Sets and marks stand in the rows. So a part gives its failure and the state alone: what a call found is the set of its row, and what the variants of the call of
--- row c have found is that row's run. `n`, the levels of nesting left, is also the first free row; a call uses row n, and what follows its parses runs with one
--- level less while row n keeps them. What touches neither sets nor marks is the definition's own function, run on a state without marks.
-use mathlib.Core.Bool.{Bool, true, false, _&&_}
+-- Sets and marks stand in the rows. So a part gives its failure and the state alone: what a call found is the set of its row, and what the variants of
+-- the call of row c have found is that row's run. `n`, the levels of nesting left, is also the first free row; a call uses row n, and what follows its parses
+-- runs with one level less while row n keeps them. What touches neither sets nor marks is the definition's own function, run on a state without marks.
+use mathlib.Core.Bool.{Bool, _&&_}
 use mathlib.Core.List.{List, [], _∷_}
 use mathlib.Core.Option.{Option, none, some}
 use Prim.Native.Nat.{ℕ, zero, suc, _-_}
@@ -17,7 +18,7 @@ use Rattle.book.specs.declared.records.Step.{Step}
 use Rattle.rules.specs.Values.{Parse}
 use Rattle.rules.specs.Uses.{hasMark}
 use Rattle.rules.specs.Tokens.{when, isSome, variableAt, freeEnd}
-use Rattle.rules.specs.Steps.{Item, Taken, stepAt, goes, halts, afterElement, closed, Todo, take′, elements, ending, todoOf}
+use Rattle.rules.specs.Steps.{Taken, stepAt, goes, halts, afterElement, closed, Todo, take′, elements, ending, todoOf}
 use Rattle.rules.specs.Cells.{Cell}
 use Rattle.rules.specs.Errors.{Error, error, joinWith, choiceError, stepError}
 use Rattle.rules.specs.Run.{Result, met, ok, _>>=_, State, Made, made, Call, call, allIn, kept, add, addAll, spend, make, failedCall, either, closingOf, begin, withCell, withToken, counted}
@@ -147,16 +148,17 @@ module _ (book : Book) (text : List ℕ) where
   roundsRows (suc k) run c m s = oneRunRows run c m s >>= (λ o. settle c (λ t. roundsRows k run c m t) (o .state))
 
   -- after the first run: its set is the call's
-  unfoldable pub settleFirst : ℕ → ℕ → ℕ → (RowState → Result Outcome) → Outcome → Result Outcome
-  settleFirst c N u again o =
+  unfoldable pub settleFirst : ℕ → (RowState → Result Outcome) → Outcome → Result Outcome
+  settleFirst c again o =
       let s = o .state in
-      elim (rowOf (s .rows) c .run) [
-        | [] ↦ ok (outcome (some (failedCall (bareCall N u) (o .failure))) (atRow c (λ r. ended (copied r)) s))
-        | p ∷ ps ↦ when (eqb (rowOf (s .rows) c .asked) 1) (λ _. again (atRow c copied s)) (λ _. ok (outcome none (atRow c (λ r. ended (copied r)) s)))
+      let r = rowOf (s .rows) c in
+      elim (r .run) [
+        | [] ↦ ok (outcome (some (failedCall (bareCall (r .nonterminal) (r .start)) (o .failure))) (atRow c (λ r. ended (copied r)) s))
+        | p ∷ ps ↦ when (eqb (r .asked) 1) (λ _. again (atRow c copied s)) (λ _. ok (outcome none (atRow c (λ r. ended (copied r)) s)))
       ]
 
   unfoldable pub runCallRows : RowRunner → ℕ → ℕ → ℕ → ℕ → RowState → Result Outcome
-  runCallRows run n N u m s = oneRunRows run n m (atRow n (opened N u) s) >>= (λ o. settleFirst n N u (λ t. roundsRows 65 run n m t) o)
+  runCallRows run n N u m s = oneRunRows run n m (atRow n (opened N u) s) >>= (λ o. settleFirst n (λ t. roundsRows 65 run n m t) o)
 
   -- ---- A use of mark 2
   abbrev pub claimedRows : List Row → ℕ → ℕ → Bool

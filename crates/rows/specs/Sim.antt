@@ -1,28 +1,27 @@
 -- That the run over the rows gives what the definition of the run gives: the parts. Scaffolding: no definition of document 01.
 --
--- Plan: `see` turns a result over rows into one of the definition, given what is seen of an outcome; a combinator for each way of going on (one part after another, a
--- test, an option, a list, cells made, a unit spent, one level further in); functions of the definition that don't look at the marks (`Plain`); and what
--- is seen of the rows: while the call of row c runs, at its end, and after a call at row n.
-use mathlib.Core.Path.{_≡_, refl, sym, ap, _∙_}
+-- Plan: `see` turns a result over rows into one of the definition, given what is seen of an outcome; a combinator for each way of going on (one part after
+-- another, a test, an option, a list, cells made, a unit spent, one level further in); functions of the definition that don't look at the marks (`Plain`);
+-- and what is seen of the rows: while the call of row c runs, at its end, and after a call at row n.
+use mathlib.Core.Path.{_≡_, refl, ap, _∙_}
 use mathlib.Core.Bool.{Bool, true, false}
-use mathlib.Core.List.{List, [], _∷_, _++_}
+use mathlib.Core.List.{List, [], _∷_}
 use mathlib.Core.Option.{Option, none, some}
-use Prim.Native.Nat.{ℕ, zero, suc, _+_, _-_, _<_, _≤_}
+use Prim.Native.Nat.{ℕ, suc, _-_, _<_, _≤_}
 use native.Mathlib.Omega.{arith}
 use lib.Dec.{ltb, eqb}
-use lib.ListN.{getD, set, length}
+use lib.ListN.{set, length}
 use borrow.Author.Tests.{eqb-true, eqb-false}
 use Rattle.characters.specs.Cases.{by-test}
 use Rattle.book.specs.Book.{Book, variantNumber, associativityNumber}
-use Rattle.rules.specs.Values.{Parse}
 use Rattle.rules.specs.Uses.{base}
 use Rattle.rules.specs.Tokens.{when}
 use Rattle.rules.specs.Steps.{Item, Token, Taken, After, goes, halts, Todo}
 use Rattle.rules.specs.Cells.{Cell, findCell}
 use Rattle.rules.specs.Run.{Result, met, ok, _>>=_, State, Parsed, parsed, Made, made, Call, call, Runner, spend, make, itemCell, begin, withCell, withToken, nested}
-use Rattle.rows.specs.Rows.{Row, rowOf, openAbove, askedAt, marksOf, pathOf, setsOf, callOf}
-use Rattle.rows.specs.Model.{RowState, rowState, Outcome, outcome, RowMade, rowMade, RowRunner, unmarked, makes, spendRows, valueCell, nestedRows}
-use Rattle.rows.specs.Keeps.{Keeps, KeepsAt, KeepsRun, On, Keeping, Inner}
+use Rattle.rows.specs.Rows.{Row, rowOf, askedAt, marksOf, callOf}
+use Rattle.rows.specs.Model.{RowState, rowState, Outcome, RowMade, rowMade, RowRunner, unmarked, makes, spendRows, valueCell, nestedRows}
+use Rattle.rows.specs.Keeps.{lessVariant, KeepsAt, KeepsRun, On, Keeping, Inner}
 use Rattle.rows.specs.Views.{path-keeps, sets-keeps}
 
 abbrev pub stateOf : ℕ → List Cell → List Bool → State
@@ -70,7 +69,8 @@ pub list-see : {A B X : Type 0} (g : A → B) (l : List X) (Y : Result B) (F : X
 list-see g [] Y F y f p q = p refl
 list-see g (x ∷ k) Y F y f p q = q x k refl
 
-pub after-see : {A B : Type 0} (g : A → B) (a : After) (F H : ℕ → Result B) (f h : ℕ → Result A) → ((y : ℕ) → F y ≡ see g (f y)) → ((y : ℕ) → H y ≡ see g (h y)) →
+pub after-see : {A B : Type 0} (g : A → B) (a : After) (F H : ℕ → Result B) (f h : ℕ → Result A) →
+    ((y : ℕ) → F y ≡ see g (f y)) → ((y : ℕ) → H y ≡ see g (h y)) →
     elim a [ goes y ↦ F y | halts y ↦ H y ] ≡ see g (elim a [ goes y ↦ f y | halts y ↦ h y ])
 after-see g (goes y) F H f h p q = p y
 after-see g (halts y) F H f h p q = q y
@@ -124,7 +124,8 @@ plain-when : (b : Bool) (f g : State → Result Made) → Plain f → Plain g �
 plain-when true f g p q = p
 plain-when false f g p q = q
 
-plain-then : (f : State → Result Made) (g : ℕ → State → Result Made) → Plain f → ((cell : ℕ) → Plain (g cell)) → Plain (λ s. f s >>= (λ m. g (m .cell) (m .state)))
+plain-then : (f : State → Result Made) (g : ℕ → State → Result Made) → Plain f → ((cell : ℕ) → Plain (g cell)) →
+    Plain (λ s. f s >>= (λ m. g (m .cell) (m .state)))
 unfolding _>>=_
 plain-then f g p q = record { of = λ units cells A B. rw (p .of units cells A B) (go A (f (stateOf units cells B))) }
   where
@@ -150,9 +151,11 @@ module _ (book : Book) (text : List ℕ) where
   pub plain-token : (j items : ℕ) (item : Option Item) → Plain (withToken book text j items item)
   unfolding withToken
   plain-token j items none = plain-ok items
-  plain-token j items (some item) = plain-then _ (λ cell s. withCell book text j items cell s) (plain-make text (itemCell item)) (λ cell. plain-with j items cell)
+  plain-token j items (some item) =
+      plain-then _ (λ cell s. withCell book text j items cell s) (plain-make text (itemCell item)) (λ cell. plain-with j items cell)
 
-pub makes-see : {A B : Type 0} (g : A → B) (f : State → Result Made) → Plain f → (s : RowState) (asked : List Bool) (L : Made → Result B) (K : RowMade → Result A) →
+pub makes-see : {A B : Type 0} (g : A → B) (f : State → Result Made) → Plain f →
+    (s : RowState) (asked : List Bool) (L : Made → Result B) (K : RowMade → Result A) →
     ((cell units : ℕ) (cells : List Cell) → L (made cell (stateOf units cells asked)) ≡ see g (K (rowMade cell (rowState units cells (s .rows))))) →
     (f (stateOf (s .units) (s .cells) asked) >>= L) ≡ see g (makes f s >>= K)
 unfolding makes _>>=_ see
@@ -219,18 +222,7 @@ pub here-keeps : (book : Book) (C : Call) (c f j : ℕ) (T U : List Row) → Her
 here-keeps book C c f j T U h k =
     let run : KeepsRun c T U = record {
       above = record { at = λ i l. k .other i (omega (arith, h .below)) (λ e. omega arith); size = k .size };
-      core = ap (λ r. record {
-        live = r .live;
-        nonterminal = r .nonterminal;
-        scope = r .scope;
-        start = r .start;
-        level = 0;
-        associativity = 0;
-        child = 0;
-        asked = 0;
-        set = r .set;
-        run = [];
-      }) (k .mine);
+      core = ap lessVariant (k .mine);
     } in
     record {
       standing = standing-keeps C c T U (h .standing) run;

@@ -1,30 +1,30 @@
--- That a call over the rows gives what the definition's call gives: variants, one run, rounds, a use of mark 2, `enter`, in the definition's order. Scaffolding: no
--- definition of document 01.
+-- That a call over the rows gives what the definition's call gives: variants, one run, rounds, a use of mark 2, `enter`, in the definition's order.
+-- Scaffolding: no definition of document 01.
 --
 -- Each statement is an equation: the definition's function, on the call, the set and the state that the rows show, is what is seen of the model's function.
 use mathlib.Core.Path.{_≡_, refl, sym, ap, _∙_}
-use mathlib.Core.Bool.{Bool, true, false, _&&_}
+use mathlib.Core.Bool.{Bool, false}
 use mathlib.Core.List.{List, [], _∷_}
 use mathlib.Core.Option.{Option, none, some}
-use Prim.Native.Nat.{ℕ, zero, suc, _+_, _-_, _<_, _≤_}
+use Prim.Native.Nat.{ℕ, zero, suc, _-_, _<_, _≤_}
 use native.Mathlib.Omega.{arith}
-use lib.Dec.{leb, ltb, eqb}
+use lib.Dec.{leb}
 use lib.ListN.{getD, set, length, length-set}
 use borrow.Author.Tests.{le-ltb}
-use Rattle.book.specs.Book.{Book, nonterminalNumber, variantNumber, associativityNumber}
+use Rattle.book.specs.Book.{Book, nonterminalNumber, variantNumber}
 use Rattle.rules.specs.Values.{Parse}
 use Rattle.rules.specs.Uses.{base, hasMark, Governor, governor, minimum, same-start}
-use Rattle.rules.specs.Tokens.{when, isSome, variableAt, freeEnd, claimant, claimed}
-use Rattle.rules.specs.Steps.{Todo, todoOf}
+use Rattle.rules.specs.Tokens.{when, freeEnd, claimant, claimed}
+use Rattle.rules.specs.Steps.{todoOf}
 use Rattle.rules.specs.Cells.{Cell}
-use Rattle.rules.specs.Errors.{Error, error, joinWith}
-use Rattle.rules.specs.Run.{Result, met, ok, _>>=_, State, Parsed, parsed, Made, made, Call, call, withMine, Runner, allIn, kept, add, addAll, ask, newest, others, withAsked, make, failedCall, begin, counted, variants, oneRun, rounds, runCall, named, runIdentifier, nested, reentry, enter}
-use Rattle.rows.specs.Rows.{Row, opened, ended, withSet, withRun, wasAsked, copied, rowOf, onRow, openAbove, useAt, askedAt, setAt, marksOf, pathOf, setsOf, callOf, newestGovernor, governorAt, governorOf, anyClaims, RowGovernor}
-use Rattle.rows.specs.Model.{RowState, rowState, Outcome, outcome, RowMade, rowMade, RowRunner, unmarked, atRow, makes, spendRows, bareCall, failsEmpty, takeVariant, variantsRows, oneRunRows, settle, roundsRows, settleFirst, runCallRows, claimedRows, namedRows, runIdentifierRows, nestedRows, answered, storedRows, enterRows}
-use Rattle.rows.specs.Keeps.{row-put, row-else, Keeps, KeepsAt, KeepsRun, run-put, On, Ran, Keeping, Inner}
+use Rattle.rules.specs.Errors.{Error, error}
+use Rattle.rules.specs.Run.{Result, met, ok, _>>=_, State, Parsed, parsed, Call, call, withMine, Runner, allIn, kept, add, addAll, ask, newest, others, withAsked, make, failedCall, begin, counted, variants, oneRun, rounds, runCall, named, runIdentifier, nested, reentry, enter}
+use Rattle.rows.specs.Rows.{Row, opened, ended, withSet, withRun, wasAsked, copied, rowOf, onRow, useAt, askedAt, setAt, marksOf, pathOf, setsOf, callOf, newestGovernor, governorAt, anyClaims, RowGovernor}
+use Rattle.rows.specs.Model.{RowState, rowState, Outcome, outcome, RowRunner, bareCall, failsEmpty, takeVariant, variantsRows, oneRunRows, settle, roundsRows, settleFirst, runCallRows, namedRows, runIdentifierRows, nestedRows, storedRows, enterRows}
+use Rattle.rows.specs.Keeps.{row-put, run-put, Ran, Keeping}
 use Rattle.rows.specs.KeepsRun.{keeps-taken, keeps-one-run}
 use Rattle.rows.specs.Views.{open-put, Picked, Agree, no-governor, after-start, at-start, agree, claims-path}
-use Rattle.rows.specs.Sim.{stateOf, see, then-see, last-see, same-see, when-see, list-see, plain-make, plain-begin, makes-see, spend-see, stateAt, ranAt, endAt, foundAt, Standing, Here, standing-keeps, Alike, Kin, kin-inner, nested-see}
+use Rattle.rows.specs.Sim.{stateOf, see, then-see, last-see, same-see, when-see, list-see, plain-make, plain-begin, makes-see, spend-see, stateAt, ranAt, endAt, foundAt, Standing, Here, standing-keeps, Alike, Kin, nested-see}
 
 -- what a change of row n that keeps its mark shows of the state
 pub state-put : (n units : ℕ) (cells : List Cell) (T : List Row) (r : Row) → n < length T → r .asked ≡ rowOf T n .asked →
@@ -35,7 +35,8 @@ state-put n units cells T r h e =
     rw (f, m, e)
 
 -- errors know a call by its nonterminal and start
-counted-bare : (book : Book) (text : List ℕ) (C : Call) (N u j : ℕ) (f : Option Error) → u ≡ C .start → counted book text C j f ≡ counted book text (bareCall N u) j f
+counted-bare : (book : Book) (text : List ℕ) (C : Call) (N u j : ℕ) (f : Option Error) → u ≡ C .start →
+    counted book text C j f ≡ counted book text (bareCall N u) j f
 unfolding counted
 counted-bare book text C N u j none e = refl
 counted-bare book text C N u j (some f) e = rw e
@@ -46,7 +47,8 @@ failed-bare C N u none d e = rw (d, e)
 failed-bare C N u (some f) d e = refl
 
 -- only the units of a state matter where a set grows
-add-all-state : (units : ℕ) (cells : List Cell) (A B : List Bool) (set ps : List (Parse ℕ)) → addAll (stateOf units cells A) set ps ≡ addAll (stateOf units cells B) set ps
+add-all-state : (units : ℕ) (cells : List Cell) (A B : List Bool) (set ps : List (Parse ℕ)) →
+    addAll (stateOf units cells A) set ps ≡ addAll (stateOf units cells B) set ps
 unfolding addAll add _>>=_
 add-all-state units cells A B set [] = refl
 add-all-state units cells A B set (p ∷ ps) = go (add (stateOf units cells B) set p) (λ more. add-all-state units cells A B more ps)
@@ -57,7 +59,8 @@ add-all-state units cells A B set (p ∷ ps) = go (add (stateOf units cells B) s
     go (ok more) h = h more
 
 -- ---- A call at row n, whose variants run with row m = n - 1 free
-module _ (book : Book) (text : List ℕ) (m : ℕ) (S : RowRunner) (R : Runner) (keeping : Keeping m S) (alike : Alike book m S R) (n : ℕ) (next : n ≡ suc m) (room : n ≤ 200) (least : ℕ) where
+module _ (book : Book) (text : List ℕ) (m : ℕ) (S : RowRunner) (R : Runner) (keeping : Keeping m S) (alike : Alike book m S R)
+    (n : ℕ) (next : n ≡ suc m) (room : n ≤ 200) (least : ℕ) where
   standing-self : (C : Call) (T : List Row) → Standing C n T → Standing (callOf T n) n T
   standing-self C T h = record { live = h .live; scope = h .scope; call = refl; size = h .size }
 
@@ -81,7 +84,8 @@ module _ (book : Book) (text : List ℕ) (m : ℕ) (S : RowRunner) (R : Runner) 
       rw (run, state-put n units cells T r l refl) at (alike .of C n j (todoOf book (variantNumber book j)) x items (rowState units cells (set T n r)) here)
 
   sim-variants : (C : Call) (k j : ℕ) (e : Option Error) (units : ℕ) (cells : List Cell) (T : List Row) → Standing C n T →
-      variants book text R C least k j (rowOf T n .run) e (stateAt n (rowState units cells T)) ≡ see (ranAt n) (variantsRows book text S n least k j e (rowState units cells T))
+      variants book text R C least k j (rowOf T n .run) e (stateAt n (rowState units cells T))
+      ≡ see (ranAt n) (variantsRows book text S n least k j e (rowState units cells T))
   unfolding variants variantsRows see
   sim-variants C zero j e units cells T h = refl
   sim-variants C (suc k) j e units cells T h =
@@ -166,34 +170,36 @@ module _ (book : Book) (text : List ℕ) (m : ℕ) (S : RowRunner) (R : Runner) 
       (record { live = g .live; scope = g .scope; call = refl; size = g .size })))
 
   -- the first run is settled: its set is the call's
-  sim-first : (C : Call) (N u : ℕ) → N ≡ C .nonterminal → u ≡ C .start → (f : Option Error) (units : ℕ) (cells : List Cell) (T : List Row) → Standing C n T →
+  sim-first : (C : Call) (f : Option Error) (units : ℕ) (cells : List Cell) (T : List Row) → Standing C n T →
       elim (rowOf T n .run) [
         | [] ↦ ok (parsed [] (some (failedCall C f)) (stateAt n (rowState units cells T)))
         | p ∷ ps ↦ when (askedAt (rowOf T n)) (λ _. rounds book text 65 R (withMine C (rowOf T n .run)) least (stateAt n (rowState units cells T)))
             (λ _. ok (parsed (rowOf T n .run) none (stateAt n (rowState units cells T))))
       ]
-      ≡ see (endAt n) (settleFirst book text n N u (λ t. roundsRows book text 65 S n least t) (outcome f (rowState units cells T)))
+      ≡ see (endAt n) (settleFirst book text n (λ t. roundsRows book text 65 S n least t) (outcome f (rowState units cells T)))
   unfolding settleFirst see
-  sim-first C N u d e f units cells T h =
+  sim-first C f units cells T h =
       let r = rowOf T n in
       let l : n < length T = omega (arith, h .size) in
       let q = ended (copied r) in
+      let e = failedCall (bareCall (r .nonterminal) (r .start)) f in
+      let failure : failedCall C f ≡ e = failed-bare C (r .nonterminal) (r .start) f (ap (λ c. c .nonterminal) (h .call)) (ap (λ c. c .start) (h .call)) in
       list-see (endAt n) (r .run) _ _ _ _
-      (λ z. ap ok (sym (end-seen units cells T (some (failedCall (bareCall N u) f)) q l refl ∙
-      rw (z, failed-bare C N u f d e) (refl {a = parsed [] (some (failedCall (bareCall N u) f)) (stateAt n (rowState units cells T))}))))
+      (λ z. ap ok (sym (end-seen units cells T (some e) q l refl ∙ rw (z, failure) (refl {a = parsed [] (some e) (stateAt n (rowState units cells T))}))))
       (λ p ps z. when-see (endAt n) (askedAt r) _ _ _ _
       (λ _. rw (state-put n units cells T (copied r) l refl) at
       (sim-rounds 65 (withMine C (r .run)) units cells (onRow T n copied) (all-standing C T (r .run) h)))
       (λ _. ap ok (sym (end-seen units cells T none q l refl))))
 
-  sim-opened : (C : Call) (N u units : ℕ) (cells : List Cell) (T : List Row) → N ≡ C .nonterminal → u ≡ C .start → Standing C n (onRow T n (opened N u)) →
-      runCall book text R C least (stateAt n (rowState units cells (onRow T n (opened N u)))) ≡ see (endAt n) (runCallRows book text S n N u least (rowState units cells T))
+  sim-opened : (C : Call) (N u units : ℕ) (cells : List Cell) (T : List Row) → Standing C n (onRow T n (opened N u)) →
+      runCall book text R C least (stateAt n (rowState units cells (onRow T n (opened N u))))
+      ≡ see (endAt n) (runCallRows book text S n N u least (rowState units cells T))
   unfolding runCall runCallRows newest
-  sim-opened C N u units cells T d e h =
+  sim-opened C N u units cells T h =
       let U = onRow T n (opened N u) in
       then-see (ranAt n) (endAt n) (Ran n U) _ _ _ _ (sim-one-run C units cells U h)
       (keeps-one-run book text m S keeping n next room least (rowState units cells U) (h .size))
-      (λ o a. sim-first C N u d e (o .failure) (o .state .units) (o .state .cells) (o .state .rows) (standing-keeps C n U (o .state .rows) h a))
+      (λ o a. sim-first C (o .failure) (o .state .units) (o .state .cells) (o .state .rows) (standing-keeps C n U (o .state .rows) h a))
 
   pub sim-run-call : (N u units : ℕ) (cells : List Cell) (T : List Row) → length T ≡ 201 →
       runCall book text R (call (pathOf T n) (setsOf T n) N u []) least (stateOf units cells (false ∷ marksOf T n))
@@ -209,7 +215,7 @@ module _ (book : Book) (text : List ℕ) (m : ℕ) (S : RowRunner) (R : Runner) 
         size = length-set T n r ∙ size;
       } in
       let state : stateAt n (rowState units cells (set T n r)) ≡ stateOf units cells (false ∷ marksOf T n) = rw (open-put askedAt T n r, f) in
-      ap (λ s. runCall book text R C least s) (sym state) ∙ sim-opened C N u units cells T refl refl standing
+      ap (λ s. runCall book text R C least s) (sym state) ∙ sim-opened C N u units cells T standing
 
 -- ---- What is seen behind a call
 pub found-seen : (n units : ℕ) (cells : List Cell) (T : List Row) (e : Option Error) (r : Row) → n < length T →
@@ -230,7 +236,8 @@ module _ (book : Book) (text : List ℕ) (n N u : ℕ) (T : List Row) (size : n 
   sim-named units cells none = ap ok (sym (found-seen n units cells T (some (error u 11 N)) nameless size))
   sim-named units cells (some end) =
       let l : length (set T n nameless) ≡ length T = length-set T n nameless in
-      makes-see (foundAt n) (make text (Cell.name u (end - u))) (plain-make text (Cell.name u (end - u))) (rowState units cells (set T n nameless)) (marksOf T n) _ _
+      makes-see (foundAt n) (make text (Cell.name u (end - u))) (plain-make text (Cell.name u (end - u))) (rowState units cells (set T n nameless))
+      (marksOf T n) _ _
       (λ cell units₁ cells₁. ap ok (sym (found-seen n units₁ cells₁ (set T n nameless) none _ (omega arith) ∙ rw (open-put askedAt T n nameless))))
 
   pub sim-identifier : (units : ℕ) (cells : List Cell) →
@@ -243,7 +250,8 @@ module _ (book : Book) (text : List ℕ) (n N u : ℕ) (T : List Row) (size : n 
       rw q (sim-named units cells (when (claimed book text (pathOf T n) base u) (λ _. none) (λ _. freeEnd book text u)))
 
 -- ---- A call
-module _ (book : Book) (text : List ℕ) (n : ℕ) (inner : Option RowRunner) (innerA : Option Runner) (kin : Kin book n inner innerA) (room : n ≤ 200) (N u : ℕ) (T : List Row) (size : length T ≡ 201) where
+module _ (book : Book) (text : List ℕ) (n : ℕ) (inner : Option RowRunner) (innerA : Option Runner) (kin : Kin book n inner innerA)
+    (room : n ≤ 200) (N u : ℕ) (T : List Row) (size : length T ≡ 201) where
   reentry-is : (l : List (Parse ℕ)) (e : Error) (s : State) → reentry book text innerA l e s ≡ parsed l (failsEmpty l e) s
   unfolding reentry failsEmpty
   reentry-is [] e s = refl
@@ -266,13 +274,21 @@ module _ (book : Book) (text : List ℕ) (n : ℕ) (inner : Option RowRunner) (i
       first ∙ sym (found-seen n units cells U (failsEmpty (rowOf (set U n r) n .set) (error u 11 N)) r room ∙
       ap (λ l. parsed K (failsEmpty l (error u 11 N)) (stateOf units cells (marksOf U n))) f)
 
-  sim-nested : (least units : ℕ) (cells : List Cell) →
-      nested book text innerA (stateOf units cells (marksOf T n)) (λ run.
+  -- the call's runs, by the definition and by rows
+  abbrev runs : ℕ → ℕ → List Cell → Runner → Result Parsed
+  runs least units cells run =
       when (hasMark book 2 N) (λ _. runIdentifier book text (call (pathOf T n) (setsOf T n) N u []) (stateOf units cells (marksOf T n)))
       (λ _. runCall book text run (call (pathOf T n) (setsOf T n) N u []) least (stateOf units cells (false ∷ marksOf T n)) >>=
-      (λ r. ok (parsed (r .set) (r .failure) (withAsked (r .state) (others (r .state .asked)))))))
-      ≡ see (foundAt n) (nestedRows book text inner n (rowState units cells T)
-      (λ run. when (hasMark book 2 N) (λ _. runIdentifierRows book text n N u (rowState units cells T)) (λ _. runCallRows book text run n N u least (rowState units cells T))))
+      (λ r. ok (parsed (r .set) (r .failure) (withAsked (r .state) (others (r .state .asked))))))
+
+  abbrev runsRows : ℕ → ℕ → List Cell → RowRunner → Result Outcome
+  runsRows least units cells run =
+      when (hasMark book 2 N) (λ _. runIdentifierRows book text n N u (rowState units cells T))
+      (λ _. runCallRows book text run n N u least (rowState units cells T))
+
+  sim-nested : (least units : ℕ) (cells : List Cell) →
+      nested book text innerA (stateOf units cells (marksOf T n)) (runs least units cells)
+      ≡ see (foundAt n) (nestedRows book text inner n (rowState units cells T) (runsRows least units cells))
   unfolding others
   sim-nested least units cells =
       nested-see (foundAt n) book text n inner innerA kin (rowState units cells T) (marksOf T n) _ _
@@ -282,15 +298,11 @@ module _ (book : Book) (text : List ℕ) (n : ℕ) (inner : Option RowRunner) (i
   sim-governed : (units : ℕ) (cells : List Cell) (g : ℕ) (a : Governor) → Agree T u (200 - n) (suc n) g a →
       elim a [
         | same-start i f around ↦ ok (reentry book text innerA (kept f (getD (setsOf T n) i [])) (error u 11 N) (stateOf units cells (ask i (marksOf T n))))
-        | minimum least ↦ nested book text innerA (stateOf units cells (marksOf T n)) (λ run.
-            when (hasMark book 2 N) (λ _. runIdentifier book text (call (pathOf T n) (setsOf T n) N u []) (stateOf units cells (marksOf T n)))
-            (λ _. runCall book text run (call (pathOf T n) (setsOf T n) N u []) least (stateOf units cells (false ∷ marksOf T n)) >>=
-            (λ r. ok (parsed (r .set) (r .failure) (withAsked (r .state) (others (r .state .asked)))))))
+        | minimum least ↦ nested book text innerA (stateOf units cells (marksOf T n)) (runs least units cells)
       ]
       ≡ see (foundAt n) (elim (governorAt T u g) [
         | RowGovernor.same-start g ↦ ok (storedRows book text inner n g N u (rowState units cells T))
-        | RowGovernor.minimum least ↦ nestedRows book text inner n (rowState units cells T)
-            (λ run. when (hasMark book 2 N) (λ _. runIdentifierRows book text n N u (rowState units cells T)) (λ _. runCallRows book text run n N u least (rowState units cells T)))
+        | RowGovernor.minimum least ↦ nestedRows book text inner n (rowState units cells T) (runsRows least units cells)
       ])
   unfolding governorAt see
   sim-governed units cells g a (no-governor h p) = rw p (sim-nested 0 units cells)
@@ -298,8 +310,10 @@ module _ (book : Book) (text : List ℕ) (n : ℕ) (inner : Option RowRunner) (i
   sim-governed units cells g a (at-start h x around l p q w) = rw (le-ltb 200 h p, q) (ap ok (sim-stored h x units cells l w))
 
   pub sim-enter : (units : ℕ) (cells : List Cell) →
-      enter book text innerA (pathOf T n) (setsOf T n) N u (stateOf units cells (marksOf T n)) ≡ see (foundAt n) (enterRows book text inner n N u (rowState units cells T))
+      enter book text innerA (pathOf T n) (setsOf T n) N u (stateOf units cells (marksOf T n))
+      ≡ see (foundAt n) (enterRows book text inner n N u (rowState units cells T))
   unfolding enter enterRows
   sim-enter units cells =
       spend-see (foundAt n) (rowState units cells T) (marksOf T n) _ _
-      (λ units₁. sim-governed units₁ cells (newestGovernor T N u (200 - n) (suc n)) (governor (pathOf T n) base N u) (agree T size N u (200 - n) (suc n) (omega arith)))
+      (λ units₁. sim-governed units₁ cells (newestGovernor T N u (200 - n) (suc n)) (governor (pathOf T n) base N u)
+      (agree T size N u (200 - n) (suc n) (omega arith)))

@@ -1,36 +1,33 @@
--- That the steps of a variant over the rows give what the definition's steps give, one lemma for each kind of step. Scaffolding: no
--- definition of document 01.
+-- That the steps of a variant over the rows give what the definition's steps give, one lemma for each kind of step. Scaffolding: no definition of document 01.
 --
--- `Here` is what holds of the rows while the call of row c runs a variant; every part leaves it (KeepsRun). A child's call needs what `Here` says: the live rows above
--- the free row n are the call of row c and the open calls around it. While the child's parses are followed, row n keeps them and is not live.
+-- `Here` is what holds of the rows while the call of row c runs a variant; every part leaves it (KeepsRun). A child's call needs what `Here` says: the live
+-- rows above the free row n are the call of row c and the open calls around it. While the child's parses are followed, row n keeps them and is not live.
 use mathlib.Core.Path.{_≡_, refl, sym, ap, _∙_}
 use mathlib.Core.Bool.{Bool, true, false}
 use mathlib.Core.List.{List, [], _∷_}
 use mathlib.Core.Option.{Option, none, some}
-use Prim.Native.Nat.{ℕ, zero, suc, _+_, _-_, _<_, _≤_}
+use Prim.Native.Nat.{ℕ, zero, suc, _+_, _<_, _≤_}
 use native.Mathlib.Omega.{arith}
-use native.Mathlib.Nat.{zero-add}
-use lib.Dec.{eqb}
 use lib.ListN.{getD, set, length, drop, length-set}
 use lib.Seq.{drop-cons, drop-length}
 use Rattle.characters.specs.Classes.{between}
 use Rattle.characters.specs.Skipping.{skipFrom}
-use Rattle.book.specs.Book.{Book, variantNumber, associativityNumber, stepNumber}
+use Rattle.book.specs.Book.{Book, variantNumber, stepNumber}
 use Rattle.book.specs.ReadingLaws.{associativity-of-number}
 use Rattle.book.specs.declared.records.Step.{Step}
 use Rattle.rules.specs.Values.{Parse}
-use Rattle.rules.specs.Uses.{Use, useOf}
+use Rattle.rules.specs.Uses.{useOf}
 use Rattle.rules.specs.Tokens.{when}
-use Rattle.rules.specs.Steps.{Token, Taken, stepAt, afterElement, closed, Todo, take′, elements, ending}
+use Rattle.rules.specs.Steps.{Token, stepAt, afterElement, closed, Todo, take′, elements, ending}
 use Rattle.rules.specs.Cells.{Cell}
 use Rattle.rules.specs.Errors.{Error}
-use Rattle.rules.specs.Run.{Result, met, ok, _>>=_, State, Parsed, parsed, Made, made, Call, call, Runner, Go, Next, add, spend, make, either, chosen, complete, withCell, withToken, plainNext, listNext, stops, nested, enterChild, followMore, follow, followed, stepUnit, orAbsent, choice, listing, steps, runner, run}
-use Rattle.rows.specs.Rows.{Row, withChild, withRun, rowOf, onRow, openFrom, openAbove, useAt, askedAt, setAt, marksOf, pathOf, setsOf, callOf}
-use Rattle.rows.specs.Model.{RowState, rowState, Outcome, outcome, RowMade, rowMade, RowRunner, RowGo, RowNext, atRow, makes, spendRows, noParse, chosenFailure, together, valueCell, parseOf, addRun, completeRows, plainNextRows, listNextRows, stopsRows, nestedRows, enterRows, enterChildRows, followFrom, followRows, followedRows, stepUnitRows, chosenRows, orChild, orAbsentRows, choiceRows, listingRows, stepsRows, runnerRows}
-use Rattle.rows.specs.Keeps.{row-put, row-else, Keeps, KeepsAt, Called, at-put, at-then, On, Beside, Calls, Keeping, Inner}
-use Rattle.rows.specs.KeepsRun.{keeps-child, child-leaves, KeepsNext, keeps-one, keeps-follow, keeps-followed, keeps-plain-next, keeps-list-next, KeepsGo, keeps-stops, keeps-steps, keeps-runner}
+use Rattle.rules.specs.Run.{Result, ok, _>>=_, State, Parsed, parsed, Call, call, Runner, Go, Next, add, spend, make, chosen, complete, withToken, plainNext, listNext, stops, nested, enterChild, followMore, follow, followed, stepUnit, orAbsent, choice, listing, steps, run}
+use Rattle.rows.specs.Rows.{Row, withChild, withRun, rowOf, onRow, openAbove, useAt, askedAt, setAt, marksOf, pathOf, callOf}
+use Rattle.rows.specs.Model.{RowState, rowState, Outcome, outcome, RowRunner, RowGo, RowNext, makes, spendRows, noParse, chosenFailure, together, valueCell, parseOf, addRun, completeRows, plainNextRows, listNextRows, stopsRows, nestedRows, enterChildRows, followFrom, followedRows, stepUnitRows, chosenRows, orChild, orAbsentRows, choiceRows, listingRows, stepsRows}
+use Rattle.rows.specs.Keeps.{row-put, KeepsAt, Called, at-put, Beside, Calls, Keeping, Inner}
+use Rattle.rows.specs.KeepsRun.{keeps-child, child-leaves, KeepsNext, keeps-one, keeps-followed, keeps-plain-next, keeps-list-next, KeepsGo, keeps-stops, keeps-steps}
 use Rattle.rows.specs.Views.{open-put, open-skips}
-use Rattle.rows.specs.Sim.{stateOf, see, then-see, last-see, same-see, when-see, option-see, after-see, taken-see, Plain, plain-make, plain-value, plain-with, plain-token, makes-see, spend-see, stateAt, ranAt, foundAt, Standing, Here, here-keeps, here-shut, Alike, Kin, last, more, kin-inner, nested-see}
+use Rattle.rows.specs.Sim.{stateOf, see, then-see, same-see, option-see, after-see, taken-see, plain-make, plain-value, plain-with, plain-token, makes-see, spend-see, stateAt, ranAt, foundAt, Here, here-keeps, here-shut, Alike, Kin, more, kin-inner, nested-see}
 use Rattle.rows.specs.SimCalls.{state-put, sim-enter}
 
 module _ (book : Book) (text : List ℕ) (n : ℕ) (inner : Option RowRunner) (innerA : Option Runner) (kin : Kin book n inner innerA) (room : n ≤ 200) where
@@ -42,7 +39,8 @@ module _ (book : Book) (text : List ℕ) (n : ℕ) (inner : Option RowRunner) (i
     abbrev put : List Row → ℕ → List Row
     put T at = onRow T c (withChild at)
 
-    child-use : (T : List Row) (at : ℕ) → Here book C c (suc n) j T → useAt (withChild at (rowOf T c)) ≡ useOf book (rowOf T c .nonterminal) (rowOf T c .start) j at
+    child-use : (T : List Row) (at : ℕ) → Here book C c (suc n) j T →
+        useAt (withChild at (rowOf T c)) ≡ useOf book (rowOf T c .nonterminal) (rowOf T c .start) j at
     child-use T at h = rw (h .standing .scope, h .level, h .associativity, associativity-of-number (variantNumber book j .associativity))
 
     -- what the live rows say once the child's place is noted
@@ -55,7 +53,8 @@ module _ (book : Book) (text : List ℕ) (n : ℕ) (inner : Option RowRunner) (i
         open-skips F (put T at) c n below within (g .standing .live) (g .idle) ∙ rw (row-put T c r l, open-put F T c r)
 
     sim-child : (M x units : ℕ) (cells : List Cell) (T : List Row) → Here book C c (suc n) j T →
-        enterChild book text innerA C j M x (stateAt c (rowState units cells T)) ≡ see (foundAt n) (enterChildRows book text inner n c M x (rowState units cells T))
+        enterChild book text innerA C j M x (stateAt c (rowState units cells T))
+        ≡ see (foundAt n) (enterChildRows book text inner n c M x (rowState units cells T))
     unfolding enterChild enterChildRows
     sim-child M x units cells T h =
         let at = skipFrom text x in
@@ -83,7 +82,8 @@ module _ (book : Book) (text : List ℕ) (n : ℕ) (inner : Option RowRunner) (i
 
     -- ---- What follows the parses of a child
     abbrev pub NextAlike : RowNext → Next → Type 0
-    NextAlike next nextA = (m : ℕ) (S : RowRunner) (R : Runner) → n ≡ suc m → Keeping m S → Alike book m S R → (q : Parse ℕ) (units : ℕ) (cells : List Cell) (T : List Row) →
+    NextAlike next nextA = (m : ℕ) (S : RowRunner) (R : Runner) → n ≡ suc m → Keeping m S → Alike book m S R →
+        (q : Parse ℕ) (units : ℕ) (cells : List Cell) (T : List Row) →
         Here book C c n j T → nextA q (stateAt c (rowState units cells T)) R (rowOf T c .run) ≡ see (ranAt c) (next q (rowState units cells T) S)
 
     module _ (next : RowNext) (nextA : Next) (keeps : KeepsNext book text n inner inners room c below within next) (alike : NextAlike next nextA) where
@@ -98,7 +98,8 @@ module _ (book : Book) (text : List ℕ) (n : ℕ) (inner : Option RowRunner) (i
       set-stays : (T U : List Row) → KeepsAt c n T U → rowOf U n .set ≡ rowOf T n .set
       set-stays T U k = ap (λ r. r .set) (k .other n (omega arith) (λ e. omega arith))
 
-      sim-more : (Q : List (Parse ℕ)) (k i : ℕ) (e : Option Error) (units : ℕ) (cells : List Cell) (T : List Row) → rowOf T n .set ≡ Q → suc i + k ≡ length Q → Here book C c n j T →
+      sim-more : (Q : List (Parse ℕ)) (k i : ℕ) (e : Option Error) (units : ℕ) (cells : List Cell) (T : List Row) →
+          rowOf T n .set ≡ Q → suc i + k ≡ length Q → Here book C c n j T →
           followMore book text innerA nextA (drop (suc i) Q) (rowOf T c .run) e (stateAt c (rowState units cells T))
           ≡ see (ranAt c) (followFrom book text inner n next k (suc i) e (rowState units cells T))
       unfolding followMore followFrom together see
@@ -119,8 +120,8 @@ module _ (book : Book) (text : List ℕ) (n : ℕ) (inner : Option RowRunner) (i
           rw (g, f)
           (then-see (ranAt c) (ranAt c) (Beside c n T) _ _ _ _ (sim-one q units cells T h)
           (keeps-one book text n inner inners room c below within next keeps q (rowState units cells T) (h .standing .size))
-          (λ o a. sim-more (q ∷ Q) (length Q) 0 (o .failure) (o .state .units) (o .state .cells) (o .state .rows) (set-stays T (o .state .rows) a ∙ f) (omega arith)
-          (here-keeps book C c n j T (o .state .rows) h a)))
+          (λ o a. sim-more (q ∷ Q) (length Q) 0 (o .failure) (o .state .units) (o .state .cells) (o .state .rows)
+          (set-stays T (o .state .rows) a ∙ f) (omega arith) (here-keeps book C c n j T (o .state .rows) h a)))
 
       sim-followed : (e : Option Error) (units : ℕ) (cells : List Cell) (T : List Row) → Here book C c n j T → Here book C c (suc n) j T →
           followed book text innerA nextA (rowOf T c .run) (foundAt n (outcome e (rowState units cells T)))
@@ -303,7 +304,8 @@ module _ (book : Book) (text : List ℕ) (n : ℕ) (inner : Option RowRunner) (i
     pub sim-steps : (todo : List (Todo ℕ)) → GoAlike (rowsGo todo) (stepsGo todo)
     unfolding steps stepsRows
     sim-steps [] x items units cells T h = sim-complete x items units cells T h
-    sim-steps (take′ step ∷ rest) x items units cells T h = sim-step step rest (λ x items units cells T h. sim-steps rest x items units cells T h) x items units cells T h
+    sim-steps (take′ step ∷ rest) x items units cells T h =
+        sim-step step rest (λ x items units cells T h. sim-steps rest x items units cells T h) x items units cells T h
     sim-steps (elements comma M values close ∷ rest) x items units cells T h =
         sim-choice (rowsGo rest) (stepsGo rest) (keeps-steps book text n inner inners room c below within j rest)
         (λ x items units cells T h. sim-steps rest x items units cells T h) comma M values close rest x items units cells T h

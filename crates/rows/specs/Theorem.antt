@@ -3,15 +3,15 @@
 -- Plan: the runners are alike, by recursion on the levels left (SimSteps); then `sim-enter` (SimCalls) at row 200, above which no row is.
 use mathlib.Core.Path.{_≡_, refl, _∙_}
 use mathlib.Core.List.{List, []}
-use Prim.Native.Nat.{ℕ, zero, suc, _≤_}
+use Prim.Native.Nat.{ℕ, zero, suc}
 use native.Mathlib.Omega.{arith}
 use lib.ListN.{length}
 use Rattle.characters.specs.Skipping.{skipFrom}
 use Rattle.book.specs.Book.{Book}
 use Rattle.rules.specs.Run.{Result, met, ok, Parsed, parsed, runner, run}
 use Rattle.rows.specs.Rows.{Row, rowOf, openFrom}
-use Rattle.rows.specs.Model.{rowState, Outcome, stepsRows, runnerRows, enterRows}
-use Rattle.rows.specs.KeepsRun.{keeps-steps, keeps-runner}
+use Rattle.rows.specs.Model.{rowState, Outcome, runnerRows, enterRows}
+use Rattle.rows.specs.KeepsRun.{keeping-steps, keeps-runner}
 use Rattle.rows.specs.Sim.{stateOf, see, foundAt, Kin, last, more}
 use Rattle.rows.specs.SimCalls.{sim-enter}
 use Rattle.rows.specs.SimSteps.{sim-steps}
@@ -31,15 +31,10 @@ module _ (book : Book) (text : List ℕ) where
   unfolding runnerRows runner
   sim-runner zero = last zero
   sim-runner (suc n) =
-      more n _ _
-      (record {
-        of = λ c j todo x items s f.
-            keeps-steps book text n (runnerRows book text n) (keeps-runner book text n) (omega (arith, f .below, f .within)) c (f .below) (f .within) j todo x items s (f .size);
-      })
-      (record {
+      more n _ _ (keeping-steps book text n (runnerRows book text n) (keeps-runner book text n)) (record {
         of = λ C c j todo x items s h.
-            sim-steps book text n (runnerRows book text n) (runner book text n) (sim-runner n) (omega (arith, h .below, h .within)) C c j (omega (arith, h .below)) (h .within)
-            todo x items (s .units) (s .cells) (s .rows) h;
+            sim-steps book text n (runnerRows book text n) (runner book text n) (sim-runner n) (omega (arith, h .below, h .within)) C c j
+            (omega (arith, h .below)) (h .within) todo x items (s .units) (s .cells) (s .rows) h;
       })
 
 pub rows-run : (book : Book) (text : List ℕ) (units start : ℕ) (T : List Row) → length T ≡ 201 →

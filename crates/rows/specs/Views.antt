@@ -1,22 +1,21 @@
--- What the live rows say under the changes that a run makes, and that the governor and the claims by rows are those by the path. Scaffolding: no definition of document 01.
+-- What the live rows say under the changes that a run makes, and that the governor and the claims by rows are those by the path. Scaffolding: no definition of
+-- document 01.
 --
--- Plan: `open-same` (rows that keep all but their marks say the same), `open-put` (a row below says nothing), `open-skips` (rows that are not live are passed over); then
--- `agree`: the first governing row is the governor of the path of live rows, by recursion on the rows; then `claims-path`.
+-- Plan: `open-same` (rows that keep all but their marks say the same), `open-put` (a row below says nothing), `open-skips` (rows that are not live are passed
+-- over); then `agree`: the first governing row is the governor of the path of live rows, by recursion on the rows; then `claims-path`.
 use mathlib.Core.Path.{_≡_, refl, sym, ap, _∙_}
-use mathlib.Core.Bool.{Bool, true, false, _&&_, _||_}
+use mathlib.Core.Bool.{Bool, true, false, _&&_}
 use mathlib.Core.List.{List, [], _∷_}
 use Prim.Native.Nat.{ℕ, zero, suc, _+_, _-_, _<_, _≤_}
 use native.Mathlib.Omega.{arith}
 use lib.Dec.{ltb, eqb}
 use lib.ListN.{getD, set, length}
 use borrow.Author.Tests.{eqb-true, le-ltb}
-use Rattle.characters.specs.Cases.{by-test}
 use Rattle.book.specs.Book.{Book}
-use Rattle.rules.specs.Values.{Parse}
-use Rattle.rules.specs.Uses.{Use, Path, base, hasMark, Governor, minimum, same-start, minimumOf, outwards, govern, governor}
+use Rattle.rules.specs.Uses.{Path, base, Governor, minimum, same-start, minimumOf, outwards, govern, governor}
 use Rattle.rules.specs.Tokens.{claimant}
 use Rattle.rules.specs.Run.{ask}
-use Rattle.rows.specs.Rows.{Row, wasAsked, rowOf, onRow, keepIf, openFrom, openAbove, useAt, askedAt, setAt, pathOf, setsOf, marksOf, callOf, governs, newestGovernor, claims, anyClaims}
+use Rattle.rows.specs.Rows.{Row, wasAsked, rowOf, onRow, keepIf, openFrom, openAbove, useAt, askedAt, setAt, pathOf, setsOf, governs, newestGovernor, claims, anyClaims}
 use Rattle.rows.specs.Keeps.{Same, row-put, row-else, Keeps}
 
 -- ---- The open calls above a row
@@ -54,7 +53,8 @@ skips F T c k zero i n e f live idle =
     rw (g, h) (rw (live, openFrom, keepIf))
 skips F T c k (suc d) i n e f live idle =
     let h : n ≡ suc (d + suc k) = omega arith in
-    rw h (rw (idle i (omega arith) (omega arith), openFrom, keepIf) (skips F T c k d (suc i) (d + suc k) (omega arith) refl live (λ j a b. idle j (omega arith) b)))
+    rw h (rw (idle i (omega arith) (omega arith), openFrom, keepIf)
+    (skips F T c k d (suc i) (d + suc k) (omega arith) refl live (λ j a b. idle j (omega arith) b)))
 
 -- rows between n and the call of row c that are not live are passed over
 pub open-skips : {A : Type 0} (F : Row → A) (T : List Row) (c n : ℕ) → n < c → c ≤ 200 → rowOf T c .live ≡ 1 →
