@@ -14,7 +14,7 @@ use borrow.Author.Tests.{le-ltb}
 use Rattle.book.specs.Book.{Book, nonterminalNumber, variantNumber}
 use Rattle.rules.specs.Values.{Parse}
 use Rattle.rules.specs.Uses.{base, hasMark, Governor, governor, minimum, same-start}
-use Rattle.rules.specs.Tokens.{when, freeEnd, claimant, claimed}
+use Rattle.rules.specs.Tokens.{when, freeEnd, hasClaimant, claimed}
 use Rattle.rules.specs.Steps.{todoOf}
 use Rattle.rules.specs.Cells.{Cell}
 use Rattle.rules.specs.Errors.{Error, error}
@@ -245,8 +245,8 @@ module _ (book : Book) (text : List ℕ) (n N u : ℕ) (T : List Row) (size : n 
       ≡ see (foundAt n) (runIdentifierRows book text n N u (rowState units cells T))
   unfolding runIdentifier runIdentifierRows
   sim-identifier units cells =
-      let q : anyClaims book (set T n nameless) u (200 - n) (suc n) ≡ claimant book text (pathOf T n) base u =
-      claims-path book text (set T n nameless) u (200 - n) (suc n) ∙ ap (λ p. claimant book text p base u) (open-put useAt T n nameless) in
+      let q : anyClaims book (set T n nameless) u (200 - n) (suc n) ≡ hasClaimant book text (pathOf T n) base u =
+      claims-path book text (set T n nameless) u (200 - n) (suc n) ∙ ap (λ p. hasClaimant book text p base u) (open-put useAt T n nameless) in
       rw q (sim-named units cells (when (claimed book text (pathOf T n) base u) (λ _. none) (λ _. freeEnd book text u)))
 
 -- ---- A call

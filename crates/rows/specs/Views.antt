@@ -13,7 +13,7 @@ use lib.ListN.{getD, set, length}
 use borrow.Author.Tests.{eqb-true, le-ltb}
 use Rattle.book.specs.Book.{Book}
 use Rattle.rules.specs.Uses.{Path, base, Governor, minimum, same-start, minimumOf, outwards, govern, governor}
-use Rattle.rules.specs.Tokens.{claimant}
+use Rattle.rules.specs.Tokens.{hasClaimant}
 use Rattle.rules.specs.Run.{ask}
 use Rattle.rows.specs.Rows.{Row, wasAsked, rowOf, onRow, keepIf, openFrom, openAbove, useAt, askedAt, setAt, pathOf, setsOf, governs, newestGovernor, claims, anyClaims}
 use Rattle.rows.specs.Keeps.{Same, row-put, row-else, Keeps}
@@ -137,12 +137,12 @@ agree T size N u (suc k) i e = by (eqb (rowOf T i .live) 1) refl (agree T size N
         (agree-past T size u k i (newestGovernor T N u k (suc i)) (governor (openFrom useAt T k (suc i)) base N u) (sym f) A)
 
 -- ---- Claims
-pub claims-path : (book : Book) (text : List ℕ) (T : List Row) (u k i : ℕ) → anyClaims book T u k i ≡ claimant book text (openFrom useAt T k i) base u
-unfolding openFrom keepIf anyClaims claims claimant
+pub claims-path : (book : Book) (text : List ℕ) (T : List Row) (u k i : ℕ) → anyClaims book T u k i ≡ hasClaimant book text (openFrom useAt T k i) base u
+unfolding openFrom keepIf anyClaims claims hasClaimant
 claims-path book text T u zero i = refl
 claims-path book text T u (suc k) i = by (eqb (rowOf T i .live) 1) refl (claims-path book text T u k (suc i))
   where
-    by : (b : Bool) → b ≡ eqb (rowOf T i .live) 1 → anyClaims book T u k (suc i) ≡ claimant book text (openFrom useAt T k (suc i)) base u →
-        anyClaims book T u (suc k) i ≡ claimant book text (openFrom useAt T (suc k) i) base u
+    by : (b : Bool) → b ≡ eqb (rowOf T i .live) 1 → anyClaims book T u k (suc i) ≡ hasClaimant book text (openFrom useAt T k (suc i)) base u →
+        anyClaims book T u (suc k) i ≡ hasClaimant book text (openFrom useAt T (suc k) i) base u
     by true f A = rw (← f, A)
     by false f A = rw (← f, A)
