@@ -1,0 +1,16 @@
+-- `tokens::beyond` meets its contract.
+use borrow.Author.Tests.{lt-ltb, le-ltb}
+use Rattle.rules.specs.Errors.{beyond}
+use Rattle.tokens.proofs.errors.beyond.Statement.{statement}
+use Rattle.tokens.proofs.errors.beyond.Tie as tie
+
+returns : tie.Need-returns
+unfolding beyond
+returns c = rw (lt-ltb _ _ (c .if1 .taken))
+
+returns-2 : tie.Need-returns-2
+unfolding beyond
+returns-2 c = rw (le-ltb _ _ (c .if1 .left))
+
+pub beyond-spec : {M : Type 1} → statement M
+beyond-spec = tie.close (tie.spec returns returns-2)

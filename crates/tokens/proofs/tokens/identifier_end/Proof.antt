@@ -1,0 +1,31 @@
+-- `tokens::identifier_end` meets its contract.
+use mathlib.Core.Path.{sym, _∙_}
+use borrow.Author.Needs.{needs}
+use Rattle.rules.specs.Tokens.{identifierEnd}
+use Rattle.tokens.proofs.tokens.identifier_end.Statement.{statement}
+use Rattle.tokens.proofs.tokens.identifier_end.Tie as tie
+
+identifier-at-requires : tie.Need-identifier-at-requires
+identifier-at-requires c κs = search needs
+
+enum-known-end : tie.Need-enum-known-end
+enum-known-end c = search needs
+
+enum-told : tie.Need-enum-told
+enum-told c = search needs
+
+returns : tie.Need-returns
+unfolding identifierEnd
+returns c =
+    let identifier-at = c .before .before .before .identifier-at in
+    rw (sym (identifier-at .ensures) ∙ c .before .end .given .1, identifierEnd)
+
+returns-2 : tie.Need-returns-2
+unfolding identifierEnd
+returns-2 c =
+    let identifier-at = c .before .before .identifier-at in
+    rw (sym (identifier-at .ensures) ∙ c .enum-told .given .1, identifierEnd)
+
+pub identifier-end-spec : {M : Type 1} → statement M
+identifier-end-spec =
+    tie.close (tie.spec identifier-at-requires enum-known-end enum-told returns returns-2)

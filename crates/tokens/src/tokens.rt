@@ -1,0 +1,90 @@
+// What stands at a place of the text: a character, an identifier, a reserved word, a variable.
+ghost use mathlib.Core.Path.{_≡_};
+ghost use Prim.Native.Nat.{_-_};
+ghost use Rattle.book.specs.Index.{bookIn};
+ghost use Rattle.rules.specs.Tokens.{characterEnd, identifierEnd, reservedAt, freeEnd, variableAt};
+ghost use Rattle.tokens.specs.Maps.{endOf, variableOf};
+use book::Found;
+use book::is_reserved;
+use book::lookup;
+use characters::Identifier;
+use characters::byte_at;
+use characters::identifier_at;
+use characters::skip;
+
+// `Option ℕ`: where something ends, if it is there.
+pub enum End {
+    Nothing,
+    At(usize),
+}
+
+// A variable: where it ends, and its name's number and kind.
+pub enum Variable {
+    Nothing,
+    Named {
+        end: usize,
+        number: usize,
+        kind: usize,
+    },
+}
+
+// The end of the character `a`, after skipping.
+pub fn character_end(text: &[u8], a: usize, place: usize) -> End
+    ensures { λ r. ⌜ endOf r ≡ characterEnd (now (text .entry)) a place ⌝ }
+{
+    let at = skip(text, place);
+    if at < text.len() {
+        if byte_at(text, at) as usize == a {
+            return End::At(at + 1);
+        }
+    }
+    End::Nothing
+}
+
+pub fn identifier_end(text: &[u8], at: usize) -> End
+    ensures { λ r. ⌜ endOf r ≡ identifierEnd (now (text .entry)) at ⌝ }
+{
+    match identifier_at(text, at) {
+        Identifier::Ends(end) => End::At(end),
+        Identifier::Nothing => End::Nothing,
+    }
+}
+
+// How much stands between two places.
+pub fn length(at: usize, end: usize) -> usize
+    ensures { λ r. ⌜ r ≡ end - at ⌝ }
+{
+    if at <= end { end - at } else { 0 }
+}
+
+pub fn reserved_at(book: &[u8], index: &[usize], text: &[u8], at: usize) -> bool
+    ensures { λ r. ⌜ r ≡ reservedAt (bookIn (now (book .entry)) (now (index .entry))) (now (text .entry)) at ⌝ }
+{
+    let End::At(end) = identifier_end(text, at) else {
+        return false;
+    };
+    is_reserved(book, index, text, at, length(at, end))
+}
+
+// The end of an identifier that is not reserved.
+pub fn free_end(book: &[u8], index: &[usize], text: &[u8], at: usize) -> End
+    ensures { λ r. ⌜ endOf r ≡ freeEnd (bookIn (now (book .entry)) (now (index .entry))) (now (text .entry)) at ⌝ }
+{
+    if reserved_at(book, index, text, at) {
+        End::Nothing
+    } else {
+        identifier_end(text, at)
+    }
+}
+
+pub fn variable_at(book: &[u8], index: &[usize], text: &[u8], at: usize) -> Variable
+    ensures { λ r. ⌜ variableOf r ≡ variableAt (bookIn (now (book .entry)) (now (index .entry))) (now (text .entry)) at ⌝ }
+{
+    let End::At(end) = free_end(book, index, text, at) else {
+        return Variable::Nothing;
+    };
+    match lookup(book, index, text, at, length(at, end)) {
+        Found::Name { number, kind } => Variable::Named { end, number, kind },
+        Found::Nothing => Variable::Nothing,
+    }
+}
