@@ -1,0 +1,46 @@
+-- `tokens::kind_error` meets its contract.
+use mathlib.Core.Path.{sym, ap, _∙_}
+use borrow.Author.Needs.{needs}
+use Rattle.rules.specs.Tokens.{isSome}
+use Rattle.tokens.specs.Maps.{variableOf}
+use Rattle.tokens.proofs.steps.kind_error.Statement.{statement}
+use Rattle.tokens.proofs.steps.kind_error.Tie as tie
+
+variable-at-requires : tie.Need-variable-at-requires
+variable-at-requires c κs = search needs
+
+enum-told : tie.Need-enum-told
+enum-told c = search needs
+
+error-at-requires : tie.Need-error-at-requires
+error-at-requires c κs = search needs
+
+enum-told-2 : tie.Need-enum-told-2
+enum-told-2 c = search needs
+
+error-at-requires-2 : tie.Need-error-at-requires-2
+error-at-requires-2 c κs = search needs
+
+returns : tie.Need-returns
+unfolding isSome
+returns c =
+    let variable-at = c .before .before .before .variable-at in
+    rw (sym (variable-at .ensures) ∙ ap variableOf (c .before .enum-told .given .1)) (c .error-at .ensures)
+
+returns-2 : tie.Need-returns-2
+unfolding isSome
+returns-2 c =
+    let variable-at = c .before .before .before .variable-at in
+    rw (sym (variable-at .ensures) ∙ ap variableOf (c .before .enum-told2 .given .1)) (c .error-at2 .ensures)
+
+pub kind-error-spec : {M : Type 1} → statement M
+kind-error-spec =
+    tie.close
+    (tie.spec
+    variable-at-requires
+    enum-told
+    error-at-requires
+    enum-told-2
+    error-at-requires-2
+    returns
+    returns-2)

@@ -1,0 +1,55 @@
+-- `tokens::number` meets its contract.
+use mathlib.Core.Path.{sym, _∙_}
+use borrow.Author.Needs.{needs}
+use Rattle.rules.specs.Steps.{stepAt}
+use Rattle.tokens.proofs.steps.number.Statement.{statement}
+use Rattle.tokens.proofs.steps.number.Tie as tie
+
+skip-requires : tie.Need-skip-requires
+skip-requires c κs = search needs
+
+number-at-requires : tie.Need-number-at-requires
+number-at-requires c κs = search needs
+
+enum-known-value : tie.Need-enum-known-value
+enum-known-value c = search needs
+
+enum-told : tie.Need-enum-told
+enum-told c = search needs
+
+enum-told-2 : tie.Need-enum-told-2
+enum-told-2 c = search needs
+
+returns : tie.Need-returns
+unfolding stepAt
+returns c =
+    let skip = c .before .before .before .before .skip in
+    let number-at = c .before .before .before .number-at in
+    λ book. rw (sym (skip .ensures), sym (number-at .ensures) ∙ c .before .value .given .1, stepAt)
+
+returns-2 : tie.Need-returns-2
+unfolding stepAt
+returns-2 c =
+    let skip = c .before .before .before .skip in
+    let number-at = c .before .before .number-at in
+    λ book. rw (sym (skip .ensures), sym (number-at .ensures) ∙ c .enum-told .given .1, stepAt)
+
+returns-3 : tie.Need-returns-3
+unfolding stepAt
+returns-3 c =
+    let skip = c .before .before .before .skip in
+    let number-at = c .before .before .number-at in
+    λ book. rw (sym (skip .ensures), sym (number-at .ensures) ∙ c .enum-told2 .given .1, stepAt)
+
+pub number-spec : {M : Type 1} → statement M
+number-spec =
+    tie.close
+    (tie.spec
+    skip-requires
+    number-at-requires
+    enum-known-value
+    enum-told
+    enum-told-2
+    returns
+    returns-2
+    returns-3)

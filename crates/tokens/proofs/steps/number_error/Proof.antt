@@ -1,0 +1,73 @@
+-- `tokens::number_error` meets its contract.
+use mathlib.Core.Path.{sym, _∙_}
+use borrow.Author.Tests.{eq-eqb, ne-eqb}
+use borrow.Author.Needs.{needs}
+use Rattle.rules.specs.Errors.{stepError}
+use Rattle.tokens.proofs.steps.number_error.Statement.{statement}
+use Rattle.tokens.proofs.steps.number_error.Tie as tie
+
+error-at-requires : tie.Need-error-at-requires
+error-at-requires c κs = search needs
+
+returns : tie.Need-returns
+unfolding stepError
+returns c = λ book. rw (eq-eqb _ _ (c .before .if1 .taken)) (c .error-at .ensures)
+
+number-at-requires : tie.Need-number-at-requires
+number-at-requires c κs = search needs
+
+enum-told : tie.Need-enum-told
+enum-told c = search needs
+
+error-at-requires-2 : tie.Need-error-at-requires-2
+error-at-requires-2 c κs = search needs
+
+enum-told-2 : tie.Need-enum-told-2
+enum-told-2 c = search needs
+
+error-at-requires-3 : tie.Need-error-at-requires-3
+error-at-requires-3 c κs = search needs
+
+enum-told-3 : tie.Need-enum-told-3
+enum-told-3 c = search needs
+
+error-at-requires-4 : tie.Need-error-at-requires-4
+error-at-requires-4 c κs = search needs
+
+returns-2 : tie.Need-returns-2
+unfolding stepError
+returns-2 c =
+    let if1 = c .before .before .before .before .if1 in
+    let number-at = c .before .before .before .number-at in
+    λ book. rw (ne-eqb _ _ (if1 .left), sym (number-at .ensures) ∙ c .before .enum-told .given .1) (c .error-at2 .ensures)
+
+returns-3 : tie.Need-returns-3
+unfolding stepError
+returns-3 c =
+    let if1 = c .before .before .before .before .if1 in
+    let number-at = c .before .before .before .number-at in
+    λ book. rw (ne-eqb _ _ (if1 .left), sym (number-at .ensures) ∙ c .before .enum-told2 .given .1) (c .error-at3 .ensures)
+
+returns-4 : tie.Need-returns-4
+unfolding stepError
+returns-4 c =
+    let if1 = c .before .before .before .before .if1 in
+    let number-at = c .before .before .before .number-at in
+    λ book. rw (ne-eqb _ _ (if1 .left), sym (number-at .ensures) ∙ c .before .enum-told3 .given .1) (c .error-at4 .ensures)
+
+pub number-error-spec : {M : Type 1} → statement M
+number-error-spec =
+    tie.close
+    (tie.spec
+    error-at-requires
+    returns
+    number-at-requires
+    enum-told
+    error-at-requires-2
+    enum-told-2
+    error-at-requires-3
+    enum-told-3
+    error-at-requires-4
+    returns-2
+    returns-3
+    returns-4)

@@ -1,0 +1,36 @@
+-- `tokens::optional_delimited` meets its contract.
+use mathlib.Core.Path.{sym, ap, _∙_}
+use borrow.Author.Needs.{needs}
+use Rattle.rules.specs.Steps.{stepAt}
+use Rattle.tokens.specs.Maps.{endOf}
+use Rattle.tokens.proofs.steps.optional_delimited.Statement.{statement}
+use Rattle.tokens.proofs.steps.optional_delimited.Tie as tie
+
+character-end-requires : tie.Need-character-end-requires
+character-end-requires c κs = search needs
+
+enum-known-place : tie.Need-enum-known-place
+enum-known-place c = search needs
+
+enum-told : tie.Need-enum-told
+enum-told c = search needs
+
+skip-requires : tie.Need-skip-requires
+skip-requires c κs = search needs
+
+returns : tie.Need-returns
+unfolding stepAt
+returns c =
+    let character-end = c .before .before .before .character-end in
+    λ book. rw (sym (character-end .ensures) ∙ ap endOf (c .before .enum-told .given .1), stepAt, sym (c .skip .ensures))
+
+returns-2 : tie.Need-returns-2
+unfolding stepAt
+returns-2 c =
+    let character-end = c .before .before .before .character-end in
+    λ book. rw (sym (character-end .ensures) ∙ ap endOf (c .before .place .given .1), stepAt)
+
+pub optional-delimited-spec : {M : Type 1} → statement M
+optional-delimited-spec =
+    tie.close
+    (tie.spec character-end-requires enum-known-place enum-told skip-requires returns returns-2)

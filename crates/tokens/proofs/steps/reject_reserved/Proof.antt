@@ -1,0 +1,27 @@
+-- `tokens::reject_reserved` meets its contract.
+use mathlib.Core.Path.{sym, _∙_}
+use borrow.Author.Needs.{needs}
+use Rattle.rules.specs.Steps.{stepAt}
+use Rattle.tokens.proofs.steps.reject_reserved.Statement.{statement}
+use Rattle.tokens.proofs.steps.reject_reserved.Tie as tie
+
+skip-requires : tie.Need-skip-requires
+skip-requires c κs = search needs
+
+reserved-at-requires : tie.Need-reserved-at-requires
+reserved-at-requires c κs = search needs
+
+returns : tie.Need-returns
+unfolding stepAt
+returns c =
+    let skip = c .before .before .skip in
+    rw (sym (skip .ensures), sym (c .before .reserved-at .ensures) ∙ c .if1 .taken)
+
+returns-2 : tie.Need-returns-2
+unfolding stepAt
+returns-2 c =
+    let skip = c .before .before .skip in
+    rw (sym (skip .ensures), sym (c .before .reserved-at .ensures) ∙ c .if1 .left)
+
+pub reject-reserved-spec : {M : Type 1} → statement M
+reject-reserved-spec = tie.close (tie.spec skip-requires reserved-at-requires returns returns-2)

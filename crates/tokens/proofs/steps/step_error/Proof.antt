@@ -1,0 +1,226 @@
+-- `tokens::step_error` meets its contract, kind by kind.
+use mathlib.Core.Path.{ap, _∙_}
+use borrow.Author.Needs.{needs}
+use Rattle.rules.specs.Errors.{identifierError, stepError}
+use Rattle.tokens.proofs.steps.step_error.Statement.{statement}
+use Rattle.tokens.proofs.steps.step_error.Tie as tie
+
+enum-known-step : tie.Need-enum-known-step
+enum-known-step c = search needs
+
+error-at-requires : tie.Need-error-at-requires
+error-at-requires c κs = search needs
+
+enum-known-step-2 : tie.Need-enum-known-step-2
+enum-known-step-2 c = search needs
+
+error-at-requires-2 : tie.Need-error-at-requires-2
+error-at-requires-2 c κs = search needs
+
+enum-told : tie.Need-enum-told
+enum-told c = search needs
+
+error-at-requires-3 : tie.Need-error-at-requires-3
+error-at-requires-3 c κs = search needs
+
+identifier-error-requires : tie.Need-identifier-error-requires
+identifier-error-requires c κs = search needs
+
+enum-told-2 : tie.Need-enum-told-2
+enum-told-2 c = search needs
+
+number-error-requires : tie.Need-number-error-requires
+number-error-requires c κs = search needs
+
+enum-told-3 : tie.Need-enum-told-3
+enum-told-3 c = search needs
+
+error-at-requires-4 : tie.Need-error-at-requires-4
+error-at-requires-4 c κs = search needs
+
+identifier-error-requires-2 : tie.Need-identifier-error-requires-2
+identifier-error-requires-2 c κs = search needs
+
+enum-known-step-3 : tie.Need-enum-known-step-3
+enum-known-step-3 c = search needs
+
+kind-error-requires : tie.Need-kind-error-requires
+kind-error-requires c κs = search needs
+
+identifier-error-requires-3 : tie.Need-identifier-error-requires-3
+identifier-error-requires-3 c κs = search needs
+
+enum-told-4 : tie.Need-enum-told-4
+enum-told-4 c = search needs
+
+error-at-requires-5 : tie.Need-error-at-requires-5
+error-at-requires-5 c κs = search needs
+
+enum-told-5 : tie.Need-enum-told-5
+enum-told-5 c = search needs
+
+error-at-requires-6 : tie.Need-error-at-requires-6
+error-at-requires-6 c κs = search needs
+
+enum-known-step-4 : tie.Need-enum-known-step-4
+enum-known-step-4 c = search needs
+
+error-at-requires-7 : tie.Need-error-at-requires-7
+error-at-requires-7 c κs = search needs
+
+enum-known-step-5 : tie.Need-enum-known-step-5
+enum-known-step-5 c = search needs
+
+error-at-requires-8 : tie.Need-error-at-requires-8
+error-at-requires-8 c κs = search needs
+
+enum-known-step-6 : tie.Need-enum-known-step-6
+enum-known-step-6 c = search needs
+
+error-at-requires-9 : tie.Need-error-at-requires-9
+error-at-requires-9 c κs = search needs
+
+enum-known-step-7 : tie.Need-enum-known-step-7
+enum-known-step-7 c = search needs
+
+error-at-requires-10 : tie.Need-error-at-requires-10
+error-at-requires-10 c κs = search needs
+
+enum-known-step-8 : tie.Need-enum-known-step-8
+enum-known-step-8 c = search needs
+
+error-at-requires-11 : tie.Need-error-at-requires-11
+error-at-requires-11 c κs = search needs
+
+enum-known-step-9 : tie.Need-enum-known-step-9
+enum-known-step-9 c = search needs
+
+error-at-requires-12 : tie.Need-error-at-requires-12
+error-at-requires-12 c κs = search needs
+
+returns : tie.Need-returns
+unfolding stepError
+returns c =
+    let step = c .before .before .step in
+    rw (step .given .1) (c .error-at .ensures)
+
+returns-2 : tie.Need-returns-2
+unfolding stepError
+returns-2 c =
+    let step2 = c .before .before .step2 in
+    rw (step2 .given .1) (c .error-at2 .ensures)
+
+returns-3 : tie.Need-returns-3
+unfolding stepError
+returns-3 c =
+    let enum-told = c .before .before .enum-told in
+    rw (enum-told .given .1) (c .identifier-error .ensures ∙ ap (identifierError _ _ _) (c .before .error-at3 .ensures))
+
+returns-4 : tie.Need-returns-4
+returns-4 c = rw (c .before .enum-told2 .given .1) (c .number-error .ensures _)
+
+returns-5 : tie.Need-returns-5
+unfolding stepError
+returns-5 c =
+    let enum-told3 = c .before .before .enum-told3 in
+    rw (enum-told3 .given .1) (c .identifier-error2 .ensures ∙ ap (identifierError _ _ _) (c .before .error-at4 .ensures))
+
+returns-6 : tie.Need-returns-6
+unfolding stepError
+returns-6 c =
+    let step3 = c .before .before .before .step3 in
+    rw (step3 .given .1) (c .identifier-error3 .ensures ∙ ap (identifierError _ _ _) (c .before .kind-error .ensures))
+
+returns-7 : tie.Need-returns-7
+unfolding stepError
+returns-7 c = rw (c .before .enum-told4 .given .1) (c .error-at5 .ensures)
+
+returns-8 : tie.Need-returns-8
+unfolding stepError
+returns-8 c = rw (c .before .enum-told5 .given .1) (c .error-at6 .ensures)
+
+returns-9 : tie.Need-returns-9
+unfolding stepError
+returns-9 c =
+    let step4 = c .before .before .step4 in
+    rw (step4 .given .1) (c .error-at7 .ensures)
+
+returns-10 : tie.Need-returns-10
+unfolding stepError
+returns-10 c =
+    let step5 = c .before .before .step5 in
+    rw (step5 .given .1) (c .error-at8 .ensures)
+
+returns-11 : tie.Need-returns-11
+unfolding stepError
+returns-11 c =
+    let step6 = c .before .before .step6 in
+    rw (step6 .given .1) (c .error-at9 .ensures)
+
+returns-12 : tie.Need-returns-12
+unfolding stepError
+returns-12 c =
+    let step7 = c .before .before .step7 in
+    rw (step7 .given .1) (c .error-at10 .ensures)
+
+returns-13 : tie.Need-returns-13
+unfolding stepError
+returns-13 c =
+    let step8 = c .before .before .step8 in
+    rw (step8 .given .1) (c .error-at11 .ensures)
+
+returns-14 : tie.Need-returns-14
+unfolding stepError
+returns-14 c =
+    let step9 = c .before .before .step9 in
+    rw (step9 .given .1) (c .error-at12 .ensures)
+
+pub step-error-spec : {M : Type 1} → statement M
+step-error-spec =
+    tie.close
+    (tie.spec
+    enum-known-step
+    error-at-requires
+    enum-known-step-2
+    error-at-requires-2
+    enum-told
+    error-at-requires-3
+    identifier-error-requires
+    enum-told-2
+    number-error-requires
+    enum-told-3
+    error-at-requires-4
+    identifier-error-requires-2
+    enum-known-step-3
+    kind-error-requires
+    identifier-error-requires-3
+    enum-told-4
+    error-at-requires-5
+    enum-told-5
+    error-at-requires-6
+    enum-known-step-4
+    error-at-requires-7
+    enum-known-step-5
+    error-at-requires-8
+    enum-known-step-6
+    error-at-requires-9
+    enum-known-step-7
+    error-at-requires-10
+    enum-known-step-8
+    error-at-requires-11
+    enum-known-step-9
+    error-at-requires-12
+    returns
+    returns-2
+    returns-3
+    returns-4
+    returns-5
+    returns-6
+    returns-7
+    returns-8
+    returns-9
+    returns-10
+    returns-11
+    returns-12
+    returns-13
+    returns-14)

@@ -1,0 +1,55 @@
+-- `tokens::variable_of_kind` meets its contract.
+use mathlib.Core.Path.{sym, ap, _∙_}
+use borrow.Author.Tests.{eq-eqb, ne-eqb}
+use borrow.Author.Needs.{needs}
+use Rattle.rules.specs.Steps.{stepAt}
+use Rattle.tokens.specs.Maps.{variableOf}
+use Rattle.tokens.proofs.steps.variable_of_kind.Statement.{statement}
+use Rattle.tokens.proofs.steps.variable_of_kind.Tie as tie
+
+skip-requires : tie.Need-skip-requires
+skip-requires c κs = search needs
+
+variable-at-requires : tie.Need-variable-at-requires
+variable-at-requires c κs = search needs
+
+enum-known-end : tie.Need-enum-known-end
+enum-known-end c = search needs
+
+enum-told : tie.Need-enum-told
+enum-told c = search needs
+
+returns : tie.Need-returns
+unfolding stepAt
+returns c =
+    let skip = c .before .before .before .before .before .skip in
+    let variable-at = c .before .before .before .before .variable-at in
+    let end = c .before .before .end in
+    rw (sym (skip .ensures), sym (variable-at .ensures) ∙ ap variableOf (end .given .1), stepAt, eq-eqb _ _ (c .if1 .taken))
+
+returns-2 : tie.Need-returns-2
+unfolding stepAt
+returns-2 c =
+    let skip = c .before .before .before .before .before .skip in
+    let variable-at = c .before .before .before .before .variable-at in
+    let end = c .before .before .end in
+    rw (sym (skip .ensures), sym (variable-at .ensures) ∙ ap variableOf (end .given .1), stepAt, ne-eqb _ _ (c .if1 .left))
+
+returns-3 : tie.Need-returns-3
+unfolding stepAt
+returns-3 c =
+    let skip = c .before .before .before .skip in
+    let variable-at = c .before .before .variable-at in
+    rw (sym (skip .ensures), sym (variable-at .ensures) ∙ ap variableOf (c .enum-told .given .1), stepAt)
+
+pub variable-of-kind-spec : {M : Type 1} → statement M
+variable-of-kind-spec =
+    tie.close
+    (tie.spec
+    skip-requires
+    variable-at-requires
+    enum-known-end
+    enum-told
+    returns
+    returns-2
+    returns-3)

@@ -1,0 +1,365 @@
+// What a step of the book takes at a place, what a list does behind an element and at its end, and the error where a step takes nothing.
+// "Every token skips first; what follows it is unskipped".
+ghost use mathlib.Core.Path.{_≡_};
+ghost use Rattle.book.specs.Book.{Book};
+ghost use Rattle.book.specs.Index.{bookIn};
+ghost use Rattle.book.specs.declared.records.Step.{Step};
+ghost use Rattle.rules.specs.Errors.{error, identifierError, stepError};
+ghost use Rattle.rules.specs.Tokens.{when, isSome, variableAt};
+ghost use Rattle.rules.specs.Steps.{stepAt, afterElement, closed as closedAt};
+ghost use Rattle.tokens.specs.Maps.{errorOf, endOf, takenOf, afterOf};
+use crate::errors::Error;
+use crate::tokens::End;
+use crate::tokens::Variable;
+use crate::tokens::character_end;
+use crate::tokens::free_end;
+use crate::tokens::identifier_end;
+use crate::tokens::length;
+use crate::tokens::reserved_at;
+use crate::tokens::variable_at;
+use book::Step;
+use book::word;
+use characters::Number;
+use characters::number_at;
+use characters::part;
+use characters::same_bytes;
+use characters::skip;
+
+// What a token adds, if anything: an identifier by the place and length of its spelling, a number, a variable by its name's number and kind.
+pub enum Item {
+    Nothing,
+    Name { place: usize, size: usize },
+    Number(u64),
+    Variable { number: usize, kind: usize },
+}
+
+// What a step takes at a place.
+pub enum Taken {
+    // no such token, or no opening of kind 12
+    Nothing,
+    // kinds 0 to 7: where the token ends, and what it adds
+    Token {
+        next: usize,
+        item: Item,
+    },
+    // kinds 8 and 9: a child of a nonterminal, or perhaps one
+    Child(usize),
+    Optional(usize),
+    // kinds 10 to 13: a list begins, with commas or without, up to a closing or none
+    List {
+        comma: bool,
+        nonterminal: usize,
+        closing: End,
+        place: usize,
+    },
+    // kind 13 without its opening: the empty list, at a place
+    Unopened(usize),
+}
+
+// After an element a list goes on at a place, or halts there.
+pub enum After {
+    Goes(usize),
+    Halts(usize),
+}
+
+fn character(text: &[u8], a: usize, x: usize) -> Taken
+    ensures { λ r. ⌜ ((book : Book) → takenOf r ≡ stepAt book (now (text .entry)) (Step.Character a) x) ⌝ }
+{
+    let End::At(end) = character_end(text, a, x) else {
+        return Taken::Nothing;
+    };
+    Taken::Token {
+        next: end,
+        item: Item::Nothing,
+    }
+}
+
+fn word_at(book: &[u8], index: &[usize], text: &[u8], a: usize, x: usize) -> Taken
+    ensures { λ r. ⌜ takenOf r ≡ stepAt (bookIn (now (book .entry)) (now (index .entry))) (now (text .entry)) (Step.Word a) x ⌝ }
+{
+    let at = skip(text, x);
+    let End::At(end) = identifier_end(text, at) else {
+        return Taken::Nothing;
+    };
+    let spelled = part(text, at, length(at, end));
+    if same_bytes(spelled, word(book, index, a)) {
+        Taken::Token {
+            next: end,
+            item: Item::Nothing,
+        }
+    } else {
+        Taken::Nothing
+    }
+}
+
+fn identifier(book: &[u8], index: &[usize], text: &[u8], x: usize) -> Taken
+    ensures { λ r. ⌜ takenOf r ≡ stepAt (bookIn (now (book .entry)) (now (index .entry))) (now (text .entry)) Step.Identifier x ⌝ }
+{
+    let at = skip(text, x);
+    let End::At(end) = free_end(book, index, text, at) else {
+        return Taken::Nothing;
+    };
+    Taken::Token {
+        next: end,
+        item: Item::Name {
+            place: at,
+            size: length(at, end),
+        },
+    }
+}
+
+fn number(text: &[u8], x: usize) -> Taken
+    ensures { λ r. ⌜ ((book : Book) → takenOf r ≡ stepAt book (now (text .entry)) Step.Number x) ⌝ }
+{
+    match number_at(text, skip(text, x)) {
+        Number::Value { value, end } => Taken::Token {
+            next: end,
+            item: Item::Number(value),
+        },
+        Number::TooLarge => Taken::Nothing,
+        Number::Nothing => Taken::Nothing,
+    }
+}
+
+fn variable(book: &[u8], index: &[usize], text: &[u8], x: usize) -> Taken
+    ensures { λ r. ⌜ takenOf r ≡ stepAt (bookIn (now (book .entry)) (now (index .entry))) (now (text .entry)) Step.Variable x ⌝ }
+{
+    match variable_at(book, index, text, skip(text, x)) {
+        Variable::Named { end, number, kind } => Taken::Token {
+            next: end,
+            item: Item::Variable { number, kind },
+        },
+        Variable::Nothing => Taken::Nothing,
+    }
+}
+
+fn variable_of_kind(book: &[u8], index: &[usize], text: &[u8], a: usize, x: usize) -> Taken
+    ensures { λ r. ⌜ takenOf r ≡ stepAt (bookIn (now (book .entry)) (now (index .entry))) (now (text .entry)) (Step.VariableOfKind a) x ⌝ }
+{
+    match variable_at(book, index, text, skip(text, x)) {
+        Variable::Named { end, number, kind } => {
+            if kind == a {
+                Taken::Token {
+                    next: end,
+                    item: Item::Variable { number, kind },
+                }
+            } else {
+                Taken::Nothing
+            }
+        }
+        Variable::Nothing => Taken::Nothing,
+    }
+}
+
+fn reject_variable(book: &[u8], index: &[usize], text: &[u8], x: usize) -> Taken
+    ensures { λ r. ⌜ takenOf r ≡ stepAt (bookIn (now (book .entry)) (now (index .entry))) (now (text .entry)) Step.RejectVariable x ⌝ }
+{
+    match variable_at(book, index, text, skip(text, x)) {
+        Variable::Named {
+            end: _,
+            number: _,
+            kind: _,
+        } => Taken::Nothing,
+        Variable::Nothing => Taken::Token {
+            next: x,
+            item: Item::Nothing,
+        },
+    }
+}
+
+fn reject_reserved(book: &[u8], index: &[usize], text: &[u8], x: usize) -> Taken
+    ensures { λ r. ⌜ takenOf r ≡ stepAt (bookIn (now (book .entry)) (now (index .entry))) (now (text .entry)) Step.RejectReserved x ⌝ }
+{
+    if reserved_at(book, index, text, skip(text, x)) {
+        Taken::Nothing
+    } else {
+        Taken::Token {
+            next: x,
+            item: Item::Nothing,
+        }
+    }
+}
+
+fn delimited(text: &[u8], nonterminal: usize, opening: usize, closing: usize, x: usize) -> Taken
+    ensures { λ r. ⌜ ((book : Book) → takenOf r ≡ stepAt book (now (text .entry)) (Step.Delimited nonterminal opening closing) x) ⌝ }
+{
+    let End::At(place) = character_end(text, opening, x) else {
+        return Taken::Nothing;
+    };
+    Taken::List {
+        comma: true,
+        nonterminal,
+        closing: End::At(closing),
+        place,
+    }
+}
+
+// An opening looked for in vain still leaves the place skipped.
+fn optional_delimited(
+    text: &[u8],
+    nonterminal: usize,
+    opening: usize,
+    closing: usize,
+    x: usize,
+) -> Taken
+    ensures { λ r. ⌜ ((book : Book) → takenOf r ≡ stepAt book (now (text .entry)) (Step.OptionalDelimited nonterminal opening closing) x) ⌝ }
+{
+    let End::At(place) = character_end(text, opening, x) else {
+        return Taken::Unopened(skip(text, x));
+    };
+    Taken::List {
+        comma: true,
+        nonterminal,
+        closing: End::At(closing),
+        place,
+    }
+}
+
+// What a step takes at a place, by its kind.
+pub fn step_at(book: &[u8], index: &[usize], text: &[u8], step: Step, x: usize) -> Taken
+    ensures { λ r. ⌜ takenOf r ≡ stepAt (bookIn (now (book .entry)) (now (index .entry))) (now (text .entry)) step x ⌝ }
+{
+    match step {
+        Step::Character(a) => character(text, a, x),
+        Step::Word(a) => word_at(book, index, text, a, x),
+        Step::Identifier => identifier(book, index, text, x),
+        Step::Number => number(text, x),
+        Step::Variable => variable(book, index, text, x),
+        Step::VariableOfKind(a) => variable_of_kind(book, index, text, a, x),
+        Step::RejectVariable => reject_variable(book, index, text, x),
+        Step::RejectReserved => reject_reserved(book, index, text, x),
+        Step::Nonterminal(a) => Taken::Child(a),
+        Step::Optional(a) => Taken::Optional(a),
+        Step::Many(a) => Taken::List {
+            comma: false,
+            nonterminal: a,
+            closing: End::Nothing,
+            place: x,
+        },
+        Step::CommaList(a) => Taken::List {
+            comma: true,
+            nonterminal: a,
+            closing: End::Nothing,
+            place: x,
+        },
+        Step::Delimited {
+            nonterminal,
+            opening,
+            closing,
+        } => delimited(text, nonterminal, opening, closing, x),
+        Step::OptionalDelimited {
+            nonterminal,
+            opening,
+            closing,
+        } => optional_delimited(text, nonterminal, opening, closing, x),
+    }
+}
+
+// ---- Lists
+// 44 is the comma. One that is there is taken; one looked for in vain still leaves the place skipped.
+pub fn after_element(text: &[u8], comma: bool, place: usize) -> After
+    ensures { λ r. ⌜ afterOf r ≡ afterElement (now (text .entry)) comma place ⌝ }
+{
+    if !comma {
+        return After::Goes(place);
+    }
+    let End::At(end) = character_end(text, 44, place) else {
+        return After::Halts(skip(text, place));
+    };
+    After::Goes(end)
+}
+
+// Behind a list: the closing of a delimited one, or nothing.
+pub fn closed(text: &[u8], closing: End, place: usize) -> End
+    ensures { λ r. ⌜ endOf r ≡ closedAt (now (text .entry)) (endOf closing) place ⌝ }
+{
+    let End::At(c) = closing else {
+        return End::At(place);
+    };
+    character_end(text, c, place)
+}
+
+// ---- Errors, at a skipped place
+fn error_at(place: usize, kind: usize, argument: usize) -> Error
+    ensures { λ r. ⌜ errorOf r ≡ error place kind argument ⌝ }
+{
+    Error {
+        place,
+        kind,
+        argument,
+    }
+}
+
+// An identifier was wanted: the text ended, none is there, or it is reserved; else another error.
+fn identifier_error(book: &[u8], index: &[usize], text: &[u8], at: usize, other: Error) -> Error
+    ensures { λ r. ⌜ errorOf r ≡ identifierError (bookIn (now (book .entry)) (now (index .entry))) (now (text .entry)) at (errorOf other) ⌝ }
+{
+    if at == text.len() {
+        return error_at(at, 4, 0);
+    }
+    if reserved_at(book, index, text, at) {
+        return error_at(at, 6, 0);
+    }
+    match identifier_end(text, at) {
+        End::At(_) => other,
+        End::Nothing => error_at(at, 3, 0),
+    }
+}
+
+fn number_error(text: &[u8], at: usize) -> Error
+    ensures { λ r. ⌜ ((book : Book) → errorOf r ≡ stepError book (now (text .entry)) Step.Number at) ⌝ }
+{
+    if at == text.len() {
+        return error_at(at, 4, 0);
+    }
+    match number_at(text, at) {
+        Number::Nothing => error_at(at, 9, 0),
+        Number::TooLarge => error_at(at, 10, 0),
+        Number::Value { value: _, end: _ } => error_at(at, 10, 0),
+    }
+}
+
+// No variable of the kind: a name of another kind, or none.
+fn kind_error(book: &[u8], index: &[usize], text: &[u8], kind: usize, at: usize) -> Error
+    ensures { λ r. ⌜ errorOf r ≡ when (isSome (variableAt (bookIn (now (book .entry)) (now (index .entry))) (now (text .entry)) at)) (λ _. error at 8 kind) (λ _. error at 7 0) ⌝ }
+{
+    match variable_at(book, index, text, at) {
+        Variable::Named {
+            end: _,
+            number: _,
+            kind: _,
+        } => error_at(at, 8, kind),
+        Variable::Nothing => error_at(at, 7, 0),
+    }
+}
+
+pub fn step_error(book: &[u8], index: &[usize], text: &[u8], step: Step, at: usize) -> Error
+    ensures { λ r. ⌜ errorOf r ≡ stepError (bookIn (now (book .entry)) (now (index .entry))) (now (text .entry)) step at ⌝ }
+{
+    match step {
+        Step::Character(a) => error_at(at, 1, a),
+        Step::Word(a) => error_at(at, 2, a),
+        Step::Identifier => identifier_error(book, index, text, at, error_at(at, 3, 0)),
+        Step::Number => number_error(text, at),
+        Step::Variable => identifier_error(book, index, text, at, error_at(at, 7, 0)),
+        Step::VariableOfKind(a) => {
+            identifier_error(book, index, text, at, kind_error(book, index, text, a, at))
+        }
+        Step::RejectVariable => error_at(at, 5, 0),
+        Step::RejectReserved => error_at(at, 6, 0),
+        Step::Nonterminal(a) => error_at(at, 11, a),
+        Step::Optional(a) => error_at(at, 11, a),
+        Step::Many(a) => error_at(at, 11, a),
+        Step::CommaList(a) => error_at(at, 11, a),
+        Step::Delimited {
+            nonterminal: _,
+            opening,
+            closing: _,
+        } => error_at(at, 1, opening),
+        Step::OptionalDelimited {
+            nonterminal,
+            opening: _,
+            closing: _,
+        } => error_at(at, 11, nonterminal),
+    }
+}
