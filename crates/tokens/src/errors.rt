@@ -5,6 +5,31 @@ ghost use Rattle.rules.specs.Run.{either as eitherOf};
 ghost use Rattle.tokens.specs.Failures.{counted as countedOf, failedCall, chosen as chosenOf};
 ghost use Rattle.tokens.specs.Maps.{errorOf, failureOf};
 
+// The kinds.
+pub const CHARACTER_WANTED: usize = 1;
+
+pub const WORD_WANTED: usize = 2;
+
+pub const IDENTIFIER_WANTED: usize = 3;
+
+pub const TEXT_ENDED: usize = 4;
+
+pub const VARIABLE_FOUND: usize = 5;
+
+pub const RESERVED_FOUND: usize = 6;
+
+pub const UNKNOWN_NAME: usize = 7;
+
+pub const WRONG_KIND: usize = 8;
+
+pub const DIGITS_WANTED: usize = 9;
+
+pub const NUMBER_TOO_LARGE: usize = 10;
+
+pub const NONTERMINAL_WANTED: usize = 11;
+
+pub const MORE_WANTED: usize = 12;
+
 pub struct Error {
     pub place: usize,
     pub kind: usize,
@@ -86,7 +111,7 @@ pub fn choice_error(at: usize, nonterminal: usize, a: Error, b: Error) -> Error
     let Failure::At(e) = beyond(at, join(a, b)) else {
         return Error {
             place: at,
-            kind: 12,
+            kind: MORE_WANTED,
             argument: nonterminal,
         };
     };
@@ -127,7 +152,7 @@ pub fn failed_call(start: usize, nonterminal: usize, failure: Failure) -> Error
     let Failure::At(e) = failure else {
         return Error {
             place: start,
-            kind: 11,
+            kind: NONTERMINAL_WANTED,
             argument: nonterminal,
         };
     };

@@ -27,6 +27,7 @@ pub use steps::Item;
 pub use steps::Taken;
 pub use steps::after_element;
 pub use steps::closed;
+pub use steps::closing_error;
 pub use steps::step_at;
 pub use steps::step_error;
 pub use tokens::End;

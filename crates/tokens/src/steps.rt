@@ -1,14 +1,28 @@
 // What a step of the book takes at a place, what a list does behind an element and at its end, and the error where a step takes nothing.
 // "Every token skips first; what follows it is unskipped".
+ghost use mathlib.Core.Option.{none};
 ghost use mathlib.Core.Path.{_≡_};
 ghost use Rattle.book.specs.Book.{Book};
 ghost use Rattle.book.specs.Index.{bookIn};
 ghost use Rattle.book.specs.declared.records.Step.{Step};
+ghost use Rattle.characters.specs.Skipping.{skipFrom};
 ghost use Rattle.rules.specs.Errors.{error, identifierError, stepError};
+ghost use Rattle.rules.specs.Run.{closingOf};
 ghost use Rattle.rules.specs.Tokens.{when, isSome, variableAt};
-ghost use Rattle.rules.specs.Steps.{stepAt, afterElement, closed as closedAt};
+ghost use Rattle.rules.specs.Steps.{read, stepAt, afterElement, closed as closedAt};
 ghost use Rattle.tokens.specs.Maps.{errorOf, endOf, takenOf, afterOf};
+use crate::errors::CHARACTER_WANTED;
+use crate::errors::DIGITS_WANTED;
 use crate::errors::Error;
+use crate::errors::IDENTIFIER_WANTED;
+use crate::errors::NONTERMINAL_WANTED;
+use crate::errors::NUMBER_TOO_LARGE;
+use crate::errors::RESERVED_FOUND;
+use crate::errors::TEXT_ENDED;
+use crate::errors::UNKNOWN_NAME;
+use crate::errors::VARIABLE_FOUND;
+use crate::errors::WORD_WANTED;
+use crate::errors::WRONG_KIND;
 use crate::tokens::End;
 use crate::tokens::Variable;
 use crate::tokens::character_end;
@@ -62,16 +76,23 @@ pub enum After {
     Halts(usize),
 }
 
+// A token that adds nothing.
+fn bare(next: usize) -> Taken
+    ensures { λ r. ⌜ takenOf r ≡ read next none ⌝ }
+{
+    Taken::Token {
+        next,
+        item: Item::Nothing,
+    }
+}
+
 fn character(text: &[u8], a: usize, x: usize) -> Taken
     ensures { λ r. ⌜ ((book : Book) → takenOf r ≡ stepAt book (now (text .entry)) (Step.Character a) x) ⌝ }
 {
     let End::At(end) = character_end(text, a, x) else {
         return Taken::Nothing;
     };
-    Taken::Token {
-        next: end,
-        item: Item::Nothing,
-    }
+    bare(end)
 }
 
 fn word_at(book: &[u8], index: &[usize], text: &[u8], a: usize, x: usize) -> Taken
@@ -83,10 +104,7 @@ fn word_at(book: &[u8], index: &[usize], text: &[u8], a: usize, x: usize) -> Tak
     };
     let spelled = part(text, at, length(at, end));
     if same_bytes(spelled, word(book, index, a)) {
-        Taken::Token {
-            next: end,
-            item: Item::Nothing,
-        }
+        bare(end)
     } else {
         Taken::Nothing
     }
@@ -151,32 +169,29 @@ fn variable_of_kind(book: &[u8], index: &[usize], text: &[u8], a: usize, x: usiz
     }
 }
 
+// Kinds 6 and 7 look behind what is skipped, and don't move the place.
 fn reject_variable(book: &[u8], index: &[usize], text: &[u8], x: usize) -> Taken
     ensures { λ r. ⌜ takenOf r ≡ stepAt (bookIn (now (book .entry)) (now (index .entry))) (now (text .entry)) Step.RejectVariable x ⌝ }
 {
-    match variable_at(book, index, text, skip(text, x)) {
+    let at = skip(text, x);
+    match variable_at(book, index, text, at) {
         Variable::Named {
             end: _,
             number: _,
             kind: _,
         } => Taken::Nothing,
-        Variable::Nothing => Taken::Token {
-            next: x,
-            item: Item::Nothing,
-        },
+        Variable::Nothing => bare(x),
     }
 }
 
 fn reject_reserved(book: &[u8], index: &[usize], text: &[u8], x: usize) -> Taken
     ensures { λ r. ⌜ takenOf r ≡ stepAt (bookIn (now (book .entry)) (now (index .entry))) (now (text .entry)) Step.RejectReserved x ⌝ }
 {
-    if reserved_at(book, index, text, skip(text, x)) {
+    let at = skip(text, x);
+    if reserved_at(book, index, text, at) {
         Taken::Nothing
     } else {
-        Taken::Token {
-            next: x,
-            item: Item::Nothing,
-        }
+        bare(x)
     }
 }
 
@@ -279,7 +294,7 @@ pub fn closed(text: &[u8], closing: End, place: usize) -> End
     character_end(text, c, place)
 }
 
-// ---- Errors, at a skipped place
+// ---- Errors, each at a skipped place
 fn error_at(place: usize, kind: usize, argument: usize) -> Error
     ensures { λ r. ⌜ errorOf r ≡ error place kind argument ⌝ }
 {
@@ -290,19 +305,30 @@ fn error_at(place: usize, kind: usize, argument: usize) -> Error
     }
 }
 
+// The closing of a list is missing: 1, with its code.
+pub fn closing_error(text: &[u8], closing: End, place: usize) -> Error
+    ensures { λ r. ⌜ errorOf r ≡ error (skipFrom (now (text .entry)) place) 1 (closingOf (endOf closing)) ⌝ }
+{
+    let at = skip(text, place);
+    match closing {
+        End::At(c) => error_at(at, CHARACTER_WANTED, c),
+        End::Nothing => error_at(at, CHARACTER_WANTED, 0),
+    }
+}
+
 // An identifier was wanted: the text ended, none is there, or it is reserved; else another error.
 fn identifier_error(book: &[u8], index: &[usize], text: &[u8], at: usize, other: Error) -> Error
     ensures { λ r. ⌜ errorOf r ≡ identifierError (bookIn (now (book .entry)) (now (index .entry))) (now (text .entry)) at (errorOf other) ⌝ }
 {
     if at == text.len() {
-        return error_at(at, 4, 0);
+        return error_at(at, TEXT_ENDED, 0);
     }
     if reserved_at(book, index, text, at) {
-        return error_at(at, 6, 0);
+        return error_at(at, RESERVED_FOUND, 0);
     }
     match identifier_end(text, at) {
         End::At(_) => other,
-        End::Nothing => error_at(at, 3, 0),
+        End::Nothing => error_at(at, IDENTIFIER_WANTED, 0),
     }
 }
 
@@ -310,26 +336,27 @@ fn number_error(text: &[u8], at: usize) -> Error
     ensures { λ r. ⌜ ((book : Book) → errorOf r ≡ stepError book (now (text .entry)) Step.Number at) ⌝ }
 {
     if at == text.len() {
-        return error_at(at, 4, 0);
+        return error_at(at, TEXT_ENDED, 0);
     }
     match number_at(text, at) {
-        Number::Nothing => error_at(at, 9, 0),
-        Number::TooLarge => error_at(at, 10, 0),
-        Number::Value { value: _, end: _ } => error_at(at, 10, 0),
+        Number::Nothing => error_at(at, DIGITS_WANTED, 0),
+        Number::TooLarge => error_at(at, NUMBER_TOO_LARGE, 0),
+        Number::Value { value: _, end: _ } => error_at(at, NUMBER_TOO_LARGE, 0),
     }
 }
 
 // No variable of the kind: a name of another kind, or none.
 fn kind_error(book: &[u8], index: &[usize], text: &[u8], kind: usize, at: usize) -> Error
-    ensures { λ r. ⌜ errorOf r ≡ when (isSome (variableAt (bookIn (now (book .entry)) (now (index .entry))) (now (text .entry)) at)) (λ _. error at 8 kind) (λ _. error at 7 0) ⌝ }
+    ensures { λ r. ⌜ errorOf r ≡ when (isSome (variableAt (bookIn (now (book .entry)) (now (index .entry))) (now (text .entry)) at))
+        (λ _. error at 8 kind) (λ _. error at 7 0) ⌝ }
 {
     match variable_at(book, index, text, at) {
         Variable::Named {
             end: _,
             number: _,
             kind: _,
-        } => error_at(at, 8, kind),
-        Variable::Nothing => error_at(at, 7, 0),
+        } => error_at(at, WRONG_KIND, kind),
+        Variable::Nothing => error_at(at, UNKNOWN_NAME, 0),
     }
 }
 
@@ -337,29 +364,35 @@ pub fn step_error(book: &[u8], index: &[usize], text: &[u8], step: Step, at: usi
     ensures { λ r. ⌜ errorOf r ≡ stepError (bookIn (now (book .entry)) (now (index .entry))) (now (text .entry)) step at ⌝ }
 {
     match step {
-        Step::Character(a) => error_at(at, 1, a),
-        Step::Word(a) => error_at(at, 2, a),
-        Step::Identifier => identifier_error(book, index, text, at, error_at(at, 3, 0)),
+        Step::Character(a) => error_at(at, CHARACTER_WANTED, a),
+        Step::Word(a) => error_at(at, WORD_WANTED, a),
+        Step::Identifier => identifier_error(
+            book,
+            index,
+            text,
+            at,
+            error_at(at, IDENTIFIER_WANTED, 0),
+        ),
         Step::Number => number_error(text, at),
-        Step::Variable => identifier_error(book, index, text, at, error_at(at, 7, 0)),
+        Step::Variable => identifier_error(book, index, text, at, error_at(at, UNKNOWN_NAME, 0)),
         Step::VariableOfKind(a) => {
             identifier_error(book, index, text, at, kind_error(book, index, text, a, at))
         }
-        Step::RejectVariable => error_at(at, 5, 0),
-        Step::RejectReserved => error_at(at, 6, 0),
-        Step::Nonterminal(a) => error_at(at, 11, a),
-        Step::Optional(a) => error_at(at, 11, a),
-        Step::Many(a) => error_at(at, 11, a),
-        Step::CommaList(a) => error_at(at, 11, a),
+        Step::RejectVariable => error_at(at, VARIABLE_FOUND, 0),
+        Step::RejectReserved => error_at(at, RESERVED_FOUND, 0),
+        Step::Nonterminal(a) => error_at(at, NONTERMINAL_WANTED, a),
+        Step::Optional(a) => error_at(at, NONTERMINAL_WANTED, a),
+        Step::Many(a) => error_at(at, NONTERMINAL_WANTED, a),
+        Step::CommaList(a) => error_at(at, NONTERMINAL_WANTED, a),
         Step::Delimited {
             nonterminal: _,
             opening,
             closing: _,
-        } => error_at(at, 1, opening),
+        } => error_at(at, CHARACTER_WANTED, opening),
         Step::OptionalDelimited {
             nonterminal,
             opening: _,
             closing: _,
-        } => error_at(at, 11, nonterminal),
+        } => error_at(at, NONTERMINAL_WANTED, nonterminal),
     }
 }

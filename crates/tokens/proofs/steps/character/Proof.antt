@@ -21,12 +21,17 @@ returns c =
     let character-end = c .before .before .character-end in
     λ book. rw (sym (character-end .ensures) ∙ ap endOf (c .enum-told .given .1), stepAt)
 
+bare-requires : tie.Need-bare-requires
+bare-requires c κs = search needs
+
 returns-2 : tie.Need-returns-2
 unfolding stepAt
 returns-2 c =
-    let character-end = c .before .before .before .character-end in
-    λ book. rw (sym (character-end .ensures) ∙ ap endOf (c .before .end .given .1), stepAt)
+    let character-end = c .before .before .before .before .character-end in
+    let end = c .before .before .end in
+    λ book. rw (sym (character-end .ensures) ∙ ap endOf (end .given .1), stepAt) (c .bare .ensures)
 
 pub character-spec : {M : Type 1} → statement M
 character-spec =
-    tie.close (tie.spec character-end-requires enum-known-end enum-told returns returns-2)
+    tie.close
+    (tie.spec character-end-requires enum-known-end enum-told returns bare-requires returns-2)

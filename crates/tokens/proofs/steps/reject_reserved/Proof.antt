@@ -11,6 +11,9 @@ skip-requires c κs = search needs
 reserved-at-requires : tie.Need-reserved-at-requires
 reserved-at-requires c κs = search needs
 
+bare-requires : tie.Need-bare-requires
+bare-requires c κs = search needs
+
 returns : tie.Need-returns
 unfolding stepAt
 returns c =
@@ -20,8 +23,10 @@ returns c =
 returns-2 : tie.Need-returns-2
 unfolding stepAt
 returns-2 c =
-    let skip = c .before .before .skip in
-    rw (sym (skip .ensures), sym (c .before .reserved-at .ensures) ∙ c .if1 .left)
+    let skip = c .before .before .before .skip in
+    let reserved-at = c .before .before .reserved-at in
+    rw (sym (skip .ensures), sym (reserved-at .ensures) ∙ c .before .if1 .left) (c .bare .ensures)
 
 pub reject-reserved-spec : {M : Type 1} → statement M
-reject-reserved-spec = tie.close (tie.spec skip-requires reserved-at-requires returns returns-2)
+reject-reserved-spec =
+    tie.close (tie.spec skip-requires reserved-at-requires bare-requires returns returns-2)

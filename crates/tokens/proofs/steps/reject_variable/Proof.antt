@@ -18,6 +18,9 @@ enum-told c = search needs
 enum-told-2 : tie.Need-enum-told-2
 enum-told-2 c = search needs
 
+bare-requires : tie.Need-bare-requires
+bare-requires c κs = search needs
+
 returns : tie.Need-returns
 unfolding stepAt
 returns c =
@@ -28,10 +31,18 @@ returns c =
 returns-2 : tie.Need-returns-2
 unfolding stepAt
 returns-2 c =
-    let skip = c .before .before .before .skip in
-    let variable-at = c .before .before .variable-at in
-    rw (sym (skip .ensures), sym (variable-at .ensures) ∙ ap variableOf (c .enum-told2 .given .1), stepAt)
+    let skip = c .before .before .before .before .skip in
+    let variable-at = c .before .before .before .variable-at in
+    rw (sym (skip .ensures), sym (variable-at .ensures) ∙ ap variableOf (c .before .enum-told2 .given .1), stepAt) (c .bare .ensures)
 
 pub reject-variable-spec : {M : Type 1} → statement M
 reject-variable-spec =
-    tie.close (tie.spec skip-requires variable-at-requires enum-told enum-told-2 returns returns-2)
+    tie.close
+    (tie.spec
+    skip-requires
+    variable-at-requires
+    enum-told
+    enum-told-2
+    bare-requires
+    returns
+    returns-2)

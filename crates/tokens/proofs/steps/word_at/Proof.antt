@@ -37,17 +37,22 @@ word-requires c κs = search needs
 same-bytes-requires : tie.Need-same-bytes-requires
 same-bytes-requires c κs = search needs
 
+bare-requires : tie.Need-bare-requires
+bare-requires c κs = search needs
+
 returns-2 : tie.Need-returns-2
 unfolding stepAt
 returns-2 c =
-    let skip = c .before .before .before .before .before .before .before .before .before .skip in
-    let identifier-end = c .before .before .before .before .before .before .before .before .identifier-end in
-    let end = c .before .before .before .before .before .before .end in
-    let length = c .before .before .before .before .length in
-    let part = c .before .before .before .part in
-    let word = c .before .before .word in
+    let skip = c .before .before .before .before .before .before .before .before .before .before .skip in
+    let identifier-end = c .before .before .before .before .before .before .before .before .before .identifier-end in
+    let end = c .before .before .before .before .before .before .before .end in
+    let length = c .before .before .before .before .before .length in
+    let part = c .before .before .before .before .part in
+    let word = c .before .before .before .word in
+    let same-bytes = c .before .before .same-bytes in
     let ends = sym (identifier-end .ensures) ∙ ap endOf (end .given .1) in
-    rw (sym (skip .ensures), ends, stepAt, sym (skip .ensures), sym (length .ensures), sym (part .ensures), sym (word .ensures), sym (c .before .same-bytes .ensures) ∙ c .if1 .taken)
+    let test = sym (same-bytes .ensures) ∙ c .before .if1 .taken in
+    rw (sym (skip .ensures), ends, stepAt, sym (skip .ensures), sym (length .ensures), sym (part .ensures), sym (word .ensures), test) (c .bare .ensures)
 
 returns-3 : tie.Need-returns-3
 unfolding stepAt
@@ -59,7 +64,8 @@ returns-3 c =
     let part = c .before .before .before .part in
     let word = c .before .before .word in
     let ends = sym (identifier-end .ensures) ∙ ap endOf (end .given .1) in
-    rw (sym (skip .ensures), ends, stepAt, sym (skip .ensures), sym (length .ensures), sym (part .ensures), sym (word .ensures), sym (c .before .same-bytes .ensures) ∙ c .if1 .left)
+    let test = sym (c .before .same-bytes .ensures) ∙ c .if1 .left in
+    rw (sym (skip .ensures), ends, stepAt, sym (skip .ensures), sym (length .ensures), sym (part .ensures), sym (word .ensures), test)
 
 pub word-at-spec : {M : Type 1} → statement M
 word-at-spec =
@@ -74,5 +80,6 @@ word-at-spec =
     part-requires
     word-requires
     same-bytes-requires
+    bare-requires
     returns-2
     returns-3)
