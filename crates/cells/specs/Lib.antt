@@ -1,0 +1,5 @@
+pub mod Store
+pub mod NumbersLaws
+pub mod IndexLaws
+pub mod GrowthLaws
+pub mod ClearingLaws

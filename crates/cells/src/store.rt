@@ -1,0 +1,119 @@
+// The cells of a run in a lent slice of numbers, with an index of chains: cells of one hash, the newest first.
+ghost use mathlib.Core.Path.{_≡_};
+ghost use mathlib.Core.List.{List, []};
+ghost use Prim.Native.Nat.{ℕ, _≤_, _<_};
+ghost use lib.ListN.{length, getD, set};
+ghost use Rattle.cells.specs.Store.{numbersAt, findIn, pushed, Makes, Cleared};
+use crate::numbers::Numbers;
+use crate::numbers::hash;
+use crate::numbers::same_cell;
+
+const MOST_CELLS: u32 = 4096;
+
+// The link of cell n stands at LINKS + n.
+const LINKS: usize = 12287;
+
+const HEADS: usize = 16384;
+
+pub const STORE_SIZE: usize = 17408;
+
+// A cell that was asked for: its number, and how many cells there are now; or limit 23.
+pub enum Made {
+    At { cell: u32, count: u32 },
+    Full,
+}
+
+// The number at i, and 0 past the end.
+fn get(store: &[u32], i: usize) -> u32
+    ensures { λ r. ⌜ r ≡ getD (now (store .entry)) i 0 ⌝ }
+{
+    if i < store.len() { store[i] } else { 0 }
+}
+
+// A store, and nothing past the end.
+fn put(store: &mut [u32], i: usize, x: u32)
+    ensures { λ _. ⌜ now (store .exit) ≡ set (now (store .entry)) i x ⌝ }
+{
+    if i < store.len() {
+        store[i] = x;
+    }
+}
+
+// Cell n.
+fn cell_at(store: &[u32], n: u32) -> Numbers
+    requires { ⌜ 0 < n ⌝ }
+    ensures { λ r. ⌜ r ≡ numbersAt (now (store .entry)) n ⌝ }
+{
+    let at = n as usize * 3 - 3;
+    Numbers {
+        form: get(store, at),
+        a: get(store, at + 1),
+        b: get(store, at + 2),
+    }
+}
+
+// The cell that is equal to c along the chain from `first`, or 0. A chain has at most as many cells as there are.
+fn find(text: &[u8], store: &[u32], c: Numbers, count: u32, first: u32) -> u32
+    ensures { λ r. ⌜ r ≡ findIn (now (text .entry)) (now (store .entry)) c count first ⌝ }
+{
+    let mut left = count;
+    let mut n = first;
+    while 0 < left {
+        if n == 0 {
+            return 0;
+        }
+        if same_cell(text, c, cell_at(store, n)) {
+            return n;
+        }
+        n = get(store, LINKS + n as usize);
+        left -= 1;
+    }
+    0
+}
+
+// Cell n is c, the newest of its hash.
+fn push(store: &mut [u32], c: Numbers, n: u32, hash: usize)
+    requires { ⌜ (0 < n) × (hash < 1024) ⌝ }
+    ensures { λ _. ⌜ now (store .exit) ≡ pushed (now (store .entry)) c n hash ⌝ }
+{
+    let at = n as usize * 3 - 3;
+    let older = get(store, HEADS + hash);
+    put(store, at, c.form);
+    put(store, at + 1, c.a);
+    put(store, at + 2, c.b);
+    put(store, LINKS + n as usize, older);
+    put(store, HEADS + hash, n);
+}
+
+// The equal cell, or one more.
+pub fn make(text: &[u8], store: &mut [u32], count: u32, c: Numbers) -> Made
+    ensures { λ r. ⌜ Makes (now (text .entry)) (now (store .entry)) (now (store .exit)) count c r ⌝ }
+{
+    let h = hash(text, c);
+    let first = get(store, HEADS + h);
+    let n = find(text, store, c, count, first);
+    if 0 < n {
+        return Made::At { cell: n, count };
+    }
+    if count < MOST_CELLS {
+        let more = count + 1;
+        push(store, c, more, h);
+        Made::At {
+            cell: more,
+            count: more,
+        }
+    } else {
+        Made::Full
+    }
+}
+
+// No cells, whatever the store held.
+pub fn clear(store: &mut [u32])
+    ensures { λ _. ⌜ Cleared (now (store .entry)) (now (store .exit)) ⌝ }
+{
+    let mut i = 0;
+    while i < 1024 {
+        put(store, HEADS + i, 0);
+        i += 1;
+    }
+}
