@@ -8,9 +8,9 @@ use mathlib.Core.Bool.{Bool, cond}
 use mathlib.Core.List.{List, [], _∷_, _++_}
 use Prim.Native.Nat.{ℕ, zero, suc, _+_, _-_, _*_, _%_, _≤_, _<_}
 use lib.Dec.{eqb, ltb}
-use lib.ListN.{length, getD, set}
+use lib.ListN.{length, getD, set, take}
 use Rattle.characters.specs.Spelling.{partOf, same}
-use Rattle.rules.specs.Cells.{Cell, numbersOf, identityOf}
+use Rattle.rules.specs.Cells.{Cell, numbersOf, identityOf, cellsIn}
 use Rattle.rules.specs.Run.{Result, met, ok, State, made, make}
 use Rattle.cells.specs.declared.numbers.Numbers.{Numbers}
 use Rattle.cells.specs.declared.store.Made.{Made}
@@ -70,6 +70,10 @@ abbrev pub madeIn : List ℕ → List ℕ → ℕ → Numbers → Made × List �
 madeIn text store count c = madeAs store count c (hashOf text c) (findIn text store c count (headAt store (hashOf text c)))
 
 -- ---- The store and the list of cells
+-- the first `count` cells of a store
+abbrev pub storedCells : List ℕ → ℕ → List Cell
+storedCells store count = cellsIn (take (3 * count) store)
+
 -- the chain from one cell comes to another
 pub data Leads (store : List ℕ) : ℕ → ℕ → Type 0 where
   here : {n : ℕ} → Leads store n n

@@ -141,11 +141,14 @@ fn mix_bytes(first: usize, bytes: &[u8]) -> usize
 }
 
 // A name's hash is one of its spelling, not of its place.
-pub fn hash(text: &[u8], c: Numbers) -> usize
-    ensures { λ r. ⌜ (r ≡ hashOf (now (text .entry)) c) × (r < 1024) ⌝ }
+pub fn hash(text: &[u8], cell: Numbers) -> usize
+    ensures { λ r. ⌜ (r ≡ hashOf (now (text .entry)) cell) × (r < 1024) ⌝ }
 {
-    if c.form == NAME {
-        return mix_bytes(4, part(text, c.a as usize, c.b as usize));
+    if cell.form == NAME {
+        return mix_bytes(4, part(text, cell.a as usize, cell.b as usize));
     }
-    mix(mix(mix(0, c.form as usize), c.a as usize), c.b as usize)
+    mix(
+        mix(mix(0, cell.form as usize), cell.a as usize),
+        cell.b as usize,
+    )
 }

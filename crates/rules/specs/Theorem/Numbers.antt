@@ -57,7 +57,7 @@ cell-back (Cell.variable i kind) l = refl
 cell-back Cell.absent l = refl
 cell-back (Cell.list c) l = refl
 
-cells-in : (C : List Cell) (l : List ℕ) → cellsIn (cellNumbers C ++ l) ≡ C ++ cellsIn l
+pub cells-in : (C : List Cell) (l : List ℕ) → cellsIn (cellNumbers C ++ l) ≡ C ++ cellsIn l
 unfolding cellNumbers
 cells-in [] l = refl
 cells-in (c ∷ C) l = rw (append-assoc (numbersOf c) (cellNumbers C) l, cell-back c (cellNumbers C ++ l), cells-in C l)

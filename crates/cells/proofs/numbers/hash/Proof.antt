@@ -23,7 +23,7 @@ returns c =
     let part = c .before .part in
     let args = c .before .before .before .before .before .before .before .args in
     let if1 = c .before .before .before .before .if1 in
-    (c .mix-bytes .ensures .0 ∙ ap (hashFrom 4) (part .ensures) ∙ sym (hash-name _ (args .c) (if1 .taken)), c .mix-bytes .ensures .1)
+    (c .mix-bytes .ensures .0 ∙ ap (hashFrom 4) (part .ensures) ∙ sym (hash-name _ (args .cell) (if1 .taken)), c .mix-bytes .ensures .1)
 
 cast-mix : tie.Need-cast-mix
 cast-mix c = search needs
@@ -49,7 +49,7 @@ returns-2 c =
     let mix = c .before .before .before .before .mix in
     let args = c .before .before .before .before .before .before .before .before .before .args in
     let if1 = c .before .before .before .before .before .before .if1 in
-    (c .mix3 .ensures .0 ∙ rw (mix2 .ensures .0, mix .ensures .0) (sym (hash-other (args .text .now) (args .c) (if1 .left))), c .mix3 .ensures .1)
+    (c .mix3 .ensures .0 ∙ rw (mix2 .ensures .0, mix .ensures .0) (sym (hash-other (args .text .now) (args .cell) (if1 .left))), c .mix3 .ensures .1)
 
 pub hash-spec : {M : Type 1} → statement M
 hash-spec =
