@@ -1,6 +1,6 @@
 -- A store without cells: its heads are 0.
-use mathlib.Core.Path.{_≡_, refl, sym, ap, _∙_}
-use mathlib.Core.List.{List, []}
+use mathlib.Core.Path.{_≡_, refl, _∙_}
+use mathlib.Core.List.{List}
 use Prim.Native.Nat.{ℕ, _+_, _≤_, _<_}
 use native.Mathlib.Omega.{arith}
 use lib.Dec.{eqb}
@@ -8,7 +8,7 @@ use lib.ListN.{length, getD, set}
 use lib.Seq.{getD-set-same, getD-set-other}
 use borrow.Author.Tests.{eqb-true, eqb-false}
 use Rattle.characters.specs.Cases.{by-test}
-use Rattle.cells.specs.Store.{headAt, Holds, Cleared}
+use Rattle.cells.specs.Store.{headAt, Cleared}
 
 -- the heads below i are 0, and nothing but heads was stored
 pub record Clearing (f g : List ℕ) (i : ℕ) : Type 0 where

@@ -1,23 +1,22 @@
 -- One cell more: the store holds it with the others, and `make` is what the definitions say.
 use mathlib.Core.Path.{_≡_, refl, sym, ap, _∙_}
-use mathlib.Core.Bool.{true, false, cond}
 use mathlib.Core.List.{List, [], _∷_, _++_}
 use mathlib.Core.Logic.{_⊎_, inl, inr}
-use Prim.Native.Nat.{ℕ, zero, suc, _+_, _-_, _*_, _%_, _≤_, _<_}
+use Prim.Native.Nat.{ℕ, suc, _+_, _-_, _*_, _≤_, _<_}
 use native.Mathlib.Omega.{arith}
 use native.Mathlib.Numerals.{add-one}
 use lib.Dec.{eqb, ltb}
 use lib.ListN.{length, getD, set, length-set, length-append, List·getD-append}
 use lib.Seq.{getD-set-same, getD-set-other, getD-at}
 use borrow.Author.Tests.{eq-eqb, ne-eqb, eqb-true, eqb-false, lt-ltb, le-ltb, ltb-true, ltb-false}
-use Rattle.characters.specs.Cases.{by-test, clash}
+use Rattle.characters.specs.Cases.{by-test}
 use Rattle.rules.specs.Cells.{Cell, numbersOf, identityOf, findCell}
-use Rattle.rules.specs.Run.{State, make}
+use Rattle.rules.specs.Run.{make}
 use Rattle.cells.specs.declared.numbers.Numbers.{Numbers}
 use Rattle.cells.specs.declared.store.Made.{Made}
-use Rattle.cells.specs.Store.{listed, identityIn, hashOf, numbersAt, linkAt, headAt, findIn, pushed, madeAs, madeIn, Leads, here, next, Holds, cellsAfter, countAfter, given, Making, Makes}
+use Rattle.cells.specs.Store.{listed, hashOf, numbersAt, linkAt, headAt, findIn, pushed, madeAs, madeIn, Leads, here, next, Holds, Making, Makes}
 use Rattle.cells.specs.NumbersLaws.{hash-lt}
-use Rattle.cells.specs.IndexLaws.{finds, found-in, not-found}
+use Rattle.cells.specs.IndexLaws.{finds, not-found}
 
 -- ---- What a store after a push has
 pub record Pushed (f g : List ℕ) (c : Numbers) (n hash : ℕ) : Type 0 where
@@ -28,7 +27,7 @@ pub record Pushed (f g : List ℕ) (c : Numbers) (n hash : ℕ) : Type 0 where
   pub link : linkAt g n ≡ headAt f hash
   pub head : headAt g hash ≡ n
   pub before : (i : ℕ) → i < n * 3 - 3 → getD g i 0 ≡ getD f i 0
-  pub links : (i : ℕ) → i < n → 12288 ≤ 12287 + i → getD g (12287 + i) 0 ≡ getD f (12287 + i) 0
+  pub links : (i : ℕ) → 0 < i → i < n → linkAt g i ≡ linkAt f i
   pub heads : (i : ℕ) → i < 1024 → (i ≡ hash → ⊥) → headAt g i ≡ headAt f i
 
 module _ (f : List ℕ) (c : Numbers) (n hash : ℕ) (room : 17408 ≤ length f) (least : 0 < n) (most : n ≤ 4096) (small : hash < 1024) where
@@ -81,7 +80,7 @@ module _ (f : List ℕ) (c : Numbers) (n hash : ℕ) (room : 17408 ≤ length f)
     link = past-head (12287 + n) (λ e. omega arith) ∙ getD-set-same three (12287 + n) (headAt f hash) 0 (simp length-set (omega arith));
     head = getD-set-same four (16384 + hash) n 0 (simp length-set (omega arith));
     before = λ i h. low i (omega arith) ∙ past-cell i (inl h);
-    links = λ i h l. past-head (12287 + i) (λ e. omega arith) ∙ past-link (12287 + i) (λ e. omega arith) ∙ past-cell (12287 + i) (inr (omega arith));
+    links = λ i l h. past-head (12287 + i) (λ e. omega arith) ∙ past-link (12287 + i) (λ e. omega arith) ∙ past-cell (12287 + i) (inr (omega arith));
     heads = λ i l h. past-head (16384 + i) (λ e. h (omega arith)) ∙ past-link (16384 + i) (λ e. omega arith) ∙ past-cell (16384 + i) (inr (omega arith));
   }
 
@@ -124,7 +123,7 @@ module _ (text f g : List ℕ) (cells : List Cell) (held : Holds text f cells) (
   numbers-new = rw (p .form, p .a, p .b)
 
   link-still : (n : ℕ) → 0 < n → n ≤ length cells → linkAt g n ≡ linkAt f n
-  link-still n h l = p .links n (omega arith) (omega arith)
+  link-still n h l = p .links n h (omega arith)
 
   stored-more : (i : ℕ) → (i ≡ length cells) ⊎ (i < length cells) → listed (numbersAt g (suc i)) ≡ numbersOf (getD (cells ++ (cell ∷ [])) i Cell.empty)
   stored-more i (inl e) = rw (e, last-is) (ap listed numbers-new ∙ numbers)
@@ -207,7 +206,8 @@ module _ (text store : List ℕ) (cells : List Cell) (held : Holds text store ce
         count = rw t;
       }
 
-  making-new : sought ≡ 0 → length cells < 4096 → Making text (pushed store c (suc (length cells)) (hashOf text c)) cells cell (Made.At (suc (length cells)) (suc (length cells)))
+  making-new : sought ≡ 0 → length cells < 4096
+      → Making text (pushed store c (suc (length cells)) (hashOf text c)) cells cell (Made.At (suc (length cells)) (suc (length cells)))
   unfolding make
   making-new h fits =
       let t = lt-ltb (length cells) (suc (length cells)) (omega arith) in

@@ -1,13 +1,13 @@
 -- Laws of the index: every equal cell is found, by what `Holds` says, and the first equal one is found, since equal ones stand in a list once.
-use mathlib.Core.Path.{_≡_, refl, sym, ap, _∙_}
-use mathlib.Core.Bool.{true, false, cond}
-use mathlib.Core.List.{List, [], _∷_, _++_}
-use Prim.Native.Nat.{ℕ, zero, suc, _+_, _-_, _*_, _%_, _≤_, _<_}
+use mathlib.Core.Path.{_≡_, refl, sym, _∙_}
+use mathlib.Core.Bool.{true, false}
+use mathlib.Core.List.{List, [], _∷_}
+use Prim.Native.Nat.{ℕ, zero, suc, _+_, _-_, _≤_, _<_}
 use native.Mathlib.Omega.{arith}
-use lib.Dec.{eqb, ltb}
+use lib.Dec.{eqb}
 use lib.ListN.{length, getD}
 use borrow.Author.Tests.{eq-eqb, ne-eqb, eqb-true, eqb-false}
-use Rattle.characters.specs.Cases.{by-test, clash}
+use Rattle.characters.specs.Cases.{by-test}
 use Rattle.characters.specs.Spelling.{same}
 use Rattle.characters.specs.SpellingLaws.{same-equal, same-itself}
 use Rattle.rules.specs.Cells.{Cell, numbersOf, identityOf, findCell}
@@ -36,7 +36,8 @@ module _ (text store : List ℕ) (c : Numbers) where
   unfolding findIn
   find-on k n h e = rw (ne-eqb n 0 h, e, findIn)
 
-  pub find-less : (k m n : ℕ) → k ≡ suc m → (n ≡ 0 → ⊥) → sameIn text c (numbersAt store n) ≡ false → findIn text store c k n ≡ findIn text store c m (linkAt store n)
+  pub find-less : (k m n : ℕ) → k ≡ suc m → (n ≡ 0 → ⊥) → sameIn text c (numbersAt store n) ≡ false
+      → findIn text store c k n ≡ findIn text store c m (linkAt store n)
   find-less k m n e h t = rw e (find-on m n h t)
 
 -- ---- The first equal cell in a list
@@ -113,25 +114,21 @@ module _ (text store : List ℕ) (cells : List Cell) (held : Holds text store ce
   head-in : headAt store (hashOf text c) ≤ length cells
   head-in = held .heads (hashOf text c) (hash-lt text c)
 
-  missed : sought ≡ 0 → (i : ℕ) → i < length cells → Equal text cell cells i → ⊥
-  missed e i l equal =
+  -- where nothing is found, no cell is equal
+  pub not-found : sought ≡ 0 → (i : ℕ) → i < length cells → Equal text cell cells i → ⊥
+  not-found e i l equal =
       let same-identity = identity-numbers text cell c numbers ∙ equal ∙ sym (identities i l) in
       let leads : Leads store (headAt store (hashOf text c)) (suc i) = rw same-identity (held .reached (suc i) (omega arith) l) in
-      leads-found (length cells) (headAt store (hashOf text c)) (suc i) leads head-in head-in (omega arith) (rw same-identity (same-itself (identityIn text (numbersAt store (suc i))))) e
+      let equal-numbers : sameIn text c (numbersAt store (suc i)) ≡ true = rw same-identity (same-itself (identityIn text (numbersAt store (suc i)))) in
+      leads-found (length cells) (headAt store (hashOf text c)) (suc i) leads head-in head-in (omega arith) equal-numbers e
 
   -- the code finds what the definition finds
   pub finds : findCell text cell 1 cells ≡ sought
   finds =
       by-test (eqb sought 0)
-      (λ z. let none = eqb-true sought 0 z in nowhere text cell cells 1 (missed none) ∙ sym none)
+      (λ z. let none = eqb-true sought 0 z in nowhere text cell cells 1 (not-found none) ∙ sym none)
       (λ z.
       let f = hit (length cells) (headAt store (hashOf text c)) head-in (eqb-false sought 0 z) in
       first-at text cell cells 1 (f .place) (f .inside) (f .equal)
       (λ k l e. let same-place = held .once k (f .place) (let m = f .inside in omega arith) (f .inside) (sym e ∙ f .equal) in omega arith)
       ∙ sym (f .is ∙ omega arith))
-
-  pub found-in : (sought ≡ 0 → ⊥) → sought ≤ length cells
-  found-in h = let f = hit (length cells) (headAt store (hashOf text c)) head-in h in let is = f .is in let inside = f .inside in omega arith
-
-  pub not-found : sought ≡ 0 → (i : ℕ) → i < length cells → identityOf text cell ≡ identityOf text (getD cells i Cell.empty) → ⊥
-  not-found = missed

@@ -1,8 +1,8 @@
 -- Laws of the numbers of cells: identities, equality and hashes.
-use mathlib.Core.Path.{_≡_, refl, sym, ap, _∙_}
-use mathlib.Core.Bool.{true, false}
+use mathlib.Core.Path.{_≡_, sym, ap, _∙_}
+use mathlib.Core.Bool.{false}
 use mathlib.Core.List.{List, [], _∷_}
-use Prim.Native.Nat.{ℕ, _+_, _*_, _%_, _≤_, _<_}
+use Prim.Native.Nat.{ℕ, _+_, _*_, _≤_, _<_}
 use native.Mathlib.Omega.{arith}
 use native.Mathlib.Nat.{mod-lt}
 use native.Mathlib.Numerals.{add-one}
@@ -82,7 +82,7 @@ hash-from-lt hash [] h = h
 hash-from-lt hash (x ∷ xs) h = hash-from-lt (mixed hash x) xs (mod-lt (hash * 31 + x) (omega arith))
 
 pub hash-lt : (text : List ℕ) (c : Numbers) → hashOf text c < 1024
-hash-lt text c = hash-from-lt 0 (identityIn text c) (omega arith)
+hash-lt text c = hash-from-lt 0 _ (omega arith)
 
 module _ (hash : ℕ) (bytes : List ℕ) (i : ℕ) where
   pub hash-on : i < length bytes → hashFrom hash (drop i bytes) ≡ hashFrom (mixed hash (getD bytes i 0)) (drop (i + 1) bytes)

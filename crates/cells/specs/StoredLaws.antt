@@ -7,13 +7,14 @@ use lib.ListN.{length, getD, take}
 use Rattle.rules.specs.Cells.{Cell, numbersOf, cellsIn}
 use Rattle.rules.specs.Answer.{cellNumbers}
 use Rattle.rules.specs.Theorem.Numbers.{cells-in}
-use Rattle.cells.specs.Store.{numbersAt, listed, storedCells, Holds}
+use Rattle.cells.specs.Store.{storedCells, Holds}
 
 -- the three numbers from 3i on
 abbrev threeAt : List ℕ → ℕ → List ℕ
 threeAt l i = getD l (3 * i) 0 ∷ getD l (3 * i + 1) 0 ∷ getD l (3 * i + 2) 0 ∷ []
 
-numbers-taken : (cells : List Cell) (l : List ℕ) → 3 * length cells ≤ length l → ((i : ℕ) → i < length cells → threeAt l i ≡ numbersOf (getD cells i Cell.empty))
+numbers-taken : (cells : List Cell) (l : List ℕ) → 3 * length cells ≤ length l
+    → ((i : ℕ) → i < length cells → threeAt l i ≡ numbersOf (getD cells i Cell.empty))
     → take (3 * length cells) l ≡ cellNumbers cells
 unfolding cellNumbers
 numbers-taken [] l room h = refl

@@ -1,6 +1,7 @@
 -- `cells::clear` meets its contract. The invariant (`Clearing` of ClearingLaws): the heads passed are 0.
 use mathlib.Core.Path.{_≡_, refl, _∙_}
 use Prim.Native.Nat.{_-_}
+use native.Mathlib.Omega.{arith}
 use lib.ListN.{length}
 use borrow.Author.Needs.{needs}
 use Rattle.cells.specs.ClearingLaws.{Clearing, clearing-first, clearing-on, clearing-last}
@@ -33,7 +34,7 @@ loop-again c =
     let put = c .before .before .put in
     let loop = c .before .before .before .before .before .loop in
     let loop-test = c .before .before .before .before .loop-test in
-    (put .kept .0 ∙ loop .inv .0, clearing-on _ _ _ _ (loop-test .taken) (loop .inv .0) (loop .inv .1) (put .ensures))
+    (put .kept .0 ∙ loop .inv .0, clearing-on _ _ _ _ (omega (arith, loop-test .taken)) (loop .inv .0) (loop .inv .1) (put .ensures))
 
 same-length : tie.Need-same-length Inv-loop μ-loop
 same-length c =

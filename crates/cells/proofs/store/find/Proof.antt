@@ -30,12 +30,13 @@ same-cell-requires c κs = search needs
 
 returns-2 : tie.Need-returns-2 Inv-loop μ-loop
 returns-2 c =
+    let loop = c .before .before .before .before .before .loop in
     let loop-test = c .before .before .before .before .loop-test in
     let if1 = c .before .before .before .if1 in
     let cell-at = c .before .before .cell-at in
     let same-cell = c .before .same-cell in
-    let loop = c .before .before .before .before .before .loop in
-    sym (find-hit _ _ _ _ _ (loop-test .taken) (if1 .left) (ap (sameIn _ _) (sym (cell-at .ensures)) ∙ sym (same-cell .ensures) ∙ c .if2 .taken)) ∙ loop .inv .1
+    let equal = ap (sameIn _ _) (sym (cell-at .ensures)) ∙ sym (same-cell .ensures) ∙ c .if2 .taken in
+    sym (find-hit _ _ _ _ _ (loop-test .taken) (if1 .left) equal) ∙ loop .inv .1
 
 cast-get : tie.Need-cast-get Inv-loop μ-loop
 cast-get c = search needs
@@ -54,13 +55,14 @@ loop-less c = search needs
 
 loop-again : tie.Need-loop-again Inv-loop μ-loop
 loop-again c =
+    let loop = c .before .before .before .before .before .before .loop in
     let loop-test = c .before .before .before .before .before .loop-test in
     let if1 = c .before .before .before .before .if1 in
     let cell-at = c .before .before .before .cell-at in
     let same-cell = c .before .before .same-cell in
     let if2 = c .before .if2 in
-    let loop = c .before .before .before .before .before .before .loop in
-    (search needs, rw (c .get .ensures) (sym (find-less _ _ _ _ _ _ (omega (arith, loop-test .taken)) (if1 .left) (ap (sameIn _ _) (sym (cell-at .ensures)) ∙ sym (same-cell .ensures) ∙ if2 .left)) ∙ loop .inv .1))
+    let other = ap (sameIn _ _) (sym (cell-at .ensures)) ∙ sym (same-cell .ensures) ∙ if2 .left in
+    (search needs, rw (c .get .ensures) (sym (find-less _ _ _ _ _ _ (omega (arith, loop-test .taken)) (if1 .left) other) ∙ loop .inv .1))
 
 returns-3 : tie.Need-returns-3 Inv-loop μ-loop
 returns-3 c =

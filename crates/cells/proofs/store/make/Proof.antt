@@ -1,5 +1,4 @@
 -- `cells::make` meets its contract, by the three ways in which it ends.
-use native.Mathlib.Omega.{arith}
 use Rattle.cells.specs.GrowthLaws.{makes-found, makes-new, makes-full}
 use borrow.Author.Needs.{needs}
 use Rattle.cells.proofs.store.make.Statement.{statement}

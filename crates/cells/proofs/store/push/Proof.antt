@@ -48,14 +48,15 @@ same-length c = search needs
 
 returns : tie.Need-returns
 returns c =
-    let args = c .before .before .before .before .before .before .before .before .before .before .before .before .before .before .before .before .before .before .before .before .before .before .before .args in
-    let get = c .before .before .before .before .before .before .before .before .before .before .before .before .before .before .before .before .before .before .before .before .get in
-    let put = c .before .before .before .before .before .before .before .before .before .before .before .before .before .before .before .before .before .before .put in
-    let put2 = c .before .before .before .before .before .before .before .before .before .before .before .before .before .before .put2 in
-    let put3 = c .before .before .before .before .before .before .before .before .before .before .put3 in
-    let put4 = c .before .before .before .before .before .before .put4 in
-    let put5 = c .before .before .put5 in
-    pushed-by (args .store .now) (args .c) (args .n) (args .hash) _ (get .ensures) (put .ensures) (put2 .ensures) (put3 .ensures) (put4 .ensures) (put5 .ensures)
+    let fifth = c .before .before in
+    let fourth = fifth .before .before .before .before in
+    let third = fourth .before .before .before .before in
+    let second = third .before .before .before .before in
+    let first = second .before .before .before .before in
+    let older = first .before .before in
+    let args = older .before .before .before .args in
+    pushed-by (args .store .now) (args .c) (args .n) (args .hash) _ (older .get .ensures)
+    (first .put .ensures) (second .put2 .ensures) (third .put3 .ensures) (fourth .put4 .ensures) (fifth .put5 .ensures)
 
 pub push-spec : {M : Type 1} → statement M
 push-spec =
