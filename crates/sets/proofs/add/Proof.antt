@@ -1,0 +1,34 @@
+-- `sets::add` meets its contract: a parse that the set has, and another.
+use borrow.Author.Needs.{needs}
+use Rattle.rules.specs.Run.{has}
+use Rattle.sets.specs.SetLaws.{add-had, add-new}
+use Rattle.sets.proofs.add.Statement.{statement}
+use Rattle.sets.proofs.add.Tie as tie
+
+has-requires : tie.Need-has-requires
+has-requires c κs = search needs
+
+same-length : tie.Need-same-length
+same-length c = search needs
+
+returns : tie.Need-returns
+returns c =
+    let has = c .before .has in
+    add-had _ _ _ _ (has .ensures) (c .if1 .taken)
+
+append-requires : tie.Need-append-requires
+append-requires c κs = search needs
+
+same-length-2 : tie.Need-same-length-2
+same-length-2 c = search needs
+
+returns-2 : tie.Need-returns-2
+returns-2 c =
+    let has = c .before .before .before .before .before .has in
+    let if1 = c .before .before .before .before .if1 in
+    let append = c .before .before .append in
+    add-new _ _ _ _ _ _ (has .ensures) (if1 .left) (append .ensures)
+
+pub add-spec : {M : Type 1} → statement M
+add-spec =
+    tie.close (tie.spec has-requires same-length returns append-requires same-length-2 returns-2)

@@ -1,0 +1,59 @@
+-- `sets::item` meets its contract.
+use mathlib.Core.Path.{refl, sym, _∙_}
+use native.Mathlib.Omega.{arith}
+use lib.ListN.{List·getD-eq-default}
+use borrow.Author.Needs.{needs}
+use Rattle.sets.specs.Sets.{setAt}
+use Rattle.sets.specs.PlaceLaws.{size-le, set-item}
+use Rattle.sets.proofs.item.Statement.{statement}
+use Rattle.sets.proofs.item.Tie as tie
+
+size-requires : tie.Need-size-requires
+size-requires c κs = search needs
+
+add-parse-at : tie.Need-add-parse-at
+add-parse-at c = search needs
+
+mul-parse-at : tie.Need-mul-parse-at
+mul-parse-at c =
+    let args = c .before .before .before .args in
+    let size = c .before .size in
+    omega (arith, size-le (args .numbers .now) (args .place) _ (size .ensures), c .if1 .taken)
+
+add-parse-at-2 : tie.Need-add-parse-at-2
+add-parse-at-2 c =
+    let args = c .before .before .before .args in
+    let size = c .before .size in
+    let pre = c .before .before .before .pre in
+    omega (arith, size-le (args .numbers .now) (args .place) _ (size .ensures), c .if1 .taken, pre)
+
+parse-at-requires : tie.Need-parse-at-requires
+parse-at-requires c κs =
+    let args = c .before .before .before .args in
+    let size = c .before .size in
+    let pre = c .before .before .before .pre in
+    omega (arith, size-le (args .numbers .now) (args .place) _ (size .ensures), c .if1 .taken, pre)
+
+returns : tie.Need-returns
+returns c =
+    let size = c .before .before .size in
+    let if1 = c .before .if1 in
+    c .parse-at .ensures ∙ sym (set-item _ _ _ _ (rw (size .ensures) at (if1 .taken)) refl)
+
+returns-2 : tie.Need-returns-2
+returns-2 c =
+    let args = c .before .before .before .args in
+    let size = c .before .size in
+    sym (List·getD-eq-default (setAt (args .numbers .now) (args .place)) _ (rw (size .ensures) at (c .if1 .left)))
+
+pub item-spec : {M : Type 1} → statement M
+item-spec =
+    tie.close
+    (tie.spec
+    size-requires
+    add-parse-at
+    mul-parse-at
+    add-parse-at-2
+    parse-at-requires
+    returns
+    returns-2)

@@ -1,0 +1,107 @@
+-- `sets::kept` meets its contract. The invariant (`Keeping` of SetLaws): what is kept so far, and what is kept of the rest, make the whole.
+use mathlib.Core.Path.{_≡_, refl, _∙_}
+use native.Mathlib.Omega.{arith}
+use lib.ListN.{length}
+use Rattle.sets.specs.SetLaws.{Keeping, keeping-start, keeping-again, keeping-end}
+use Rattle.sets.proofs.kept.Statement.{statement}
+use Rattle.sets.proofs.kept.Tie as tie
+
+abbrev Inv-loop : tie.InvT-loop
+Inv-loop numbers₀ into from associativity level at₀ left₀ numbers at left = (length numbers ≡ length numbers₀) × Keeping numbers₀ numbers into from associativity level at left
+
+abbrev μ-loop : tie.MeasureT-loop
+μ-loop numbers₀ into from associativity level at₀ left₀ numbers at left = left
+
+clear-requires : tie.Need-clear-requires Inv-loop μ-loop
+clear-requires c κs =
+    let pre = c .before .before .pre in
+    omega (arith, pre)
+
+add-at : tie.Need-add-at Inv-loop μ-loop
+add-at c =
+    let pre = c .before .before .before .before .before .pre in
+    omega (arith, pre)
+
+size-requires : tie.Need-size-requires Inv-loop μ-loop
+size-requires c κs =
+    let pre = c .before .before .before .before .before .before .pre in
+    let clear = c .before .before .before .clear in
+    omega (arith, pre, clear .kept .0)
+
+loop-holds : tie.Need-loop-holds Inv-loop μ-loop
+loop-holds c =
+    let clear = c .before .before .before .before .clear in
+    (refl, keeping-start _ _ _ _ _ _ (clear .ensures .now) (c .size .ensures))
+
+parse-at-requires : tie.Need-parse-at-requires Inv-loop μ-loop
+parse-at-requires c κs =
+    let loop = c .before .before .loop in
+    let loop-test = c .before .loop-test in
+    let pre = c .before .before .before .before .before .before .before .before .before .before .pre in
+    let clear = c .before .before .before .before .before .before .before .clear in
+    omega (arith, loop .inv .1 .high, loop-test .taken, pre, loop .inv .0, clear .kept .0)
+
+keep-requires : tie.Need-keep-requires Inv-loop μ-loop
+keep-requires c κs =
+    let pre = c .before .before .before .before .before .before .before .before .before .before .before .before .pre in
+    let loop = c .before .before .before .before .loop in
+    let clear = c .before .before .before .before .before .before .before .before .before .clear in
+    omega (arith, pre, loop .inv .0, clear .kept .0)
+
+add-at-2 : tie.Need-add-at-2 Inv-loop μ-loop
+add-at-2 c =
+    let loop = c .before .before .before .before .before .before .before .loop in
+    let loop-test = c .before .before .before .before .before .before .loop-test in
+    let pre = c .before .before .before .before .before .before .before .before .before .before .before .before .before .before .before .pre in
+    omega (arith, loop .inv .1 .high, loop-test .taken, pre)
+
+sub-left : tie.Need-sub-left Inv-loop μ-loop
+sub-left c =
+    let loop-test = c .before .before .before .before .before .before .loop-test in
+    omega (arith, loop-test .taken)
+
+loop-less : tie.Need-loop-less Inv-loop μ-loop
+loop-less c =
+    let loop-test = c .before .before .before .before .before .before .loop-test in
+    omega (arith, loop-test .taken)
+
+loop-again : tie.Need-loop-again Inv-loop μ-loop
+loop-again c =
+    let keep = c .before .before .keep in
+    let loop = c .before .before .before .before .before .before .before .loop in
+    let pre = c .before .before .before .before .before .before .before .before .before .before .before .before .before .before .before .pre in
+    let loop-test = c .before .before .before .before .before .before .loop-test in
+    let parse-at = c .before .before .before .before .parse-at in
+    (keep .kept .0 ∙ loop .inv .0, keeping-again _ _ _ _ _ _ _ _ _ _ (pre .2) (loop .inv .1) (loop-test .taken) (parse-at .ensures) (keep .ensures))
+
+same-length : tie.Need-same-length Inv-loop μ-loop
+same-length c =
+    let loop = c .before .loop in
+    let clear = c .before .before .before .before .before .before .clear in
+    loop .inv .0 ∙ clear .kept .0
+
+returns : tie.Need-returns Inv-loop μ-loop
+returns c =
+    let pre = c .before .before .before .before .before .before .before .before .before .pre in
+    let clear = c .before .before .before .before .before .before .clear in
+    let loop = c .before .loop in
+    keeping-end _ _ _ _ _ _ _ _ _ (pre .2) (clear .ensures) (loop .inv .1) (c .loop-test .left)
+
+pub kept-spec : {M : Type 1} → statement M
+kept-spec =
+    tie.close
+    (tie.spec
+    Inv-loop
+    μ-loop
+    clear-requires
+    add-at
+    size-requires
+    loop-holds
+    parse-at-requires
+    keep-requires
+    add-at-2
+    sub-left
+    loop-less
+    loop-again
+    same-length
+    returns)
