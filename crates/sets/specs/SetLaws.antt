@@ -1,13 +1,13 @@
 -- Sets in a list of numbers: what each function of the code has shown where it returns, and where a loop goes on.
-use mathlib.Core.Path.{_≡_, refl, sym, ap, _∙_}
+use mathlib.Core.Path.{_≡_, refl, sym, _∙_}
 use mathlib.Core.Bool.{Bool, true, false, cond}
 use mathlib.Core.List.{List, [], _∷_, _++_, append-assoc, append-nil}
-use mathlib.Core.Logic.{_⊎_, inl, inr}
+use mathlib.Core.Logic.{inl, inr}
 use Prim.Native.Nat.{ℕ, zero, suc, _+_, _-_, _*_, _<_, _≤_}
 use native.Mathlib.Omega.{arith}
 use native.Mathlib.Numerals.{sub-one}
 use lib.Dec.{ltb}
-use lib.ListN.{getD, set, length, length-set, length-append}
+use lib.ListN.{getD, set, length, length-append}
 use lib.Seq.{getD-set-same, getD-set-other}
 use borrow.Author.Tests.{lt-ltb, le-ltb}
 use borrow.Author.Count.{below-more}
@@ -15,12 +15,11 @@ use Rattle.book.specs.declared.records.Associativity.{Associativity}
 use Rattle.rules.specs.Values.{Parse}
 use Rattle.rules.specs.Tokens.{when}
 use Rattle.rules.specs.Uses.{Use, keepsLevel}
-use Rattle.rules.specs.Run.{Result, met, ok, _>>=_, State, sameParse, has, allIn, kept, add, addAll}
+use Rattle.rules.specs.Run.{met, ok, _>>=_, State, sameParse, has, allIn, kept, add, addAll}
 use Rattle.sets.specs.Sets.{
   parse,
   parseAt,
   listAt,
-  countOf,
   setAt,
   written,
   Only,
@@ -42,7 +41,6 @@ use Rattle.sets.specs.PlaceLaws.{
   parse-apart,
   list-moved,
   list-apart,
-  list-length,
   list-snoc,
   count-suc,
   set-length,
@@ -75,36 +73,42 @@ pub has-none : (p : Parse ℕ) (f : List ℕ) (b k : ℕ) → k ≤ 0 → has (l
 unfolding has listAt
 has-none p f b k h = let e : k ≡ 0 = omega arith in rw e
 
--- ---- append
+-- ---- append: n parses were there
+abbrev longer : List ℕ → ℕ → ℕ → Parse ℕ → List ℕ
+longer f b n p = set (written f (b + 1 + 4 * n) p) b (n + 1)
+
 module _ (f : List ℕ) (b n : ℕ) (p : Parse ℕ) (len : b + 257 ≤ length f) (h : n < 64) (e : n ≡ length (setAt f b)) where
-  count-stored : Only (written f (b + 1 + 4 * n) p) (set (written f (b + 1 + 4 * n) p) b (n + 1)) b 1
+  count-stored : Only (written f (b + 1 + 4 * n) p) (longer f b n p) b 1
   count-stored = only-set (written f (b + 1 + 4 * n) p) b (n + 1) b 1 (omega arith) (omega arith)
 
-  list-stored : listAt (set (written f (b + 1 + 4 * n) p) b (n + 1)) (b + 1) n ≡ setAt f b
+  list-stored : listAt (longer f b n p) (b + 1) n ≡ setAt f b
   list-stored =
       list-apart (b + 1) n count-stored (inr (omega arith))
       ∙ list-apart (b + 1) n (written-only f (b + 1 + 4 * n) p) (inl (omega arith))
       ∙ sym (set-list f b n e)
 
-  parse-stored : parseAt (set (written f (b + 1 + 4 * n) p) b (n + 1)) (b + 1 + 4 * n) ≡ p
+  parse-stored : parseAt (longer f b n p) (b + 1 + 4 * n) ≡ p
   parse-stored = parse-apart (b + 1 + 4 * n) count-stored (inr (omega arith)) ∙ written-parse f (b + 1 + 4 * n) p (omega arith)
 
-  count-is : getD (set (written f (b + 1 + 4 * n) p) b (n + 1)) b 0 ≡ n + 1
+  count-is : getD (longer f b n p) b 0 ≡ n + 1
   count-is = getD-set-same (written f (b + 1 + 4 * n) p) b (n + 1) 0 (rw (written-length f (b + 1 + 4 * n) p) (omega arith))
 
-  set-stored : setAt (set (written f (b + 1 + 4 * n) p) b (n + 1)) b ≡ setAt f b ++ (p ∷ [])
+  set-stored : setAt (longer f b n p) b ≡ setAt f b ++ (p ∷ [])
   set-stored =
-      set-list _ b (n + 1) (sym (set-length (set (written f (b + 1 + 4 * n) p) b (n + 1)) b ∙ rw (count-is, count-suc n h)))
-      ∙ list-snoc (set (written f (b + 1 + 4 * n) p) b (n + 1)) (b + 1) n (b + 1 + 4 * n) refl
+      set-list _ b (n + 1) (sym (set-length (longer f b n p) b ∙ rw (count-is, count-suc n h)))
+      ∙ list-snoc (longer f b n p) (b + 1) n (b + 1 + 4 * n) refl
       ∙ rw (parse-stored, list-stored)
 
-  pub append-stored : Appended true f (set (written f (b + 1 + 4 * n) p) b (n + 1)) b p
+  pub append-stored : Appended true f (longer f b n p) b p
   unfolding appended
   append-stored =
       record {
         now = set-stored ∙ rw (← e, lt-ltb n 64 h);
         fits = rw (← e, lt-ltb n 64 h);
-        only = only-trans (only-wide b 257 (omega arith) (omega arith) (written-only f (b + 1 + 4 * n) p)) (only-wide b 257 (omega arith) (omega arith) count-stored);
+        only =
+            only-trans
+            (only-wide b 257 (omega arith) (omega arith) (written-only f (b + 1 + 4 * n) p))
+            (only-wide b 257 (omega arith) (omega arith) count-stored);
       }
 
   pub append-as : (g k : List ℕ) → g ≡ written f (b + 1 + 4 * n) p → k ≡ set g b (n + 1) → Appended true f k b p
@@ -181,8 +185,8 @@ joining-start f into from n e =
       high = omega (arith, set-le f from);
     }
 
-module _ (f g g' : List ℕ) (into from at left : ℕ) (far : Apart into from) (J : Joining f g into from at left) (h : 0 < left) (q : Parse ℕ) (e : q ≡ parseAt g at)
-    (r : Bool) (A : Added r g g' into q) where
+module _ (f g g' : List ℕ) (into from at left : ℕ) (far : Apart into from) (J : Joining f g into from at left) (h : 0 < left)
+    (q : Parse ℕ) (e : q ≡ parseAt g at) (r : Bool) (A : Added r g g' into q) where
   joined : (s : State) → add s (setAt g into) (parseAt f at) ≡ result r (setAt g' into) s
   joined s = rw (← parse-of into from at far (J .only) (omega (arith, J .low)) (omega (arith, J .high)), ← e) (A .now s)
 
@@ -282,7 +286,8 @@ pub record Keeping (f g : List ℕ) (into from : ℕ) (associativity : Associati
   pub low : from + 1 ≤ at
   pub high : at + 4 * left ≤ from + 257
 
-pub keeping-start : (f : List ℕ) (into from : ℕ) (a : Associativity) (l n : ℕ) → setAt f into ≡ [] → n ≡ length (setAt f from) → Keeping f f into from a l (from + 1) n
+pub keeping-start : (f : List ℕ) (into from : ℕ) (a : Associativity) (l n : ℕ) → setAt f into ≡ [] → n ≡ length (setAt f from) →
+    Keeping f f into from a l (from + 1) n
 keeping-start f into from a l n z e =
     record {
       now = λ u v w. rw (z, set-list f from n e);
@@ -317,8 +322,8 @@ set-far into from (inl a) o = set-apart from o (inr (omega arith))
 set-far into from (inr a) o = set-apart from o (inl (omega arith))
 
 -- f₀ as it was, f with the set at `into` cleared
-pub keeping-end : (f₀ f g : List ℕ) (into from : ℕ) (a : Associativity) (l at left : ℕ) → Apart into from → Becomes f₀ f into [] → Keeping f g into from a l at left →
-    left ≤ 0 → Kept f₀ g into from a l
+pub keeping-end : (f₀ f g : List ℕ) (into from : ℕ) (a : Associativity) (l at left : ℕ) → Apart into from → Becomes f₀ f into [] →
+    Keeping f g into from a l at left → left ≤ 0 → Kept f₀ g into from a l
 unfolding kept listAt
 keeping-end f₀ f g into from a l at left far B K h =
     let z : left ≡ 0 = omega arith in

@@ -150,10 +150,10 @@ pub fn append(numbers: &mut [u32], place: usize, p: Parse) -> bool
     requires { ⌜ place + 257 ≤ length (now numbers) ⌝ }
     ensures { λ r. ⌜ Appended r (now (numbers .entry)) (now (numbers .exit)) place (parseOf p) ⌝ }
 {
-    let count = size(numbers, place);
-    if count < MOST_PARSES {
-        put_parse(numbers, place + 1 + 4 * count, p);
-        numbers[place] = count as u32 + 1;
+    let parses = size(numbers, place);
+    if parses < MOST_PARSES {
+        put_parse(numbers, place + 1 + 4 * parses, p);
+        numbers[place] = parses as u32 + 1;
         true
     } else {
         false

@@ -1,6 +1,5 @@
 -- `sets::add` meets its contract: a parse that the set has, and another.
 use borrow.Author.Needs.{needs}
-use Rattle.rules.specs.Run.{has}
 use Rattle.sets.specs.SetLaws.{add-had, add-new}
 use Rattle.sets.proofs.add.Statement.{statement}
 use Rattle.sets.proofs.add.Tie as tie
@@ -12,9 +11,7 @@ same-length : tie.Need-same-length
 same-length c = search needs
 
 returns : tie.Need-returns
-returns c =
-    let has = c .before .has in
-    add-had _ _ _ _ (has .ensures) (c .if1 .taken)
+returns c = add-had _ _ _ _ (c .before .has .ensures) (c .if1 .taken)
 
 append-requires : tie.Need-append-requires
 append-requires c κs = search needs

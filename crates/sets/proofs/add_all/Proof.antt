@@ -14,30 +14,19 @@ abbrev μ-loop : tie.MeasureT-loop
 μ-loop numbers₀ into from at₀ left₀ numbers at left = left
 
 add-at : tie.Need-add-at Inv-loop μ-loop
-add-at c =
-    let pre = c .before .pre in
-    omega (arith, pre)
+add-at c = omega arith
 
 size-requires : tie.Need-size-requires Inv-loop μ-loop
-size-requires c κs =
-    let pre = c .before .before .pre in
-    omega (arith, pre)
+size-requires c κs = omega arith
 
 loop-holds : tie.Need-loop-holds Inv-loop μ-loop
 loop-holds c = (refl, joining-start _ _ _ _ (c .size .ensures))
 
 parse-at-requires : tie.Need-parse-at-requires Inv-loop μ-loop
-parse-at-requires c κs =
-    let loop = c .before .before .loop in
-    let loop-test = c .before .loop-test in
-    let pre = c .before .before .before .before .before .before .pre in
-    omega (arith, loop .inv .1 .high, loop-test .taken, pre, loop .inv .0)
+parse-at-requires c κs = omega arith
 
 add-requires : tie.Need-add-requires Inv-loop μ-loop
-add-requires c κs =
-    let pre = c .before .before .before .before .before .before .before .before .pre in
-    let loop = c .before .before .before .before .loop in
-    omega (arith, pre, loop .inv .0)
+add-requires c κs = omega arith
 
 same-length : tie.Need-same-length Inv-loop μ-loop
 same-length c =
@@ -55,21 +44,13 @@ returns c =
     joining-full _ _ _ _ _ _ _ (pre .2) (loop .inv .1) (loop-test .taken) _ (parse-at .ensures) _ (add .ensures) (not-true _ (c .if1 .taken))
 
 add-at-2 : tie.Need-add-at-2 Inv-loop μ-loop
-add-at-2 c =
-    let loop = c .before .before .before .before .before .before .before .before .loop in
-    let loop-test = c .before .before .before .before .before .before .before .loop-test in
-    let pre = c .before .before .before .before .before .before .before .before .before .before .before .before .pre in
-    omega (arith, loop .inv .1 .high, loop-test .taken, pre)
+add-at-2 c = omega arith
 
 sub-left : tie.Need-sub-left Inv-loop μ-loop
-sub-left c =
-    let loop-test = c .before .before .before .before .before .before .before .loop-test in
-    omega (arith, loop-test .taken)
+sub-left c = omega arith
 
 loop-less : tie.Need-loop-less Inv-loop μ-loop
-loop-less c =
-    let loop-test = c .before .before .before .before .before .before .before .loop-test in
-    omega (arith, loop-test .taken)
+loop-less c = omega arith
 
 loop-again : tie.Need-loop-again Inv-loop μ-loop
 loop-again c =
@@ -77,18 +58,16 @@ loop-again c =
     let loop = c .before .before .before .before .before .before .before .before .loop in
     let pre = c .before .before .before .before .before .before .before .before .before .before .before .before .pre in
     let loop-test = c .before .before .before .before .before .before .before .loop-test in
-    let parse-at = c .before .before .before .before .before .parse-at in
-    (add .kept .0 ∙ loop .inv .0, joining-again _ _ _ _ _ _ _ (pre .2) (loop .inv .1) (loop-test .taken) _ (parse-at .ensures) _ (add .ensures) (not-false _ (c .if1 .left)))
+    let parse-at = c .before .before .before .before .before .parse-at in (
+      add .kept .0 ∙ loop .inv .0,
+      joining-again _ _ _ _ _ _ _ (pre .2) (loop .inv .1) (loop-test .taken) _ (parse-at .ensures) _ (add .ensures) (not-false _ (c .if1 .left)),
+    )
 
 same-length-2 : tie.Need-same-length-2 Inv-loop μ-loop
-same-length-2 c =
-    let loop = c .before .loop in
-    loop .inv .0
+same-length-2 c = c .before .loop .inv .0
 
 returns-2 : tie.Need-returns-2 Inv-loop μ-loop
-returns-2 c =
-    let loop = c .before .loop in
-    joining-end _ _ _ _ _ _ (loop .inv .1) (c .loop-test .left)
+returns-2 c = joining-end _ _ _ _ _ _ (c .before .loop .inv .1) (c .loop-test .left)
 
 pub add-all-spec : {M : Type 1} → statement M
 add-all-spec =

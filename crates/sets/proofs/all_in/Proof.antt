@@ -3,7 +3,7 @@ use mathlib.Core.Path.{_≡_, sym, _∙_}
 use Prim.Native.Nat.{_+_, _*_, _≤_}
 use native.Mathlib.Omega.{arith}
 use borrow.Author.Tests.{not-true, not-false}
-use Rattle.rules.specs.Run.{has, allIn}
+use Rattle.rules.specs.Run.{allIn}
 use Rattle.sets.specs.Sets.{listAt, setAt}
 use Rattle.sets.specs.PlaceLaws.{set-list, size-le}
 use Rattle.sets.specs.SetLaws.{all-on, all-not, all-end}
@@ -11,20 +11,17 @@ use Rattle.sets.proofs.all_in.Statement.{statement}
 use Rattle.sets.proofs.all_in.Tie as tie
 
 abbrev Inv-loop : tie.InvT-loop
-Inv-loop numbers into from at₀ left₀ at left = (at + 4 * left ≤ from + 257) × (allIn (setAt numbers into) (listAt numbers at left) ≡ allIn (setAt numbers into) (setAt numbers from))
+Inv-loop numbers into from at₀ left₀ at left = (at + 4 * left ≤ from + 257)
+    × (allIn (setAt numbers into) (listAt numbers at left) ≡ allIn (setAt numbers into) (setAt numbers from))
 
 abbrev μ-loop : tie.MeasureT-loop
 μ-loop numbers into from at₀ left₀ at left = left
 
 add-at : tie.Need-add-at Inv-loop μ-loop
-add-at c =
-    let pre = c .before .pre in
-    omega (arith, pre)
+add-at c = omega arith
 
 size-requires : tie.Need-size-requires Inv-loop μ-loop
-size-requires c κs =
-    let pre = c .before .pre in
-    omega (arith, pre)
+size-requires c κs = omega arith
 
 loop-holds : tie.Need-loop-holds Inv-loop μ-loop
 loop-holds c =
@@ -32,53 +29,38 @@ loop-holds c =
     (omega (arith, size-le (args .numbers .now) (args .from) _ (c .size .ensures)), rw (set-list _ _ _ (c .size .ensures)))
 
 parse-at-requires : tie.Need-parse-at-requires Inv-loop μ-loop
-parse-at-requires c κs =
-    let loop = c .before .loop in
-    let pre = c .before .before .before .before .pre in
-    omega (arith, loop .inv .0, c .loop-test .taken, pre)
+parse-at-requires c κs = omega arith
 
 has-requires : tie.Need-has-requires Inv-loop μ-loop
-has-requires c κs =
-    let pre = c .before .before .before .before .before .pre in
-    omega (arith, pre)
+has-requires c κs = omega arith
 
 returns : tie.Need-returns Inv-loop μ-loop
 returns c =
     let parse-at = c .before .before .parse-at in
-    let has = c .before .has in
     let loop-test = c .before .before .before .loop-test in
     let loop = c .before .before .before .before .loop in
-    sym (all-not _ _ _ _ _ (parse-at .ensures) (has .ensures) _ (loop-test .taken) (not-true _ (c .if1 .taken))) ∙ loop .inv .1
+    sym (all-not _ _ _ _ _ (parse-at .ensures) (c .before .has .ensures) _ (loop-test .taken) (not-true _ (c .if1 .taken))) ∙ loop .inv .1
 
 add-at-2 : tie.Need-add-at-2 Inv-loop μ-loop
-add-at-2 c =
-    let loop = c .before .before .before .before .loop in
-    let loop-test = c .before .before .before .loop-test in
-    let pre = c .before .before .before .before .before .before .before .pre in
-    omega (arith, loop .inv .0, loop-test .taken, pre)
+add-at-2 c = omega arith
 
 sub-left : tie.Need-sub-left Inv-loop μ-loop
-sub-left c =
-    let loop-test = c .before .before .before .loop-test in
-    omega (arith, loop-test .taken)
+sub-left c = omega arith
 
 loop-less : tie.Need-loop-less Inv-loop μ-loop
-loop-less c =
-    let loop-test = c .before .before .before .loop-test in
-    omega (arith, loop-test .taken)
+loop-less c = omega arith
 
 loop-again : tie.Need-loop-again Inv-loop μ-loop
 loop-again c =
-    let loop = c .before .before .before .before .loop in
-    let loop-test = c .before .before .before .loop-test in
     let parse-at = c .before .before .parse-at in
-    let has = c .before .has in
-    (omega (arith, loop .inv .0, loop-test .taken), sym (all-on _ _ _ _ _ (parse-at .ensures) (has .ensures) _ (loop-test .taken) (not-false _ (c .if1 .left))) ∙ loop .inv .1)
+    let loop-test = c .before .before .before .loop-test in
+    let loop = c .before .before .before .before .loop in (
+      omega arith,
+      sym (all-on _ _ _ _ _ (parse-at .ensures) (c .before .has .ensures) _ (loop-test .taken) (not-false _ (c .if1 .left))) ∙ loop .inv .1,
+    )
 
 returns-2 : tie.Need-returns-2 Inv-loop μ-loop
-returns-2 c =
-    let loop = c .before .loop in
-    sym (all-end _ _ _ _ (c .loop-test .left)) ∙ loop .inv .1
+returns-2 c = sym (all-end _ _ _ _ (c .loop-test .left)) ∙ c .before .loop .inv .1
 
 pub all-in-spec : {M : Type 1} → statement M
 all-in-spec =

@@ -47,9 +47,7 @@ same-length-2 : tie.Need-same-length-2
 same-length-2 c = search needs
 
 returns-2 : tie.Need-returns-2
-returns-2 c =
-    let size = c .before .size in
-    append-full _ _ _ _ (size .ensures) (c .if1 .left)
+returns-2 c = append-full _ _ _ _ (c .before .size .ensures) (c .if1 .left)
 
 pub append-spec : {M : Type 1} → statement M
 append-spec =

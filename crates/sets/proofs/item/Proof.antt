@@ -17,34 +17,27 @@ add-parse-at c = search needs
 mul-parse-at : tie.Need-mul-parse-at
 mul-parse-at c =
     let args = c .before .before .before .args in
-    let size = c .before .size in
-    omega (arith, size-le (args .numbers .now) (args .place) _ (size .ensures), c .if1 .taken)
+    omega (arith, size-le (args .numbers .now) (args .place) _ (c .before .size .ensures))
 
 add-parse-at-2 : tie.Need-add-parse-at-2
 add-parse-at-2 c =
     let args = c .before .before .before .args in
-    let size = c .before .size in
-    let pre = c .before .before .before .pre in
-    omega (arith, size-le (args .numbers .now) (args .place) _ (size .ensures), c .if1 .taken, pre)
+    omega (arith, size-le (args .numbers .now) (args .place) _ (c .before .size .ensures))
 
 parse-at-requires : tie.Need-parse-at-requires
 parse-at-requires c κs =
     let args = c .before .before .before .args in
-    let size = c .before .size in
-    let pre = c .before .before .before .pre in
-    omega (arith, size-le (args .numbers .now) (args .place) _ (size .ensures), c .if1 .taken, pre)
+    omega (arith, size-le (args .numbers .now) (args .place) _ (c .before .size .ensures))
 
 returns : tie.Need-returns
 returns c =
     let size = c .before .before .size in
-    let if1 = c .before .if1 in
-    c .parse-at .ensures ∙ sym (set-item _ _ _ _ (rw (size .ensures) at (if1 .taken)) refl)
+    c .parse-at .ensures ∙ sym (set-item _ _ _ _ (rw (size .ensures) at (c .before .if1 .taken)) refl)
 
 returns-2 : tie.Need-returns-2
 returns-2 c =
     let args = c .before .before .before .args in
-    let size = c .before .size in
-    sym (List·getD-eq-default (setAt (args .numbers .now) (args .place)) _ (rw (size .ensures) at (c .if1 .left)))
+    sym (List·getD-eq-default (setAt (args .numbers .now) (args .place)) _ (rw (c .before .size .ensures) at (c .if1 .left)))
 
 pub item-spec : {M : Type 1} → statement M
 item-spec =

@@ -21,9 +21,7 @@ returns c =
     keep-yes _ _ _ _ _ _ _ (keeps-level .ensures) (if1 .taken) (append .ensures)
 
 returns-2 : tie.Need-returns-2
-returns-2 c =
-    let keeps-level = c .before .keeps-level in
-    keep-no _ _ _ _ _ (keeps-level .ensures) (c .if1 .left)
+returns-2 c = keep-no _ _ _ _ _ (c .before .keeps-level .ensures) (c .if1 .left)
 
 pub keep-spec : {M : Type 1} → statement M
 keep-spec = tie.close (tie.spec keeps-level-requires append-requires same-length returns returns-2)

@@ -7,26 +7,20 @@ use Rattle.sets.proofs.kept.Statement.{statement}
 use Rattle.sets.proofs.kept.Tie as tie
 
 abbrev Inv-loop : tie.InvT-loop
-Inv-loop numbers₀ into from associativity level at₀ left₀ numbers at left = (length numbers ≡ length numbers₀) × Keeping numbers₀ numbers into from associativity level at left
+Inv-loop numbers₀ into from associativity level at₀ left₀ numbers at left = (length numbers ≡ length numbers₀)
+    × Keeping numbers₀ numbers into from associativity level at left
 
 abbrev μ-loop : tie.MeasureT-loop
 μ-loop numbers₀ into from associativity level at₀ left₀ numbers at left = left
 
 clear-requires : tie.Need-clear-requires Inv-loop μ-loop
-clear-requires c κs =
-    let pre = c .before .before .pre in
-    omega (arith, pre)
+clear-requires c κs = omega arith
 
 add-at : tie.Need-add-at Inv-loop μ-loop
-add-at c =
-    let pre = c .before .before .before .before .before .pre in
-    omega (arith, pre)
+add-at c = omega arith
 
 size-requires : tie.Need-size-requires Inv-loop μ-loop
-size-requires c κs =
-    let pre = c .before .before .before .before .before .before .pre in
-    let clear = c .before .before .before .clear in
-    omega (arith, pre, clear .kept .0)
+size-requires c κs = omega arith
 
 loop-holds : tie.Need-loop-holds Inv-loop μ-loop
 loop-holds c =
@@ -34,36 +28,19 @@ loop-holds c =
     (refl, keeping-start _ _ _ _ _ _ (clear .ensures .now) (c .size .ensures))
 
 parse-at-requires : tie.Need-parse-at-requires Inv-loop μ-loop
-parse-at-requires c κs =
-    let loop = c .before .before .loop in
-    let loop-test = c .before .loop-test in
-    let pre = c .before .before .before .before .before .before .before .before .before .before .pre in
-    let clear = c .before .before .before .before .before .before .before .clear in
-    omega (arith, loop .inv .1 .high, loop-test .taken, pre, loop .inv .0, clear .kept .0)
+parse-at-requires c κs = omega arith
 
 keep-requires : tie.Need-keep-requires Inv-loop μ-loop
-keep-requires c κs =
-    let pre = c .before .before .before .before .before .before .before .before .before .before .before .before .pre in
-    let loop = c .before .before .before .before .loop in
-    let clear = c .before .before .before .before .before .before .before .before .before .clear in
-    omega (arith, pre, loop .inv .0, clear .kept .0)
+keep-requires c κs = omega arith
 
 add-at-2 : tie.Need-add-at-2 Inv-loop μ-loop
-add-at-2 c =
-    let loop = c .before .before .before .before .before .before .before .loop in
-    let loop-test = c .before .before .before .before .before .before .loop-test in
-    let pre = c .before .before .before .before .before .before .before .before .before .before .before .before .before .before .before .pre in
-    omega (arith, loop .inv .1 .high, loop-test .taken, pre)
+add-at-2 c = omega arith
 
 sub-left : tie.Need-sub-left Inv-loop μ-loop
-sub-left c =
-    let loop-test = c .before .before .before .before .before .before .loop-test in
-    omega (arith, loop-test .taken)
+sub-left c = omega arith
 
 loop-less : tie.Need-loop-less Inv-loop μ-loop
-loop-less c =
-    let loop-test = c .before .before .before .before .before .before .loop-test in
-    omega (arith, loop-test .taken)
+loop-less c = omega arith
 
 loop-again : tie.Need-loop-again Inv-loop μ-loop
 loop-again c =
@@ -76,16 +53,14 @@ loop-again c =
 
 same-length : tie.Need-same-length Inv-loop μ-loop
 same-length c =
-    let loop = c .before .loop in
     let clear = c .before .before .before .before .before .before .clear in
-    loop .inv .0 ∙ clear .kept .0
+    c .before .loop .inv .0 ∙ clear .kept .0
 
 returns : tie.Need-returns Inv-loop μ-loop
 returns c =
     let pre = c .before .before .before .before .before .before .before .before .before .pre in
     let clear = c .before .before .before .before .before .before .clear in
-    let loop = c .before .loop in
-    keeping-end _ _ _ _ _ _ _ _ _ (pre .2) (clear .ensures) (loop .inv .1) (c .loop-test .left)
+    keeping-end _ _ _ _ _ _ _ _ _ (pre .2) (clear .ensures) (c .before .loop .inv .1) (c .loop-test .left)
 
 pub kept-spec : {M : Type 1} → statement M
 kept-spec =

@@ -40,9 +40,7 @@ shared-slice-read-t18 : tie.Need-shared-slice-read-t18
 shared-slice-read-t18 c = search needs
 
 returns : tie.Need-returns
-returns c =
-    let associativity-of = c .before .associativity-of in
-    rw (associativity-of .ensures)
+returns c = rw (c .before .associativity-of .ensures)
 
 pub parse-at-spec : {M : Type 1} → statement M
 parse-at-spec =

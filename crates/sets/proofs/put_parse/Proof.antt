@@ -18,9 +18,7 @@ mul-numbers-2 : tie.Need-mul-numbers-2
 mul-numbers-2 c = search needs
 
 slice-write-numbers-2 : tie.Need-slice-write-numbers-2
-slice-write-numbers-2 c =
-    let pre = c .before .pre in
-    simp length-set (omega (arith, pre))
+slice-write-numbers-2 c = simp length-set (omega arith)
 
 associativity-number-requires : tie.Need-associativity-number-requires
 associativity-number-requires c κs = search needs
@@ -32,9 +30,7 @@ mul-numbers-3 : tie.Need-mul-numbers-3
 mul-numbers-3 c = search needs
 
 slice-write-numbers-3 : tie.Need-slice-write-numbers-3
-slice-write-numbers-3 c =
-    let pre = c .before .before .pre in
-    simp length-set (omega (arith, pre))
+slice-write-numbers-3 c = simp length-set (omega arith)
 
 add-numbers-3 : tie.Need-add-numbers-3
 add-numbers-3 c = search needs
@@ -43,9 +39,7 @@ mul-numbers-4 : tie.Need-mul-numbers-4
 mul-numbers-4 c = search needs
 
 slice-write-numbers-4 : tie.Need-slice-write-numbers-4
-slice-write-numbers-4 c =
-    let pre = c .before .before .pre in
-    simp length-set (omega (arith, pre))
+slice-write-numbers-4 c = simp length-set (omega arith)
 
 same-length : tie.Need-same-length
 same-length c = search needs

@@ -13,9 +13,7 @@ shared-slice-read-count : tie.Need-shared-slice-read-count
 shared-slice-read-count c = search needs
 
 cast-count : tie.Need-cast-count
-cast-count c =
-    let args = c .before .args in
-    omega (arith, c .shared-slice-known .given (args .place))
+cast-count c = omega (arith, c .shared-slice-known .given (c .before .args .place))
 
 returns : tie.Need-returns
 returns c = rw (set-length, lt-ltb _ 64 (c .if1 .taken))
