@@ -12,7 +12,7 @@ use borrow.Author.Tests.{ltb-true, ltb-false}
 use Rattle.book.specs.Book.{associativityNumber}
 use Rattle.book.specs.ReadingLaws.{associativity-of-number}
 use Rattle.rules.specs.Values.{Parse}
-use Rattle.sets.specs.Sets.{parse, noParse, parseAt, listAt, countOf, setAt, written, Only}
+use Rattle.sets.specs.Sets.{noParse, parseAt, listAt, countOf, setAt, written, Only}
 
 -- ---- Only
 pub only-refl : {f : List ℕ} {b m : ℕ} → Only f f b m

@@ -17,7 +17,6 @@ use Rattle.rules.specs.Tokens.{when}
 use Rattle.rules.specs.Uses.{Use, keepsLevel}
 use Rattle.rules.specs.Run.{met, ok, _>>=_, State, sameParse, has, allIn, kept, add, addAll}
 use Rattle.sets.specs.Sets.{
-  parse,
   parseAt,
   listAt,
   setAt,

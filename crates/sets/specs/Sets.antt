@@ -10,7 +10,7 @@ use Rattle.book.specs.Book.{associativityNumber}
 use Rattle.book.specs.Check.{associativityOf}
 use Rattle.book.specs.declared.records.Associativity.{Associativity}
 use Rattle.rules.specs.Values.{Parse}
-use Rattle.rules.specs.Uses.{Use, keepsLevel}
+use Rattle.rules.specs.Uses.{Use}
 use Rattle.rules.specs.Run.{Result, met, ok, State, add, addAll, kept}
 use Rattle.sets.specs.declared.Parse as code
 

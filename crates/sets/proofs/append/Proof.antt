@@ -41,7 +41,7 @@ returns c =
     let if1 = c .before .before .before .before .if1 in
     let size = c .before .before .before .before .before .size in
     let put-parse = c .before .before .put-parse in
-    append-as _ _ _ _ (pre) (if1 .taken) (size .ensures) _ _ (put-parse .ensures) refl
+    append-as _ _ _ _ pre (if1 .taken) (size .ensures) _ _ (put-parse .ensures) refl
 
 same-length-2 : tie.Need-same-length-2
 same-length-2 c = search needs

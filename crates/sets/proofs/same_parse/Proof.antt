@@ -27,7 +27,8 @@ returns-3 c =
     let if1 = c .before .before .before .before .before .before .if1 in
     let if2 = c .before .before .before .if2 in
     let associativity-number = c .before .before .associativity-number in
-    rw (eq-eqb _ _ (if1 .left), eq-eqb _ _ (if2 .left), ← associativity-number .ensures, ← c .before .associativity-number2 .ensures, ne-eqb _ _ (c .if3 .taken))
+    let associativity-number2 = c .before .associativity-number2 in
+    rw (eq-eqb _ _ (if1 .left), eq-eqb _ _ (if2 .left), ← associativity-number .ensures, ← associativity-number2 .ensures, ne-eqb _ _ (c .if3 .taken))
 
 returns-4 : tie.Need-returns-4
 unfolding sameParse
