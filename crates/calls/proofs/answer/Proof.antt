@@ -1,0 +1,34 @@
+-- `calls::answer` meets its contract.
+use native.Mathlib.Omega.{arith}
+use borrow.Author.Needs.{needs}
+use Rattle.calls.specs.Table.{table}
+use Rattle.calls.specs.TableLaws.{table-below}
+use Rattle.calls.specs.SettlingLaws.{answer-law}
+use Rattle.calls.proofs.answer.Statement.{statement}
+use Rattle.calls.proofs.answer.Tie as tie
+
+mark-requires : tie.Need-mark-requires
+mark-requires c κs = search needs
+
+kept-of-requires : tie.Need-kept-of-requires
+kept-of-requires c κs = search needs
+
+end-call-requires : tie.Need-end-call-requires
+end-call-requires c κs = search needs
+
+same-length : tie.Need-same-length
+same-length c = search needs
+
+returns : tie.Need-returns
+returns c =
+    let args = c .before .before .before .before .before .before .before .before .before .before .before .before .before .args in
+    let pre = c .before .before .before .before .before .before .before .before .before .before .before .before .before .pre in
+    let mark = c .before .before .before .before .before .before .before .before .before .before .mark in
+    let kept-of = c .before .before .before .before .before .before .kept-of in
+    let end-call = c .before .before .end-call in
+    answer-law (table (args .rows .now)) _ _ _ (args .n) (args .governor) (table-below (args .rows .now) (args .n) (omega (arith, pre)))
+    (table-below (args .rows .now) (args .governor) (pre .1)) (mark .ensures) (kept-of .ensures) (end-call .ensures)
+
+pub answer-spec : {M : Type 1} → statement M
+answer-spec =
+    tie.close (tie.spec mark-requires kept-of-requires end-call-requires same-length returns)

@@ -1,0 +1,73 @@
+-- `calls::any_claims` meets its contract. The invariant (`Asking` of CallLaws): a row from here on claims where one above n does.
+use Prim.Native.Nat.{_-_, _<_, _≤_}
+use native.Mathlib.Omega.{arith}
+use Rattle.book.specs.Index.{bookIn}
+use Rattle.calls.specs.Table.{table}
+use Rattle.calls.specs.CallLaws.{asking-start, asking-hit, asking-on, asking-end, Asking}
+use Rattle.calls.proofs.any_claims.Statement.{statement}
+use Rattle.calls.proofs.any_claims.Tie as tie
+
+abbrev Inv-loop : tie.InvT-loop
+Inv-loop book index rows n u row₀ row = (n < row) × (row ≤ 201) × Asking (bookIn book index) (table rows) u n row
+
+abbrev μ-loop : tie.MeasureT-loop
+μ-loop book index rows n u row₀ row = 201 - row
+
+add-row : tie.Need-add-row Inv-loop μ-loop
+add-row c =
+    let pre = c .before .before .before .pre in
+    omega (arith, pre)
+
+loop-holds : tie.Need-loop-holds Inv-loop μ-loop
+loop-holds c =
+    let pre = c .before .before .before .pre in
+    (omega arith, omega (arith, pre), asking-start _ _ _ _)
+
+claims-requires : tie.Need-claims-requires Inv-loop μ-loop
+claims-requires c κs =
+    let pre = c .before .before .before .before .before .pre in
+    omega (arith, c .loop-test .taken, pre)
+
+returns : tie.Need-returns Inv-loop μ-loop
+returns c =
+    let loop = c .before .before .before .loop in
+    let loop-test = c .before .before .loop-test in
+    let claims = c .before .claims in
+    asking-hit _ _ _ _ _ _ (loop .inv .2) (loop-test .taken) (claims .ensures) (c .if1 .taken)
+
+add-row-2 : tie.Need-add-row-2 Inv-loop μ-loop
+add-row-2 c =
+    let loop-test = c .before .before .loop-test in
+    omega (arith, loop-test .taken)
+
+loop-less : tie.Need-loop-less Inv-loop μ-loop
+loop-less c =
+    let loop-test = c .before .before .loop-test in
+    omega (arith, loop-test .taken)
+
+loop-again : tie.Need-loop-again Inv-loop μ-loop
+loop-again c =
+    let loop = c .before .before .before .loop in
+    let loop-test = c .before .before .loop-test in
+    let claims = c .before .claims in
+    (omega (arith, loop .inv .0), omega (arith, loop-test .taken), asking-on _ _ _ _ _ _ (loop .inv .2) (loop-test .taken) (claims .ensures) (c .if1 .left))
+
+returns-2 : tie.Need-returns-2 Inv-loop μ-loop
+returns-2 c =
+    let loop = c .before .loop in
+    asking-end _ _ _ _ _ (loop .inv .2) (c .loop-test .left)
+
+pub any-claims-spec : {M : Type 1} → statement M
+any-claims-spec =
+    tie.close
+    (tie.spec
+    Inv-loop
+    μ-loop
+    add-row
+    loop-holds
+    claims-requires
+    returns
+    add-row-2
+    loop-less
+    loop-again
+    returns-2)

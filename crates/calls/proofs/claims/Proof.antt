@@ -1,0 +1,78 @@
+-- `calls::claims` meets its contract, number by number.
+use borrow.Author.Needs.{needs}
+use Rattle.book.specs.Index.{bookIn}
+use Rattle.rows.specs.Rows.{rowOf}
+use Rattle.calls.specs.Table.{table}
+use Rattle.calls.specs.CallLaws.{claims-live, claims-start, claims-scope, claims-mark}
+use Rattle.calls.proofs.claims.Statement.{statement}
+use Rattle.calls.proofs.claims.Tie as tie
+
+get-requires : tie.Need-get-requires
+get-requires c κs = search needs
+
+returns : tie.Need-returns
+returns c =
+    let args = c .before .before .before .before .before .args in
+    let get = c .before .get in
+    claims-live _ (rowOf (table (args .rows .now)) (args .row)) _ _ (get .ensures) (c .if1 .taken)
+
+get-requires-2 : tie.Need-get-requires-2
+get-requires-2 c κs = search needs
+
+returns-2 : tie.Need-returns-2
+returns-2 c =
+    let args = c .before .before .before .before .before .before .before .args in
+    let get = c .before .before .before .get in
+    let if1 = c .before .before .if1 in
+    let get2 = c .before .get2 in
+    claims-start _ (rowOf (table (args .rows .now)) (args .row)) _ _ _ (get .ensures) (if1 .left) (get2 .ensures) (c .if2 .taken)
+
+get-requires-3 : tie.Need-get-requires-3
+get-requires-3 c κs = search needs
+
+returns-3 : tie.Need-returns-3
+returns-3 c =
+    let args = c .before .before .before .before .before .before .before .before .before .args in
+    let get = c .before .before .before .before .before .get in
+    let if1 = c .before .before .before .before .if1 in
+    let get2 = c .before .before .before .get2 in
+    let if2 = c .before .before .if2 in
+    let get3 = c .before .get3 in
+    claims-scope _ (rowOf (table (args .rows .now)) (args .row)) _ _ _ _ (get .ensures) (if1 .left) (get2 .ensures) (if2 .left) (get3 .ensures) (c .if3 .taken)
+
+get-requires-4 : tie.Need-get-requires-4
+get-requires-4 c κs = search needs
+
+cast-is-variable : tie.Need-cast-is-variable
+cast-is-variable c = search needs
+
+is-variable-requires : tie.Need-is-variable-requires
+is-variable-requires c κs = search needs
+
+returns-4 : tie.Need-returns-4
+returns-4 c =
+    let args = c .before .before .before .before .before .before .before .before .before .before .before .args in
+    let get = c .before .before .before .before .before .before .before .get in
+    let if1 = c .before .before .before .before .before .before .if1 in
+    let get2 = c .before .before .before .before .before .get2 in
+    let if2 = c .before .before .before .before .if2 in
+    let get3 = c .before .before .before .get3 in
+    let if3 = c .before .before .if3 in
+    let get4 = c .before .get4 in
+    claims-mark (bookIn (args .book .now) (args .index .now)) (rowOf (table (args .rows .now)) (args .row)) _ _ _ _ _ _
+    (get .ensures) (if1 .left) (get2 .ensures) (if2 .left) (get3 .ensures) (if3 .left) (get4 .ensures) (c .is-variable .ensures)
+
+pub claims-spec : {M : Type 1} → statement M
+claims-spec =
+    tie.close
+    (tie.spec
+    get-requires
+    returns
+    get-requires-2
+    returns-2
+    get-requires-3
+    returns-3
+    get-requires-4
+    cast-is-variable
+    is-variable-requires
+    returns-4)

@@ -1,0 +1,23 @@
+-- `calls::found` meets its contract.
+use borrow.Author.Needs.{needs}
+use Rattle.calls.specs.TableLaws.{read-set}
+use Rattle.calls.proofs.found.Statement.{statement}
+use Rattle.calls.proofs.found.Tie as tie
+
+mul-size : tie.Need-mul-size
+mul-size c = search needs
+
+add-size : tie.Need-add-size
+add-size c = search needs
+
+size-requires : tie.Need-size-requires
+size-requires c κs = search needs
+
+returns : tie.Need-returns
+returns c =
+    let args = c .before .before .args in
+    let pre = c .before .before .pre in
+    rw (read-set (args .rows .now) (args .row) (pre .0)) (c .size .ensures)
+
+pub found-spec : {M : Type 1} → statement M
+found-spec = tie.close (tie.spec mul-size add-size size-requires returns)

@@ -1,0 +1,75 @@
+-- `calls::governor_of` meets its contract.
+use mathlib.Core.Path.{_∙_}
+use native.Mathlib.Omega.{arith}
+use borrow.Author.Needs.{needs}
+use Rattle.calls.specs.Table.{table}
+use Rattle.calls.specs.CallLaws.{governor-none, governor-same, governor-minimum}
+use Rattle.calls.proofs.governor_of.Statement.{statement}
+use Rattle.calls.proofs.governor_of.Tie as tie
+
+newest-governor-requires : tie.Need-newest-governor-requires
+newest-governor-requires c κs = search needs
+
+returns : tie.Need-returns
+returns c =
+    let args = c .before .before .before .args in
+    let newest-governor = c .before .newest-governor in
+    governor-none (table (args .rows .now)) _ _ _ _ (newest-governor .ensures) (c .if1 .taken)
+
+get-requires : tie.Need-get-requires
+get-requires c κs =
+    let pre = c .before .before .before .pre in
+    omega (arith, c .if1 .left, pre)
+
+returns-2 : tie.Need-returns-2
+returns-2 c =
+    let args = c .before .before .before .before .before .args in
+    let newest-governor = c .before .before .before .newest-governor in
+    let if1 = c .before .before .if1 in
+    let get = c .before .get in
+    governor-same (table (args .rows .now)) _ _ _ _ (newest-governor .ensures) _ (if1 .left) (get .ensures) (c .if2 .taken)
+
+get-requires-2 : tie.Need-get-requires-2
+get-requires-2 c κs =
+    let if1 = c .before .before .if1 in
+    let pre = c .before .before .before .before .before .pre in
+    omega (arith, if1 .left, pre)
+
+associativity-of-requires : tie.Need-associativity-of-requires
+associativity-of-requires c κs = search needs
+
+get-requires-3 : tie.Need-get-requires-3
+get-requires-3 c κs =
+    let if1 = c .before .before .before .before .if1 in
+    let pre = c .before .before .before .before .before .before .before .pre in
+    omega (arith, if1 .left, pre)
+
+minimum-of-requires : tie.Need-minimum-of-requires
+minimum-of-requires c κs = search needs
+
+returns-3 : tie.Need-returns-3
+returns-3 c =
+    let args = c .before .before .before .before .before .before .before .before .before .args in
+    let newest-governor = c .before .before .before .before .before .before .before .newest-governor in
+    let if1 = c .before .before .before .before .before .before .if1 in
+    let get = c .before .before .before .before .before .get in
+    let if2 = c .before .before .before .before .if2 in
+    let get2 = c .before .before .before .get2 in
+    let get3 = c .before .get3 in
+    let associativity-of = c .before .before .associativity-of in
+    governor-minimum (table (args .rows .now)) _ _ _ _ (newest-governor .ensures) _ _ _ _ (if1 .left) (get .ensures) (if2 .left) (get2 .ensures) (get3 .ensures)
+    (c .minimum-of .ensures ∙ rw (associativity-of .ensures))
+
+pub governor-of-spec : {M : Type 1} → statement M
+governor-of-spec =
+    tie.close
+    (tie.spec
+    newest-governor-requires
+    returns
+    get-requires
+    returns-2
+    get-requires-2
+    associativity-of-requires
+    get-requires-3
+    minimum-of-requires
+    returns-3)

@@ -1,0 +1,36 @@
+-- `calls::is_variable` meets its contract, mark by mark.
+use borrow.Author.Needs.{needs}
+use Rattle.calls.proofs.is_variable.Statement.{statement}
+use Rattle.calls.proofs.is_variable.Tie as tie
+
+nonterminal-requires : tie.Need-nonterminal-requires
+nonterminal-requires c κs = search needs
+
+enum-told : tie.Need-enum-told
+enum-told c = search needs
+
+enum-told-2 : tie.Need-enum-told-2
+enum-told-2 c = search needs
+
+enum-told-3 : tie.Need-enum-told-3
+enum-told-3 c = search needs
+
+returns : tie.Need-returns
+returns c =
+    let nonterminal = c .before .before .nonterminal in
+    rw (← nonterminal .ensures, c .enum-told .given .1)
+
+returns-2 : tie.Need-returns-2
+returns-2 c =
+    let nonterminal = c .before .before .nonterminal in
+    rw (← nonterminal .ensures, c .enum-told2 .given .1)
+
+returns-3 : tie.Need-returns-3
+returns-3 c =
+    let nonterminal = c .before .before .nonterminal in
+    rw (← nonterminal .ensures, c .enum-told3 .given .1)
+
+pub is-variable-spec : {M : Type 1} → statement M
+is-variable-spec =
+    tie.close
+    (tie.spec nonterminal-requires enum-told enum-told-2 enum-told-3 returns returns-2 returns-3)

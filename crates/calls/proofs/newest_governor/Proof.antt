@@ -1,0 +1,72 @@
+-- `calls::newest_governor` meets its contract. The invariant (`Seeking` of CallLaws): the newest governor from here on is the one above n.
+use Prim.Native.Nat.{_-_, _<_, _≤_}
+use native.Mathlib.Omega.{arith}
+use Rattle.calls.specs.Table.{table}
+use Rattle.calls.specs.CallLaws.{seeking-start, seeking-hit, seeking-on, seeking-end, Seeking}
+use Rattle.calls.proofs.newest_governor.Statement.{statement}
+use Rattle.calls.proofs.newest_governor.Tie as tie
+
+abbrev Inv-loop : tie.InvT-loop
+Inv-loop rows n nonterminal u row₀ row = (n < row) × (row ≤ 201) × Seeking (table rows) nonterminal u n row
+
+abbrev μ-loop : tie.MeasureT-loop
+μ-loop rows n nonterminal u row₀ row = 201 - row
+
+add-row : tie.Need-add-row Inv-loop μ-loop
+add-row c =
+    let pre = c .before .pre in
+    omega (arith, pre)
+
+loop-holds : tie.Need-loop-holds Inv-loop μ-loop
+loop-holds c =
+    let pre = c .before .pre in
+    (omega arith, omega (arith, pre), seeking-start _ _ _ _)
+
+governs-requires : tie.Need-governs-requires Inv-loop μ-loop
+governs-requires c κs =
+    let pre = c .before .before .before .pre in
+    omega (arith, c .loop-test .taken, pre)
+
+returns : tie.Need-returns Inv-loop μ-loop
+returns c =
+    let loop = c .before .before .before .loop in
+    let loop-test = c .before .before .loop-test in
+    let governs = c .before .governs in
+    seeking-hit _ _ _ _ _ _ (loop .inv .2) (loop-test .taken) (governs .ensures) (c .if1 .taken)
+
+add-row-2 : tie.Need-add-row-2 Inv-loop μ-loop
+add-row-2 c =
+    let loop-test = c .before .before .loop-test in
+    omega (arith, loop-test .taken)
+
+loop-less : tie.Need-loop-less Inv-loop μ-loop
+loop-less c =
+    let loop-test = c .before .before .loop-test in
+    omega (arith, loop-test .taken)
+
+loop-again : tie.Need-loop-again Inv-loop μ-loop
+loop-again c =
+    let loop = c .before .before .before .loop in
+    let loop-test = c .before .before .loop-test in
+    let governs = c .before .governs in
+    (omega (arith, loop .inv .0), omega (arith, loop-test .taken), seeking-on _ _ _ _ _ _ (loop .inv .2) (loop-test .taken) (governs .ensures) (c .if1 .left))
+
+returns-2 : tie.Need-returns-2 Inv-loop μ-loop
+returns-2 c =
+    let loop = c .before .loop in
+    seeking-end _ _ _ _ _ (loop .inv .2) (c .loop-test .left)
+
+pub newest-governor-spec : {M : Type 1} → statement M
+newest-governor-spec =
+    tie.close
+    (tie.spec
+    Inv-loop
+    μ-loop
+    add-row
+    loop-holds
+    governs-requires
+    returns
+    add-row-2
+    loop-less
+    loop-again
+    returns-2)

@@ -1,0 +1,54 @@
+-- `calls::open_call` meets its contract.
+use borrow.Author.Needs.{needs}
+use Rattle.calls.specs.Table.{table}
+use Rattle.calls.specs.TableLaws.{table-below}
+use Rattle.calls.specs.CallLaws.{open-law}
+use Rattle.calls.proofs.open_call.Statement.{statement}
+use Rattle.calls.proofs.open_call.Tie as tie
+
+put-requires : tie.Need-put-requires
+put-requires c κs = search needs
+
+put-requires-2 : tie.Need-put-requires-2
+put-requires-2 c κs = search needs
+
+put-requires-3 : tie.Need-put-requires-3
+put-requires-3 c κs = search needs
+
+put-requires-4 : tie.Need-put-requires-4
+put-requires-4 c κs = search needs
+
+put-requires-5 : tie.Need-put-requires-5
+put-requires-5 c κs = search needs
+
+clear-set-requires : tie.Need-clear-set-requires
+clear-set-requires c κs = search needs
+
+same-length : tie.Need-same-length
+same-length c = search needs
+
+returns : tie.Need-returns
+returns c =
+    let clear-set = c .before .before .clear-set in
+    let after5 = c .before .before .before .before .before .before in
+    let after4 = after5 .before .before .before .before in
+    let after3 = after4 .before .before .before .before in
+    let after2 = after3 .before .before .before .before in
+    let after1 = after2 .before .before .before .before in
+    let start = after1 .before .before .before in
+    let args = start .args in
+    open-law (table (args .rows .now)) (args .row) _ _ (table-below (args .rows .now) (args .row) (start .pre .0)) _ _ _ _ _ _
+    (after1 .put .ensures) (after2 .put2 .ensures) (after3 .put3 .ensures) (after4 .put4 .ensures) (after5 .put5 .ensures) (clear-set .ensures)
+
+pub open-call-spec : {M : Type 1} → statement M
+open-call-spec =
+    tie.close
+    (tie.spec
+    put-requires
+    put-requires-2
+    put-requires-3
+    put-requires-4
+    put-requires-5
+    clear-set-requires
+    same-length
+    returns)

@@ -1,0 +1,34 @@
+-- `calls::take_variant` meets its contract.
+use borrow.Author.Needs.{needs}
+use Rattle.calls.specs.Table.{table}
+use Rattle.calls.specs.TableLaws.{table-below}
+use Rattle.calls.specs.CallLaws.{variant-law}
+use Rattle.calls.proofs.take_variant.Statement.{statement}
+use Rattle.calls.proofs.take_variant.Tie as tie
+
+put-requires : tie.Need-put-requires
+put-requires c κs = search needs
+
+associativity-number-requires : tie.Need-associativity-number-requires
+associativity-number-requires c κs = search needs
+
+put-requires-2 : tie.Need-put-requires-2
+put-requires-2 c κs = search needs
+
+same-length : tie.Need-same-length
+same-length c = search needs
+
+returns : tie.Need-returns
+returns c =
+    let associativity-number = c .before .before .before .associativity-number in
+    let args = c .before .before .before .before .before .before .before .before .before .before .args in
+    let pre = c .before .before .before .before .before .before .before .before .before .before .pre in
+    let put = c .before .before .before .before .before .before .before .put in
+    let put2 = c .before .before .put2 in
+    rw (← associativity-number .ensures)
+    (variant-law (table (args .rows .now)) (args .row) _ _ (table-below (args .rows .now) (args .row) (pre .0)) _ _ (put .ensures) (put2 .ensures))
+
+pub take-variant-spec : {M : Type 1} → statement M
+take-variant-spec =
+    tie.close
+    (tie.spec put-requires associativity-number-requires put-requires-2 same-length returns)

@@ -1,0 +1,217 @@
+-- Laws for the functions over the open calls: a sequence of stores to one row, and searching the rows.
+use mathlib.Core.Path.{_≡_, refl, sym, ap, _∙_}
+use mathlib.Core.Bool.{Bool, true, false, _&&_}
+use mathlib.Core.List.{List, []}
+use Prim.Native.Nat.{ℕ, zero, suc, _+_, _-_, _<_, _≤_}
+use native.Mathlib.Omega.{arith}
+use lib.Dec.{eqb, ltb}
+use lib.ListN.{set, length}
+use lib.Seq.{getD-set-same, getD-set-other, set-set}
+use borrow.Author.Tests.{eq-eqb, ne-eqb, lt-ltb, le-ltb, ltb-false}
+use Rattle.book.specs.Book.{Book}
+use Rattle.book.specs.Check.{associativityOf}
+use Rattle.rules.specs.Uses.{hasMark, minimumOf}
+use Rattle.rules.specs.Tokens.{when}
+use Rattle.rows.specs.Rows.{Row, row, noRow, rowOf, onRow, withSet, withVariant, opened}
+use Rattle.rows.specs.Rows.{useAt, governs, newestGovernor, RowGovernor, minimum, same-start, governorAt, governorOf, claims, anyClaims}
+use Rattle.calls.specs.Table.{field}
+
+-- ---- Stores to one row
+pub row-after : (T : List Row) (c : ℕ) (r : Row) → c < length T → rowOf (set T c r) c ≡ r
+row-after T c r h = getD-set-same T c r noRow h
+
+pub row-else : (T : List Row) (c d : ℕ) (r : Row) → (d ≡ c → ⊥) → rowOf (set T c r) d ≡ rowOf T d
+row-else T c d r h = getD-set-other T c d r noRow h
+
+pub then-row : (T T1 T2 : List Row) (c : ℕ) (r : Row) (F : Row → Row) → c < length T → T1 ≡ set T c r → T2 ≡ onRow T1 c F → T2 ≡ set T c (F r)
+then-row T T1 T2 c r F h e k = (rw (e, row-after T c r h) at k) ∙ set-set T c r (F r)
+
+pub open-law : (T : List Row) (c N u : ℕ) → c < length T → (T1 T2 T3 T4 T5 T6 : List Row) →
+    T1 ≡ onRow T c (field 0 1) → T2 ≡ onRow T1 c (field 1 N) → T3 ≡ onRow T2 c (field 2 0) → T4 ≡ onRow T3 c (field 3 u) →
+    T5 ≡ onRow T4 c (field 7 0) → T6 ≡ onRow T5 c (withSet []) → T6 ≡ onRow T c (opened N u)
+open-law T c N u h T1 T2 T3 T4 T5 T6 e1 e2 e3 e4 e5 e6 =
+    let r = rowOf T c in
+    let k2 = then-row T T1 T2 c (field 0 1 r) (field 1 N) h e1 e2 in
+    let k3 = then-row T T2 T3 c (field 1 N (field 0 1 r)) (field 2 0) h k2 e3 in
+    let k4 = then-row T T3 T4 c (row 1 N 0 (r .start) (r .level) (r .associativity) (r .child) (r .asked) (r .set) (r .run)) (field 3 u) h k3 e4 in
+    let k5 = then-row T T4 T5 c (row 1 N 0 u (r .level) (r .associativity) (r .child) (r .asked) (r .set) (r .run)) (field 7 0) h k4 e5 in
+    then-row T T5 T6 c (row 1 N 0 u (r .level) (r .associativity) (r .child) 0 (r .set) (r .run)) (withSet []) h k5 e6
+
+pub variant-law : (T : List Row) (c l a : ℕ) → c < length T → (T1 T2 : List Row) → T1 ≡ onRow T c (field 4 l) → T2 ≡ onRow T1 c (field 5 a) →
+    T2 ≡ onRow T c (withVariant l a)
+variant-law T c l a h T1 T2 e1 e2 = then-row T T1 T2 c (field 4 l (rowOf T c)) (field 5 a) h e1 e2
+
+-- ---- Governors
+module _ (r : Row) (N u : ℕ) where
+  pub not-live : (a : ℕ) → a ≡ r .live → (a ≡ 1 → ⊥) → false ≡ governs r N u
+  unfolding governs
+  not-live a e h = rw (ne-eqb (r .live) 1 (λ z. h (e ∙ z)))
+
+  pub not-same : (a b : ℕ) → a ≡ r .live → a ≡ 1 → b ≡ r .nonterminal → (b ≡ N → ⊥) → false ≡ governs r N u
+  unfolding governs
+  not-same a b e h f k = rw (eq-eqb (r .live) 1 (sym e ∙ h), ne-eqb (r .nonterminal) N (λ z. k (f ∙ z)))
+
+  pub not-scope : (a b d : ℕ) → a ≡ r .live → a ≡ 1 → b ≡ r .nonterminal → b ≡ N → d ≡ r .scope → (d ≡ 0 → ⊥) → false ≡ governs r N u
+  unfolding governs
+  not-scope a b d e h f k g l = rw (eq-eqb (r .live) 1 (sym e ∙ h), eq-eqb (r .nonterminal) N (sym f ∙ k), ne-eqb (r .scope) 0 (λ z. l (g ∙ z)))
+
+  pub by-child : (a b d x : ℕ) → a ≡ r .live → a ≡ 1 → b ≡ r .nonterminal → b ≡ N → d ≡ r .scope → d ≡ 0 → x ≡ r .child → eqb x u ≡ governs r N u
+  unfolding governs
+  by-child a b d x e h f k g l m =
+      rw (eq-eqb (r .live) 1 (sym e ∙ h), eq-eqb (r .nonterminal) N (sym f ∙ k), eq-eqb (r .scope) 0 (sym g ∙ l), m)
+
+module _ (T : List Row) (N u : ℕ) where
+  newest-hit : (k i : ℕ) → governs (rowOf T i) N u ≡ true → newestGovernor T N u (suc k) i ≡ i
+  unfolding newestGovernor
+  newest-hit k i h = rw (h, newestGovernor)
+
+  newest-on : (k i : ℕ) → governs (rowOf T i) N u ≡ false → newestGovernor T N u (suc k) i ≡ newestGovernor T N u k (suc i)
+  unfolding newestGovernor
+  newest-on k i h = rw (h, newestGovernor)
+
+  newest-none : (i : ℕ) → newestGovernor T N u 0 i ≡ i
+  unfolding newestGovernor
+  newest-none i = refl
+
+  -- the loop stands at row i of those above n
+  abbrev pub Seeking : ℕ → ℕ → Type 0
+  Seeking n i = newestGovernor T N u (201 - i) i ≡ newestGovernor T N u (200 - n) (suc n)
+
+  pub seeking-start : (n : ℕ) → Seeking n (n + 1)
+  seeking-start n =
+      let a : 201 - (n + 1) ≡ 200 - n = omega arith in
+      let b : n + 1 ≡ suc n = omega arith in
+      rw (a, b)
+
+  pub seeking-hit : (n i : ℕ) (t : Bool) → Seeking n i → i ≤ 200 → t ≡ governs (rowOf T i) N u → t ≡ true → i ≡ newestGovernor T N u (200 - n) (suc n)
+  seeking-hit n i t s h e y =
+      let a : 201 - i ≡ suc (200 - i) = omega arith in
+      sym (rw a (newest-hit (200 - i) i (sym e ∙ y))) ∙ s
+
+  pub seeking-on : (n i : ℕ) (t : Bool) → Seeking n i → i ≤ 200 → t ≡ governs (rowOf T i) N u → t ≡ false → Seeking n (i + 1)
+  seeking-on n i t s h e y =
+      let a : 201 - i ≡ suc (201 - (i + 1)) = omega arith in
+      let b : i + 1 ≡ suc i = omega arith in
+      let q : newestGovernor T N u (suc (201 - (i + 1))) i ≡ newestGovernor T N u (201 - (i + 1)) (suc i) = newest-on (201 - (i + 1)) i (sym e ∙ y) in
+      ap (newestGovernor T N u (201 - (i + 1))) b ∙ sym q ∙ ap (λ k. newestGovernor T N u k i) (sym a) ∙ s
+
+  pub seeking-end : (n i : ℕ) → Seeking n i → 200 < i → i ≡ newestGovernor T N u (200 - n) (suc n)
+  seeking-end n i s h =
+      let a : 201 - i ≡ 0 = omega arith in
+      sym (rw a (newest-none i)) ∙ s
+
+-- the governor's row is above n
+newest-above : (T : List Row) (N u k i : ℕ) → i ≤ newestGovernor T N u k i
+unfolding newestGovernor
+newest-above T N u zero i = omega arith
+newest-above T N u (suc k) i = by (governs (rowOf T i) N u) (newest-above T N u k (suc i))
+  where
+    by : (t : Bool) → suc i ≤ newestGovernor T N u k (suc i) → i ≤ elim t [ true ↦ i | false ↦ newestGovernor T N u k (suc i) ]
+    by true h = omega arith
+    by false h = omega arith
+
+rowIn : RowGovernor → ℕ
+rowIn (minimum m) = 0
+rowIn (same-start g) = suc g
+
+pub governor-above : (T : List Row) (n N u g : ℕ) → same-start g ≡ governorOf T n N u → (n < g) × (g ≤ 200)
+unfolding governorAt rowIn
+governor-above T n N u g e =
+    by (ltb 200 x) (eqb (rowOf T x .start) u) refl (sym (ap rowIn e))
+  where
+    x : ℕ
+    x = newestGovernor T N u (200 - n) (suc n)
+
+    m : ℕ
+    m = minimumOf (useAt (rowOf T x) .associativity) (rowOf T x .level)
+
+    by : (t s : Bool) → t ≡ ltb 200 x →
+        rowIn (when t (λ _. minimum 0) (λ _. when s (λ _. same-start x) (λ _. minimum m))) ≡ suc g →
+        (n < g) × (g ≤ 200)
+    by true s f q = absurd (omega (arith, q))
+    by false true f q = (omega (arith, newest-above T N u (200 - n) (suc n), q), omega (arith, ltb-false 200 x (sym f), q))
+    by false false f q = absurd (omega (arith, q))
+
+module _ (T : List Row) (n N u g : ℕ) (e : g ≡ newestGovernor T N u (200 - n) (suc n)) where
+  pub governor-none : 200 < g → minimum 0 ≡ governorOf T n N u
+  unfolding governorAt
+  governor-none h = rw (← e, lt-ltb 200 g h)
+
+  pub governor-same : (a : ℕ) → g ≤ 200 → a ≡ rowOf T g .start → a ≡ u → same-start g ≡ governorOf T n N u
+  unfolding governorAt
+  governor-same a h f k = rw (← e, le-ltb 200 g h, eq-eqb (rowOf T g .start) u (sym f ∙ k))
+
+  pub governor-minimum : (a b l m : ℕ) → g ≤ 200 → a ≡ rowOf T g .start → (a ≡ u → ⊥) → b ≡ rowOf T g .associativity → l ≡ rowOf T g .level →
+      m ≡ minimumOf (associativityOf b) l → minimum m ≡ governorOf T n N u
+  unfolding governorAt
+  governor-minimum a b l m h f k eb el em = rw (← e, le-ltb 200 g h, ne-eqb (rowOf T g .start) u (λ z. k (f ∙ z)), em, eb, el)
+
+-- ---- Claims
+module _ (book : Book) (r : Row) (u : ℕ) where
+  unmarked : (b : Bool) → (b && false) ≡ false
+  unmarked true = refl
+  unmarked false = refl
+
+  pub claims-live : (a : ℕ) → a ≡ r .live → (a ≡ 1 → ⊥) → false ≡ claims book r u
+  unfolding claims
+  claims-live a e h = rw (ne-eqb (r .live) 1 (λ z. h (e ∙ z)))
+
+  pub claims-start : (a b : ℕ) → a ≡ r .live → a ≡ 1 → b ≡ r .start → (b ≡ u → ⊥) → false ≡ claims book r u
+  unfolding claims
+  claims-start a b e h f k =
+      rw (eq-eqb (r .live) 1 (sym e ∙ h), ne-eqb (r .start) u (λ z. k (f ∙ z)), unmarked (eqb (r .scope) 0), unmarked (hasMark book 1 (r .nonterminal)))
+
+  pub claims-scope : (a b d : ℕ) → a ≡ r .live → a ≡ 1 → b ≡ r .start → b ≡ u → d ≡ r .scope → (d ≡ 0 → ⊥) → false ≡ claims book r u
+  unfolding claims
+  claims-scope a b d e h f k g l =
+      rw (eq-eqb (r .live) 1 (sym e ∙ h), ne-eqb (r .scope) 0 (λ z. l (g ∙ z)), unmarked (hasMark book 1 (r .nonterminal)))
+
+  pub claims-mark : (a b d N : ℕ) (t : Bool) → a ≡ r .live → a ≡ 1 → b ≡ r .start → b ≡ u → d ≡ r .scope → d ≡ 0 → N ≡ r .nonterminal → t ≡ hasMark book 1 N →
+      t ≡ claims book r u
+  unfolding claims
+  claims-mark a b d N t e h f k g l m q =
+      q ∙ rw (eq-eqb (r .live) 1 (sym e ∙ h), eq-eqb (r .start) u (sym f ∙ k), eq-eqb (r .scope) 0 (sym g ∙ l), m) (both (hasMark book 1 (r .nonterminal)))
+    where
+      both : (b : Bool) → b ≡ (b && true)
+      both true = refl
+      both false = refl
+
+module _ (book : Book) (T : List Row) (u : ℕ) where
+  any-hit : (k i : ℕ) → claims book (rowOf T i) u ≡ true → anyClaims book T u (suc k) i ≡ true
+  unfolding anyClaims
+  any-hit k i h = rw (h, anyClaims)
+
+  any-on : (k i : ℕ) → claims book (rowOf T i) u ≡ false → anyClaims book T u (suc k) i ≡ anyClaims book T u k (suc i)
+  unfolding anyClaims
+  any-on k i h = rw (h, anyClaims)
+
+  any-none : (i : ℕ) → anyClaims book T u 0 i ≡ false
+  unfolding anyClaims
+  any-none i = refl
+
+  -- the loop stands at row i of those above n
+  abbrev pub Asking : ℕ → ℕ → Type 0
+  Asking n i = anyClaims book T u (201 - i) i ≡ anyClaims book T u (200 - n) (suc n)
+
+  pub asking-start : (n : ℕ) → Asking n (n + 1)
+  asking-start n =
+      let a : 201 - (n + 1) ≡ 200 - n = omega arith in
+      let b : n + 1 ≡ suc n = omega arith in
+      rw (a, b)
+
+  pub asking-hit : (n i : ℕ) (t : Bool) → Asking n i → i ≤ 200 → t ≡ claims book (rowOf T i) u → t ≡ true → true ≡ anyClaims book T u (200 - n) (suc n)
+  asking-hit n i t s h e y =
+      let a : 201 - i ≡ suc (200 - i) = omega arith in
+      sym (rw a (any-hit (200 - i) i (sym e ∙ y))) ∙ s
+
+  pub asking-on : (n i : ℕ) (t : Bool) → Asking n i → i ≤ 200 → t ≡ claims book (rowOf T i) u → t ≡ false → Asking n (i + 1)
+  asking-on n i t s h e y =
+      let a : 201 - i ≡ suc (201 - (i + 1)) = omega arith in
+      let b : i + 1 ≡ suc i = omega arith in
+      let q : anyClaims book T u (suc (201 - (i + 1))) i ≡ anyClaims book T u (201 - (i + 1)) (suc i) = any-on (201 - (i + 1)) i (sym e ∙ y) in
+      ap (anyClaims book T u (201 - (i + 1))) b ∙ sym q ∙ ap (λ k. anyClaims book T u k i) (sym a) ∙ s
+
+  pub asking-end : (n i : ℕ) → Asking n i → 200 < i → false ≡ anyClaims book T u (200 - n) (suc n)
+  asking-end n i s h =
+      let a : 201 - i ≡ 0 = omega arith in
+      sym (rw a (any-none i)) ∙ s

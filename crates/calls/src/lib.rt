@@ -1,0 +1,414 @@
+// The open calls, and what calls found, in a lent slice of numbers. Document 01, "The run".
+//
+// The slice is a table of 201 rows, one for each level of nesting, of 522 numbers each. A row's number is the levels of nesting left: the outermost call
+// has row 200. A row is eight numbers (live, nonterminal, scope, start, level, associativity, child, asked) and two sets: what the call has stored or found,
+// and what the run at hand has found. Every slice of 104,922 numbers gives a table (`table` of specs/Table.antt), so nothing needs to be cleared: a row
+// is written before it is read.
+//
+// Each function equals the definition of the same name in the model of the crate rows (specs/Rows.antt and specs/Model.antt there), on the table that the slice
+// gives, and changes one row of it. It asks only that the slice has 104,922 numbers and that its rows are at most 200.
+//
+// The crate relies on the definitions of book, rules and rows, and assumes nothing. specs/ has the definitions (Table) and laws.
+ghost use mathlib.Core.Path.{_≡_};
+ghost use mathlib.Core.List.{[], _∷_};
+ghost use Prim.Native.Nat.{suc, _+_, _-_, _<_, _≤_};
+ghost use lib.ListN.{getD, length};
+ghost use Rattle.book.specs.Book.{associativityNumber};
+ghost use Rattle.book.specs.Check.{associativityOf};
+ghost use Rattle.book.specs.Index.{bookIn};
+ghost use Rattle.rules.specs.Uses.{hasMark, minimumOf};
+ghost use Rattle.rules.specs.Run.{allIn, kept};
+ghost use Rattle.sets.specs.Sets.{parseOf, noParse};
+ghost use Rattle.rows.specs.Rows as model;
+ghost use Rattle.rows.specs.Rows.{rowOf, onRow, useAt, withSet};
+ghost use Rattle.calls.specs.Table.{table, field, fieldOf, RunAdded, RunJoined, governorIn, answeredIn, SettledFirst, SettledNext};
+use book::Associativity;
+use book::Mark;
+use sets::Parse;
+
+// the outermost call's row; "nesting beyond 200" is a limit
+const LEVELS: usize = 200;
+
+// the numbers of a row
+const LIVE: usize = 0;
+
+const NONTERMINAL: usize = 1;
+
+const SCOPE: usize = 2;
+
+const START: usize = 3;
+
+const LEVEL: usize = 4;
+
+const ASSOCIATIVITY: usize = 5;
+
+const CHILD: usize = 6;
+
+const ASKED: usize = 7;
+
+// its sets
+const SET: usize = 8;
+
+const RUN: usize = 265;
+
+const WIDTH: usize = 522;
+
+// What the governor of a use says: the minimum, or, for a child at the governor's own start, the governor's row.
+pub enum Governor {
+    Minimum(usize),
+    SameStart(usize),
+}
+
+// How a run leaves its call.
+pub enum Settled {
+    // with no parse
+    Failed,
+    // with the call's set whole
+    Over,
+    // with stored parses that a further run may add to
+    Again,
+    // with a 65th parse
+    Full,
+}
+
+// ---- Numbers of a row
+fn get(rows: &[u32], row: usize, number: usize) -> u32
+    requires { ⌜ (row ≤ 200) × (number < 8) × (104922 ≤ length (now rows)) ⌝ }
+    ensures { λ r. ⌜ r ≡ fieldOf number (rowOf (table (now (rows .entry))) row) ⌝ }
+{
+    rows[row * WIDTH + number]
+}
+
+fn put(rows: &mut [u32], row: usize, number: usize, x: u32)
+    requires { ⌜ (row ≤ 200) × (number < 8) × (104922 ≤ length (now rows)) ⌝ }
+    ensures { λ _. ⌜ table (now (rows .exit)) ≡ onRow (table (now (rows .entry))) row (field number x) ⌝ }
+{
+    rows[row * WIDTH + number] = x;
+}
+
+pub fn nonterminal_of(rows: &[u32], row: usize) -> u32
+    requires { ⌜ (row ≤ 200) × (104922 ≤ length (now rows)) ⌝ }
+    ensures { λ r. ⌜ r ≡ rowOf (table (now (rows .entry))) row .nonterminal ⌝ }
+{
+    get(rows, row, NONTERMINAL)
+}
+
+pub fn start_of(rows: &[u32], row: usize) -> u32
+    requires { ⌜ (row ≤ 200) × (104922 ≤ length (now rows)) ⌝ }
+    ensures { λ r. ⌜ r ≡ rowOf (table (now (rows .entry))) row .start ⌝ }
+{
+    get(rows, row, START)
+}
+
+// ---- Sets of a row
+pub fn clear_set(rows: &mut [u32], row: usize)
+    requires { ⌜ (row ≤ 200) × (104922 ≤ length (now rows)) ⌝ }
+    ensures { λ _. ⌜ table (now (rows .exit)) ≡ onRow (table (now (rows .entry))) row (withSet []) ⌝ }
+{
+    sets::clear(rows, row * WIDTH + SET);
+}
+
+pub fn clear_run(rows: &mut [u32], row: usize)
+    requires { ⌜ (row ≤ 200) × (104922 ≤ length (now rows)) ⌝ }
+    ensures { λ _. ⌜ table (now (rows .exit)) ≡ onRow (table (now (rows .entry))) row (model.withRun []) ⌝ }
+{
+    sets::clear(rows, row * WIDTH + RUN);
+}
+
+// A row's set becomes one parse.
+pub fn put_one(rows: &mut [u32], row: usize, p: Parse)
+    requires { ⌜ (row ≤ 200) × (104922 ≤ length (now rows)) ⌝ }
+    ensures { λ _. ⌜ table (now (rows .exit)) ≡ onRow (table (now (rows .entry))) row (withSet (parseOf p ∷ [])) ⌝ }
+{
+    sets::clear(rows, row * WIDTH + SET);
+    sets::append(rows, row * WIDTH + SET, p);
+}
+
+// The row's set becomes what its run found.
+pub fn copy_run(rows: &mut [u32], row: usize)
+    requires { ⌜ (row ≤ 200) × (104922 ≤ length (now rows)) ⌝ }
+    ensures { λ _. ⌜ table (now (rows .exit)) ≡ onRow (table (now (rows .entry))) row model.copied ⌝ }
+{
+    sets::copy(rows, row * WIDTH + SET, row * WIDTH + RUN);
+}
+
+// How many parses a row found.
+pub fn found(rows: &[u32], row: usize) -> usize
+    requires { ⌜ (row ≤ 200) × (104922 ≤ length (now rows)) ⌝ }
+    ensures { λ r. ⌜ r ≡ length (rowOf (table (now (rows .entry))) row .set) ⌝ }
+{
+    sets::size(rows, row * WIDTH + SET)
+}
+
+// The i-th parse that a row found, and a parse of zeros past the last.
+pub fn item(rows: &[u32], row: usize, i: usize) -> Parse
+    requires { ⌜ (row ≤ 200) × (104922 ≤ length (now rows)) ⌝ }
+    ensures { λ r. ⌜ parseOf r ≡ getD (rowOf (table (now (rows .entry))) row .set) i noParse ⌝ }
+{
+    sets::item(rows, row * WIDTH + SET, i)
+}
+
+// A parse joins the run's set; false for a 65th.
+pub fn add_run(rows: &mut [u32], row: usize, p: Parse) -> bool
+    requires { ⌜ (row ≤ 200) × (104922 ≤ length (now rows)) ⌝ }
+    ensures { λ r. ⌜ RunAdded r (table (now (rows .entry))) (table (now (rows .exit))) row (parseOf p) ⌝ }
+{
+    sets::add(rows, row * WIDTH + RUN, p)
+}
+
+// The run added nothing to the row's set.
+pub fn run_in_set(rows: &[u32], row: usize) -> bool
+    requires { ⌜ (row ≤ 200) × (104922 ≤ length (now rows)) ⌝ }
+    ensures { λ r. ⌜ r ≡ allIn (rowOf (table (now (rows .entry))) row .set) (rowOf (table (now (rows .entry))) row .run) ⌝ }
+{
+    sets::all_in(rows, row * WIDTH + SET, row * WIDTH + RUN)
+}
+
+// The run's set joins the row's set; false for a 65th.
+pub fn add_run_to_set(rows: &mut [u32], row: usize) -> bool
+    requires { ⌜ (row ≤ 200) × (104922 ≤ length (now rows)) ⌝ }
+    ensures { λ r. ⌜ RunJoined r (table (now (rows .entry))) (table (now (rows .exit))) row ⌝ }
+{
+    sets::add_all(rows, row * WIDTH + SET, row * WIDTH + RUN)
+}
+
+// ---- Open calls
+// The call of a row is opened; the base has one scope, 0.
+pub fn open_call(rows: &mut [u32], row: usize, nonterminal: u32, at: u32)
+    requires { ⌜ (row ≤ 200) × (104922 ≤ length (now rows)) ⌝ }
+    ensures { λ _. ⌜ table (now (rows .exit)) ≡ onRow (table (now (rows .entry))) row (model.opened nonterminal at) ⌝ }
+{
+    put(rows, row, LIVE, 1);
+    put(rows, row, NONTERMINAL, nonterminal);
+    put(rows, row, SCOPE, 0);
+    put(rows, row, START, at);
+    put(rows, row, ASKED, 0);
+    clear_set(rows, row);
+}
+
+// The call of a row is over.
+pub fn end_call(rows: &mut [u32], row: usize)
+    requires { ⌜ (row ≤ 200) × (104922 ≤ length (now rows)) ⌝ }
+    ensures { λ _. ⌜ table (now (rows .exit)) ≡ onRow (table (now (rows .entry))) row model.ended ⌝ }
+{
+    put(rows, row, LIVE, 0);
+}
+
+fn associativity_number(associativity: Associativity) -> u32
+    ensures { λ r. ⌜ r ≡ associativityNumber associativity ⌝ }
+{
+    match associativity {
+        Associativity::Left => 0,
+        Associativity::Right => 1,
+        Associativity::None => 2,
+        Associativity::Both => 3,
+    }
+}
+
+// The call of a row takes a variant.
+pub fn take_variant(rows: &mut [u32], row: usize, level: u32, associativity: Associativity)
+    requires { ⌜ (row ≤ 200) × (104922 ≤ length (now rows)) ⌝ }
+    ensures { λ _. ⌜ table (now (rows .exit)) ≡
+        onRow (table (now (rows .entry))) row (model.withVariant level (associativityNumber associativity)) ⌝ }
+{
+    put(rows, row, LEVEL, level);
+    put(
+        rows,
+        row,
+        ASSOCIATIVITY,
+        associativity_number(associativity),
+    );
+}
+
+// The current child of a row's call begins at a place.
+pub fn put_child(rows: &mut [u32], row: usize, child: u32)
+    requires { ⌜ (row ≤ 200) × (104922 ≤ length (now rows)) ⌝ }
+    ensures { λ _. ⌜ table (now (rows .exit)) ≡ onRow (table (now (rows .entry))) row (model.withChild child) ⌝ }
+{
+    put(rows, row, CHILD, child);
+}
+
+// The stored parses of a row's call were asked for.
+pub fn mark(rows: &mut [u32], row: usize)
+    requires { ⌜ (row ≤ 200) × (104922 ≤ length (now rows)) ⌝ }
+    ensures { λ _. ⌜ table (now (rows .exit)) ≡ onRow (table (now (rows .entry))) row model.wasAsked ⌝ }
+{
+    put(rows, row, ASKED, 1);
+}
+
+// ---- Governors
+fn associativity_of(number: u32) -> Associativity
+    ensures { λ r. ⌜ r ≡ associativityOf number ⌝ }
+{
+    match number {
+        0 => Associativity::Left,
+        1 => Associativity::Right,
+        2 => Associativity::None,
+        _ => Associativity::Both,
+    }
+}
+
+fn minimum_of(associativity: Associativity, level: u32) -> usize
+    ensures { λ r. ⌜ r ≡ minimumOf associativity level ⌝ }
+{
+    match associativity {
+        Associativity::Left => level as usize + 1,
+        Associativity::Right => level as usize,
+        Associativity::None => level as usize + 1,
+        Associativity::Both => 0,
+    }
+}
+
+// The call of a row is open, of the nonterminal and the base's scope, and its current child begins at u.
+fn governs(rows: &[u32], row: usize, nonterminal: u32, u: u32) -> bool
+    requires { ⌜ (row ≤ 200) × (104922 ≤ length (now rows)) ⌝ }
+    ensures { λ r. ⌜ r ≡ model.governs (rowOf (table (now (rows .entry))) row) nonterminal u ⌝ }
+{
+    if get(rows, row, LIVE) != 1 {
+        return false;
+    }
+    if get(rows, row, NONTERMINAL) != nonterminal {
+        return false;
+    }
+    if get(rows, row, SCOPE) != 0 {
+        return false;
+    }
+    get(rows, row, CHILD) == u
+}
+
+// The newest row above n that governs, or 201.
+fn newest_governor(rows: &[u32], n: usize, nonterminal: u32, u: u32) -> usize
+    requires { ⌜ (n ≤ 200) × (104922 ≤ length (now rows)) ⌝ }
+    ensures { λ r. ⌜ r ≡ model.newestGovernor (table (now (rows .entry))) nonterminal u (200 - n) (suc n) ⌝ }
+{
+    let mut row = n + 1;
+    while row <= LEVELS {
+        if governs(rows, row, nonterminal, u) {
+            return row;
+        }
+        row += 1;
+    }
+    row
+}
+
+// The governor of a use of the nonterminal at u, in row n.
+pub fn governor_of(rows: &[u32], n: usize, nonterminal: u32, u: u32) -> Governor
+    requires { ⌜ (n ≤ 200) × (104922 ≤ length (now rows)) ⌝ }
+    ensures { λ r. ⌜ governorIn r ≡ model.governorOf (table (now (rows .entry))) n nonterminal u ⌝ }
+{
+    let row = newest_governor(rows, n, nonterminal, u);
+    if LEVELS < row {
+        return Governor::Minimum(0);
+    }
+    if get(rows, row, START) == u {
+        return Governor::SameStart(row);
+    }
+    let associativity = associativity_of(get(rows, row, ASSOCIATIVITY));
+    Governor::Minimum(minimum_of(associativity, get(rows, row, LEVEL)))
+}
+
+// The set of row `into` becomes what the use of row `from` keeps of that row's set.
+pub fn kept_of(rows: &mut [u32], into: usize, from: usize)
+    requires { ⌜ (into < from) × (from ≤ 200) × (104922 ≤ length (now rows)) ⌝ }
+    ensures { λ _. ⌜ table (now (rows .exit)) ≡ onRow (table (now (rows .entry))) into
+        (withSet (kept (useAt (rowOf (table (now (rows .entry))) from)) (rowOf (table (now (rows .entry))) from .set))) ⌝ }
+{
+    let associativity = associativity_of(get(rows, from, ASSOCIATIVITY));
+    let level = get(rows, from, LEVEL);
+    sets::kept(
+        rows,
+        into * WIDTH + SET,
+        from * WIDTH + SET,
+        associativity,
+        level,
+    );
+}
+
+// What row n found are the parses that its governor has stored, filtered; the governor is asked.
+pub fn answer(rows: &mut [u32], n: usize, governor: usize)
+    requires { ⌜ (n < governor) × (governor ≤ 200) × (104922 ≤ length (now rows)) ⌝ }
+    ensures { λ _. ⌜ table (now (rows .exit)) ≡ answeredIn (table (now (rows .entry))) n governor ⌝ }
+{
+    mark(rows, governor);
+    kept_of(rows, n, governor);
+    end_call(rows, n);
+}
+
+// ---- The end of a run
+// After the first run: its set is the call's. "If a first run found parses and asked for the call's stored ones, .. it is run again"
+pub fn settle_first(rows: &mut [u32], row: usize) -> Settled
+    requires { ⌜ (row ≤ 200) × (104922 ≤ length (now rows)) ⌝ }
+    ensures { λ r. ⌜ SettledFirst r (table (now (rows .entry))) (table (now (rows .exit))) row ⌝ }
+{
+    copy_run(rows, row);
+    if found(rows, row) == 0 {
+        end_call(rows, row);
+        return Settled::Failed;
+    }
+    if get(rows, row, ASKED) == 1 {
+        return Settled::Again;
+    }
+    end_call(rows, row);
+    Settled::Over
+}
+
+// After a further run: "until a run fails or adds nothing".
+pub fn settle(rows: &mut [u32], row: usize) -> Settled
+    requires { ⌜ (row ≤ 200) × (104922 ≤ length (now rows)) ⌝ }
+    ensures { λ r. ⌜ SettledNext r (table (now (rows .entry))) (table (now (rows .exit))) row ⌝ }
+{
+    if run_in_set(rows, row) {
+        end_call(rows, row);
+        return Settled::Over;
+    }
+    if add_run_to_set(rows, row) {
+        Settled::Again
+    } else {
+        Settled::Full
+    }
+}
+
+// ---- Claims
+fn is_variable(book: &[u8], index: &[usize], nonterminal: usize) -> bool
+    ensures { λ r. ⌜ r ≡ hasMark (bookIn (now (book .entry)) (now (index .entry))) 1 nonterminal ⌝ }
+{
+    let called = book::nonterminal(book, index, nonterminal);
+    let mark = called.mark;
+    match mark {
+        Mark::Plain => false,
+        Mark::Variable => true,
+        Mark::Identifier => false,
+    }
+}
+
+// The call of a row is open, of mark 1 and the base's scope, and begins at u.
+fn claims(book: &[u8], index: &[usize], rows: &[u32], row: usize, u: u32) -> bool
+    requires { ⌜ (row ≤ 200) × (104922 ≤ length (now rows)) ⌝ }
+    ensures { λ r. ⌜ r ≡ model.claims (bookIn (now (book .entry)) (now (index .entry))) (rowOf (table (now (rows .entry))) row) u ⌝ }
+{
+    if get(rows, row, LIVE) != 1 {
+        return false;
+    }
+    if get(rows, row, START) != u {
+        return false;
+    }
+    if get(rows, row, SCOPE) != 0 {
+        return false;
+    }
+    is_variable(book, index, get(rows, row, NONTERMINAL) as usize)
+}
+
+// A call above row n claims.
+pub fn any_claims(book: &[u8], index: &[usize], rows: &[u32], n: usize, u: u32) -> bool
+    requires { ⌜ (n ≤ 200) × (104922 ≤ length (now rows)) ⌝ }
+    ensures { λ r. ⌜ r ≡ model.anyClaims (bookIn (now (book .entry)) (now (index .entry))) (table (now (rows .entry))) u (200 - n) (suc n) ⌝ }
+{
+    let mut row = n + 1;
+    while row <= LEVELS {
+        if claims(book, index, rows, row, u) {
+            return true;
+        }
+        row += 1;
+    }
+    false
+}
