@@ -21,30 +21,31 @@ use Rattle.rules.specs.Uses.{hasMark}
 use Rattle.rules.specs.Steps.{stepsOf}
 
 -- ---- What was read, taken apart
-refused-accepted : {A : Type 0} {number place end : ℕ} {x : A} → refused number place ≡ accepted x end → ⊥
+pub refused-accepted : {A : Type 0} {number place end : ℕ} {x : A} → refused number place ≡ accepted x end → ⊥
 refused-accepted e = let z : _≡_ {A = ℕ} 0 1 = cc in omega arith
 
-accepted-inj : {A : Type 0} {x y : A} {p q : ℕ} → accepted x p ≡ accepted y q → x ≡ y
+pub accepted-inj : {A : Type 0} {x y : A} {p q : ℕ} → accepted x p ≡ accepted y q → x ≡ y
 accepted-inj e = cc
 
 -- two parts were read, the second from where the first ended
-by-then : {A B P : Type 0} (c : Checked A) (f : A → ℕ → Checked B) {y : B} {end : ℕ} → andThen c f ≡ accepted y end →
+pub by-then : {A B P : Type 0} (c : Checked A) (f : A → ℕ → Checked B) {y : B} {end : ℕ} → andThen c f ≡ accepted y end →
     ((x : A) (at : ℕ) → c ≡ accepted x at → f x at ≡ accepted y end → P) → P
 by-then (refused number place) f e k = absurd (refused-accepted e)
 by-then (accepted x at) f e k = k x at refl e
 
 -- a field was read, and then what follows it
-by-field : {B P : Type 0} (fits : ℕ → Bool) (bytes : List ℕ) (place : ℕ) (f : ℕ → ℕ → Checked B) {y : B} {end : ℕ} →
+pub by-field : {B P : Type 0} (fits : ℕ → Bool) (bytes : List ℕ) (place : ℕ) (f : ℕ → ℕ → Checked B) {y : B} {end : ℕ} →
     andThen (field fits bytes place) f ≡ accepted y end → ((v at : ℕ) → fits v ≡ true → f v at ≡ accepted y end → P) → P
 by-field fits bytes place f e k = by-then (field fits bytes place) f e (λ v at told next. k v at (checked-told fits 6 place bytes place v at told .fitted) next)
 
--- a section was read, and then what follows it
-by-section : {A B P : Type 0} (fits : ℕ → Bool) (size : A → ℕ) (one : ℕ → Reader A) (bytes : List ℕ) (place : ℕ) (f : List A → ℕ → Checked B)
+-- a section was read, whose count passed the test, and then what follows it
+pub by-section : {A B P : Type 0} (fits : ℕ → Bool) (size : A → ℕ) (one : ℕ → Reader A) (bytes : List ℕ) (place : ℕ) (f : List A → ℕ → Checked B)
     {y : B} {end : ℕ} → andThen (section fits size one bytes place) f ≡ accepted y end →
-    ((n start : ℕ) (xs : List A) (at : ℕ) → row size one n 0 bytes start ≡ accepted xs at → f xs at ≡ accepted y end → P) → P
+    ((n start : ℕ) (xs : List A) (at : ℕ) → fits n ≡ true → row size one n 0 bytes start ≡ accepted xs at → f xs at ≡ accepted y end → P) → P
 by-section fits size one bytes place f e k =
     by-then (section fits size one bytes place) f e (λ xs at told next.
-    by-then (count fits bytes place) (λ n start. row size one n 0 bytes start) told (λ n start counted read. k n start xs at read next))
+    by-then (count fits bytes place) (λ n start. row size one n 0 bytes start) told (λ n start counted read.
+    k n start xs at (checked-told fits 4 place bytes place n start counted .fitted) read next))
 
 -- What holds of every record that `one` reads holds of all records of a row; d stands for one that the row doesn't have
 module _ {A : Type 0} (size : A → ℕ) (one : ℕ → Reader A) (P : A → Type 0) (bytes : List ℕ)
@@ -109,11 +110,11 @@ record Facts (book : Book) : Type 0 where
 whole-facts : (bytes : List ℕ) (book : Book) (end : ℕ) → whole bytes 0 ≡ accepted book end → Facts book
 unfolding whole
 whole-facts bytes book end e =
-    by-section _ _ _ bytes 0 _ e (λ _ _ words at₁ _ e₁.
-    by-section _ _ _ bytes at₁ _ e₁ (λ _ _ names at₂ _ e₂.
-    by-section _ _ _ bytes at₂ _ e₂ (λ n start nonterminals at₃ read e₃.
-    by-section _ _ _ bytes at₃ _ e₃ (λ _ _ variants at₄ _ e₄.
-    by-section _ _ _ bytes at₄ _ e₄ (λ _ _ steps at₅ _ e₅.
+    by-section _ _ _ bytes 0 _ e (λ _ _ words at₁ _ _ e₁.
+    by-section _ _ _ bytes at₁ _ e₁ (λ _ _ names at₂ _ _ e₂.
+    by-section _ _ _ bytes at₂ _ e₂ (λ n start nonterminals at₃ _ read e₃.
+    by-section _ _ _ bytes at₃ _ e₃ (λ _ _ variants at₄ _ _ e₄.
+    by-section _ _ _ bytes at₄ _ e₄ (λ _ _ steps at₅ _ _ e₅.
     by-then (allPass steps variants bytes at₅) _ e₅ (λ _ at₆ passed e₆.
     by-then (ended bytes at₆) _ e₆ (λ _ _ _ all.
     subst Facts (accepted-inj all) (record {

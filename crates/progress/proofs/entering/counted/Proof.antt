@@ -1,0 +1,39 @@
+-- `progress::counted` meets its contract.
+use mathlib.Core.Path.{refl}
+use borrow.Author.Needs.{needs}
+use Rattle.book.specs.Index.{bookIn}
+use Rattle.progress.specs.EndingLaws.{counted-limit, counted-done}
+use Rattle.progress.proofs.entering.counted.Statement.{statement}
+use Rattle.progress.proofs.entering.counted.Tie as tie
+
+returns : tie.Need-returns
+returns c =
+    let args = c .before .before .before .before .args in
+    counted-limit (bookIn (args .book .now) (args .index .now)) (args .j) (args .start) (args .before) (args .o) _ (c .if1 .taken) refl
+
+variant-requires : tie.Need-variant-requires
+variant-requires c κs = search needs
+
+counted-requires : tie.Need-counted-requires
+counted-requires c κs = search needs
+
+join-with-requires : tie.Need-join-with-requires
+join-with-requires c κs = search needs
+
+done-requires : tie.Need-done-requires
+done-requires c κs = search needs
+
+returns-2 : tie.Need-returns-2
+returns-2 c =
+    let args = c .before .before .before .before .before .before .before .before .args in
+    let if1 = c .before .before .before .before .if1 in
+    let variant = c .before .before .before .variant in
+    let counted = c .before .before .counted in
+    let join-with = c .before .join-with in
+    counted-done (bookIn (args .book .now) (args .index .now)) (args .j) (args .start) (args .before) (args .o) _ _ (counted .result)
+    (join-with .result) (if1 .left) (variant .ensures) (counted .ensures) (join-with .ensures) (c .done .ensures)
+
+pub counted-spec : {M : Type 1} → statement M
+counted-spec =
+    tie.close
+    (tie.spec returns variant-requires counted-requires join-with-requires done-requires returns-2)

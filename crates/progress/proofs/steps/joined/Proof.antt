@@ -1,0 +1,33 @@
+-- `progress::joined` meets its contract.
+use borrow.Author.Needs.{needs}
+use Rattle.progress.specs.NextLaws.{joined-limit, joined-first, joined-both}
+use Rattle.progress.proofs.steps.joined.Statement.{statement}
+use Rattle.progress.proofs.steps.joined.Tie as tie
+
+returns : tie.Need-returns
+returns c =
+    let args = c .before .before .args in
+    joined-limit (args .i) (args .before) (args .o) (c .if1 .taken)
+
+returns-2 : tie.Need-returns-2
+returns-2 c =
+    let args = c .before .before .before .args in
+    let if1 = c .before .if1 in
+    joined-first (args .i) (args .before) (args .o) (if1 .left) (c .if2 .taken)
+
+either-requires : tie.Need-either-requires
+either-requires c κs = search needs
+
+done-requires : tie.Need-done-requires
+done-requires c κs = search needs
+
+returns-3 : tie.Need-returns-3
+returns-3 c =
+    let args = c .before .before .before .before .before .args in
+    let if1 = c .before .before .before .if1 in
+    let if2 = c .before .before .if2 in
+    let either = c .before .either in
+    joined-both (args .i) (args .before) (args .o) _ _ (if1 .left) (if2 .left) (either .ensures) (c .done .ensures)
+
+pub joined-spec : {M : Type 1} → statement M
+joined-spec = tie.close (tie.spec returns returns-2 either-requires done-requires returns-3)

@@ -1,0 +1,180 @@
+-- Laws for what a call does after a run, and for its variants: one for each way out of a function, over the values that the function has there.
+use mathlib.Core.Path.{_≡_, sym, ap, subst, _∙_}
+use mathlib.Core.Bool.{true, false}
+use mathlib.Core.List.{List}
+use mathlib.Core.Option.{Option, some}
+use Prim.Native.Nat.{ℕ}
+use native.Mathlib.Omega.{arith}
+use lib.Dec.{eqb}
+use borrow.Author.Tests.{eqb-true, eqb-false}
+use Rattle.characters.specs.Cases.{by-test}
+use Rattle.book.specs.Book.{Book, variantNumber, associativityNumber}
+use Rattle.book.specs.declared.records.Variant.{Variant}
+use Rattle.rules.specs.Errors.{Error, joinWith}
+use Rattle.rules.specs.Cells.{Cell}
+use Rattle.rules.specs.Run as run
+use Rattle.rules.specs.Run.{Result, ok, _>>=_}
+use Rattle.rows.specs.Rows.{Row, rowOf, onRow, withVariant}
+use Rattle.rows.specs.Model.{RowState, rowState, Outcome, outcome, bareCall}
+use Rattle.calls.specs.Table.{SettledFirst, SettledNext}
+use Rattle.calls.specs.declared.Settled.{Settled}
+use Rattle.tokens.specs.Failures as failures
+use Rattle.tokens.specs.Failures.{counted-run, failedCall-run}
+use Rattle.tokens.specs.Maps.{errorOf, failureOf}
+use Rattle.tokens.specs.declared.errors.Error as code
+use Rattle.tokens.specs.declared.errors.Failure.{Failure}
+use Rattle.progress.specs.declared.outcomes.Outcome as outcomes
+use Rattle.progress.specs.declared.outcomes.State.{State}
+use Rattle.progress.specs.declared.items.Made.{Made}
+use Rattle.progress.specs.declared.entering.Ended.{Ended}
+use Rattle.progress.specs.declared.steps.Reached.{Reached}
+use Rattle.progress.specs.Outcomes.{cellsOf, given, Runs, MadeBy}
+use Rattle.progress.specs.Steps.{resumes, doesRows}
+use Rattle.progress.specs.Entering.{goesAgain, EndedBy, FirstEnded, RoundEnded, Begins, Counted}
+use Rattle.progress.specs.OutcomeLaws.{given-ok, given-met, cell-ok, cell-met}
+use Rattle.progress.specs.ResumeLaws.{limitOf, doneWith, bind-met, bind-ok}
+use Rattle.progress.specs.GivenLaws.{given-done, makes-met, makes-ok}
+
+-- ---- Runs
+abbrev pub stops : outcomes.Outcome → Ended
+stops o = record { again = false; outcome = o }
+
+module _ (T : List Row) (n : ℕ) (failure : Failure) (s : State) (o : outcomes.Outcome) (e : Ended) where
+  pub ended-failed : (how : Settled) (start N : ℕ) (x : code.Error) → how ≡ Settled.Failed → start ≡ rowOf T n .start → N ≡ rowOf T n .nonterminal →
+      errorOf x ≡ failures.failedCall start N (failureOf failure) → o ≡ doneWith (Failure.At x) s → e ≡ stops o → EndedBy T n how failure s e
+  unfolding goesAgain
+  ended-failed how start N x h eu en ex eo ee =
+      record {
+        is = λ again cells.
+            rw (h, ee)
+            (given-done o (Failure.At x) s cells T eo
+            ∙ ap (λ (y : Error). ok (outcome (some y) (rowState (s .units) cells T)))
+            (ex ∙ rw (eu, en) (sym (failedCall-run (bareCall (rowOf T n .nonterminal) (rowOf T n .start)) (failureOf failure)))));
+        cells = ap (λ e. e .outcome .state .cells) ee ∙ ap (λ o. o .state .cells) eo;
+      }
+
+  pub ended-over : (how : Settled) → how ≡ Settled.Over → o ≡ doneWith Failure.Nothing s → e ≡ stops o → EndedBy T n how failure s e
+  unfolding goesAgain
+  ended-over how h eo ee =
+      record {
+        is = λ again cells. rw (h, ee) (given-done o Failure.Nothing s cells T eo);
+        cells = ap (λ e. e .outcome .state .cells) ee ∙ ap (λ o. o .state .cells) eo;
+      }
+
+  pub ended-full : (how : Settled) → how ≡ Settled.Full → o ≡ limitOf 22 s → e ≡ stops o → EndedBy T n how failure s e
+  unfolding goesAgain
+  ended-full how h eo ee =
+      record {
+        is = λ again cells. rw (h, ee, eo) (given-met (limitOf 22 s) cells T (λ z. omega (arith, z)));
+        cells = ap (λ e. e .outcome .state .cells) ee ∙ ap (λ o. o .state .cells) eo;
+      }
+
+  pub ended-again : (how : Settled) → how ≡ Settled.Again → o ≡ doneWith Failure.Nothing s → e ≡ record { again = true; outcome = o } → EndedBy T n how failure s e
+  unfolding goesAgain
+  ended-again how h eo ee =
+      record {
+        is = λ again cells. rw (h, ee, eo);
+        cells = ap (λ e. e .outcome .state .cells) ee ∙ ap (λ o. o .state .cells) eo;
+      }
+
+module _ (T : List Row) (n : ℕ) (o : outcomes.Outcome) (e : Ended) where
+  limit-ends : (again : RowState → Result Outcome) (F : Outcome → Result Outcome) (cells : List Cell) → (o .limit ≡ 0 → ⊥) → e ≡ stops o →
+      goesAgain again e cells T ≡ (given o cells T >>= F)
+  unfolding goesAgain
+  limit-ends again F cells h ee = let k = given-met o cells T h in rw ee (k ∙ sym (bind-met F k))
+
+  pub first-limit : (o .limit ≡ 0 → ⊥) → e ≡ stops o → FirstEnded T T n o e
+  first-limit h ee =
+      record { is = λ book text again cells. limit-ends again _ cells h ee; cells = ap (λ e. e .outcome .state .cells) ee }
+
+  pub round-limit : (o .limit ≡ 0 → ⊥) → e ≡ stops o → RoundEnded T T n o e
+  round-limit h ee =
+      record { is = λ book text again cells. limit-ends again _ cells h ee; cells = ap (λ e. e .outcome .state .cells) ee }
+
+  pub first-settled : (U : List Row) (how : Settled) → o .limit ≡ 0 → SettledFirst how T U n → EndedBy U n how (o .failure) (o .state) e → FirstEnded T U n o e
+  first-settled U how h settled ended =
+      record {
+        is = λ book text again cells.
+            ended .is again cells
+            ∙ sym (settled .now book text again (failureOf (o .failure)) (o .state .units) cells)
+            ∙ sym (bind-ok _ (given-ok o cells T h));
+        cells = ended .cells;
+      }
+
+  pub round-settled : (U : List Row) (how : Settled) → o .limit ≡ 0 → SettledNext how T U n → EndedBy U n how (o .failure) (o .state) e → RoundEnded T U n o e
+  round-settled U how h settled ended =
+      record {
+        is = λ book text again cells.
+            ended .is again cells
+            ∙ sym (settled .now book text again (failureOf (o .failure)) (o .state .units) cells)
+            ∙ sym (bind-ok _ (given-ok o cells T h));
+        cells = ended .cells;
+      }
+
+-- ---- Variants
+-- a variant begins at a place: its outcome, the place and its items
+abbrev pub reached : Made → ℕ → Reached
+reached m start = record { outcome = limitOf (m .limit) (m .state); at = start; items = m .cell }
+
+module _ (book : Book) (text before after : List ℕ) (T U : List Row) (n j : ℕ) (s : State) (m : Made) (em : MadeBy text before after s m (run.begin book text j)) where
+  begun : (start : ℕ) → start ≡ rowOf T n .start →
+      U ≡ onRow T n (withVariant (variantNumber book j .level) (associativityNumber (variantNumber book j .associativity))) →
+      Begins book text before after T U n j s (reached m start)
+  unfolding resumes doesRows _>>=_
+  begun start es eu = λ held.
+      let q = em held in
+      let cells = cellsOf before (s .cells) in
+      let new = cellsOf after (m .state .cells) in
+      record {
+        is = λ inner k rest.
+            by-test (eqb (m .limit) 0)
+            (λ t.
+            let h = eqb-true (m .limit) 0 t in
+            rw (
+              given-ok (limitOf (m .limit) (m .state)) new U h,
+              makes-ok (run.begin book text j) (rowState (s .units) cells T) _ (sym (q .is) ∙ cell-ok m new h),
+              es,
+              eu,
+            ))
+            (λ t.
+            let h = eqb-false (m .limit) 0 t in
+            rw (
+              given-met (limitOf (m .limit) (m .state)) new U h,
+              makes-met (run.begin book text j) (rowState (s .units) cells T) _ _ (sym (q .is) ∙ cell-met m new h),
+            ));
+        held = q .held;
+        start = es;
+      }
+
+  pub variant-begins : (start : ℕ) (w : Variant) (r : Reached) → start ≡ rowOf T n .start → w ≡ variantNumber book j →
+      U ≡ onRow T n (withVariant (w .level) (associativityNumber (w .associativity))) → r ≡ reached m start → Begins book text before after T U n j s r
+  variant-begins start w r es ew eu er =
+      subst (λ (x : Reached). Begins book text before after T U n j s x) (sym er)
+      (begun start es (eu ∙ ap (λ (w : Variant). onRow T n (withVariant (w .level) (associativityNumber (w .associativity)))) ew))
+
+module _ (book : Book) (j start : ℕ) (before o r : outcomes.Outcome) where
+  pub counted-limit : (o .limit ≡ 0 → ⊥) → r ≡ o → Counted book j start before o r
+  counted-limit h e =
+      record {
+        is = λ text N cells T.
+            let k = given-met o cells T h in
+            ap (λ o. given o cells T) e ∙ k ∙ sym (bind-met _ k);
+        cells = ap (λ o. o .state .cells) e;
+      }
+
+  pub counted-done : (w : Variant) (x y : Failure) → o .limit ≡ 0 → w ≡ variantNumber book j →
+      failureOf x ≡ failures.counted (w .committed) start (failureOf (o .failure)) → failureOf y ≡ joinWith (failureOf (before .failure)) (failureOf x) →
+      r ≡ doneWith y (o .state) → Counted book j start before o r
+  counted-done w x y h ew ex ey er =
+      record {
+        is = λ text N cells T.
+            given-done r y (o .state) cells T er
+            ∙ ap (λ (z : Option Error). ok (outcome z (rowState (o .state .units) cells T)))
+            (ey
+            ∙ ap (joinWith (failureOf (before .failure)))
+            (ex
+            ∙ ap (λ (w : Variant). failures.counted (w .committed) start (failureOf (o .failure))) ew
+            ∙ sym (counted-run book text (bareCall N start) j (failureOf (o .failure)))))
+            ∙ sym (bind-ok _ (given-ok o cells T h));
+        cells = ap (λ o. o .state .cells) er;
+      }

@@ -1,0 +1,44 @@
+-- What the cycle's functions equal, where the model of the crate rows has no function of its own for it.
+use mathlib.Core.List.{List}
+use mathlib.Core.Option.{Option}
+use Prim.Native.Nat.{ℕ, _+_, _≤_, _<_}
+use lib.Dec.{leb}
+use lib.ListN.{length}
+use Rattle.book.specs.Book.{Book, variantNumber}
+use Rattle.rules.specs.Tokens.{when}
+use Rattle.rules.specs.Steps.{Todo, todoOf}
+use Rattle.rules.specs.Errors.{Error, joinWith}
+use Rattle.rules.specs.Run.{Result, ok, _>>=_, begin, counted}
+use Rattle.rows.specs.Rows.{rowOf}
+use Rattle.rows.specs.Model.{RowState, Outcome, outcome, RowRunner, makes, atRow, bareCall, takeVariant, followedRows, orChild}
+use Rattle.progress.specs.declared.steps.Next.{Next}
+use Rattle.progress.specs.declared.steps.Progress.{Progress}
+use Rattle.progress.specs.Steps.{todoFrom, nextRows, sideRows}
+
+-- a path's row is one of the table, and its steps are some of the book's, no more than a byte can say
+abbrev pub InRange : Book → Progress → Type 0
+InRange book here = (here .call ≤ 200) × (here .left ≤ 255) × (here .step + here .left ≤ length (book .steps))
+
+-- the steps that are left
+abbrev pub todoAt : Book → Progress → List (Todo ℕ)
+todoAt book here = todoFrom book (here .step) (here .left)
+
+-- one variant, after those before it failed with e; `variantsRows` are these one after the other
+unfoldable pub variantRows : Book → List ℕ → RowRunner → ℕ → ℕ → ℕ → Option Error → RowState → Result Outcome
+variantRows book text run c m j e s =
+    let r = rowOf (s .rows) c in
+    when (leb m (variantNumber book j .level))
+    (λ _.
+    makes (begin book text j) s >>= (λ b.
+    run c j (todoOf book (variantNumber book j)) (r .start) (b .cell) (atRow c (takeVariant book text j) (b .state)) >>= (λ o.
+    ok (outcome (joinWith e (counted book text (bareCall (r .nonterminal) (r .start)) j (o .failure))) (o .state)))))
+    (λ _. ok (outcome e s))
+
+-- what follows the parses of a child
+unfoldable pub followsRows : Book → List ℕ → Option RowRunner → ℕ → ℕ → ℕ → List (Todo ℕ) → Next → ℕ → Result Outcome → Result Outcome
+followsRows book text inner n c j rest next items z = z >>= (λ o. followedRows book text inner n (nextRows book text c j rest next items) o)
+
+-- both sides of a choice, whatever the nonterminal of the other side
+unfoldable pub sidesRows : Book → List ℕ → Option RowRunner → ℕ → ℕ → ℕ → List (Todo ℕ) → Next → ℕ → ℕ → ℕ → RowState → Result Outcome
+sidesRows book text inner n c j rest next M at items s =
+    sideRows book text inner n c j rest next at items s >>= (λ a. orChild book text inner n c M (nextRows book text c j rest next items) at a)

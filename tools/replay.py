@@ -1,0 +1,228 @@
+#!/usr/bin/env python3
+"""Runs the crate run on vectors, compiled, and compares every number; or times it.
+
+    python3 tools/replay.py VECTORS.jsonl ...
+
+compares, for each vector, the seven numbers of the answer and all numbers of both lists, with those beyond what a call writes, which must
+stay. It prints the first few vectors that differ, by file and line, each with the first number that does; then how many are equal and how many
+differ. The exit status is 1 if any differs. What a vector says of printing is not looked at.
+
+    python3 tools/replay.py --at O0,O3,checked,interpreter VECTORS.jsonl ...
+
+does so at -O0, at -O3 (this one alone without --at), with the compiler's assumptions checked, and on the interpreter. The interpreter stops
+after ten million steps, so it gets only up to three vectors of little work for each refusal.
+
+    python3 tools/replay.py --speed
+
+times calls at -O3, by tools/replay_speed.c.
+
+The crate run exports no call. The one in tools/replay/parse.rt is for this test alone and is not proved. It is compiled as a module of a copy
+of the crate, in a temporary folder; the other crates are compiled as they stand. Nothing is proved here.
+"""
+import argparse
+import glob
+import json
+import os
+import re
+import shutil
+import struct
+import subprocess
+import sys
+import tempfile
+
+ROOT = os.path.dirname(os.path.dirname(os.path.abspath(__file__)))
+KIT = os.environ.get("RATTLE_HOME") or os.path.dirname(os.path.dirname(os.path.realpath(shutil.which("rt") or sys.exit("no rt on the path"))))
+OWN = f"{KIT}/on/{os.uname().machine}"
+USES = ["run", "cells", "book", "characters", "io", "libc"]  # the crates that the program of tools/replay uses
+
+CELLS, PARSES, BEYOND = 12288, 256, 3
+ROOM = 12  # how many numbers more than a call writes the program has for each list
+LINKED = ["O0", "O3", "checked"]  # the order in which rattle-cases links its programs
+LIGHT, AT_ONCE = 100, 4  # the most work of a vector for the interpreter, and how many it gets in one run
+
+
+# ---- Vectors
+def read(files):
+    """The vectors, each with its file and line."""
+    for path in files:
+        with open(path) as lines:
+            for number, line in enumerate(lines, 1):
+                if line.strip():
+                    yield f"{os.path.basename(path)}:{number}", json.loads(line)
+
+
+def record(v):
+    """A vector for the program: its length in bytes; sixteen numbers, which are the lengths of book and text, start, allowance, the lengths of the lent
+    cells and parses, the seven numbers of the answer, whether the lists are written (1) or untouched (0), and how many numbers of the cells and of
+    the parses are given; the book, the text, and those numbers. A number is four bytes, the low one first."""
+    book, text, touched = bytes.fromhex(v["book"]), bytes.fromhex(v["text"]), v["cells"] is not None
+    cells = v["cells"] or []
+    parses = [n for p in v["parses"] or [] for n in p]
+    lent = [v.get("cells_len", CELLS + BEYOND), v.get("parses_len", PARSES + BEYOND)]
+    assert len(v["answer"]) == 7 and len(cells) <= CELLS and len(parses) <= PARSES
+    assert lent[0] <= CELLS + ROOM and lent[1] <= PARSES + ROOM
+    head = [len(book), len(text), v["start"], v["allowance"], *lent, *v["answer"], int(touched), len(cells), len(parses)]
+    body = struct.pack("<16I", *head) + book + text + struct.pack(f"<{len(cells) + len(parses)}I", *cells, *parses)
+    return struct.pack("<I", len(body)) + body
+
+
+def write(vectors, data):
+    with open(data, "wb") as f:
+        f.writelines(record(v) for _, v in vectors)
+
+
+def all_equal(vectors):
+    """What the program writes if no vector differs."""
+    return f"{len(vectors)} equal, 0 different\n"
+
+
+# ---- Compiling
+def copied(folder):
+    """The copy of the crate run with the call, and the program. They stand apart, because a folder may hold only files that its crate names."""
+    shutil.copytree(f"{ROOT}/crates/run/src", f"{folder}/run")
+    shutil.copy(f"{ROOT}/tools/replay/parse.rt", f"{folder}/run")
+    with open(f"{folder}/run/lib.rt", "a") as lib:
+        lib.write("mod parse;\n\npub use parse::Answer;\npub use parse::ROWS_SIZE;\npub use parse::read_in;\n")
+    shutil.copytree(f"{ROOT}/tools/replay", f"{folder}/replay", ignore=shutil.ignore_patterns("parse.rt"))
+
+
+def dependencies():
+    """What each crate of the repository and of the kit depends on."""
+    uses = {}
+    for path in (f"{ROOT}/crates.txt", f"{KIT}/libs/libs.txt"):
+        with open(path) as lines:
+            for line in lines:
+                crate, _, rest = line.split("#")[0].partition(":")
+                if crate.strip():
+                    uses[crate.strip()] = rest.split()
+    return uses
+
+
+def source(folder, crate):
+    places = [f"{folder}/run"] if crate == "run" else [f"{ROOT}/crates/{crate}/src", f"{KIT}/libs/{crate}/src"]
+    return next(f"{p}/lib.rt" for p in places if os.path.exists(f"{p}/lib.rt"))
+
+
+def libraries(folder, crates):
+    """The options for these crates and all that they reach, as sources, each with those that it may use. (`rt try` lets each use all; then the module
+    `tokens` of characters and the crate tokens have one name.)"""
+    uses, reached, todo = dependencies(), [], ["std", *crates]
+    while todo:
+        crate = todo.pop(0)
+        if crate not in reached:
+            reached.append(crate)
+            todo += uses[crate]
+    words = []
+    for crate in reached:
+        may_use = [] if crate == "std" else ["std", *uses[crate]]
+        words += ["--lib", f"{crate}:{','.join(may_use)}={source(folder, crate)}"]
+    return words
+
+
+def tried(folder, toolchain, vectors):
+    """What `rt try` does, on these vectors: the program on the interpreter, then compiled in three ways, each with a limit of time."""
+    data, wanted = f"{folder}/tried.bin", f"{folder}/tried.out"
+    write(vectors, data)
+    with open(wanted, "w") as f:
+        f.write(all_equal(vectors))
+    words = [f"{OWN}/bin/rattle-cases", "--toolchain", toolchain, "--stdin", data, "--stdout", wanted]
+    words += [f"{folder}/replay/main.rt", "--crate-name", "replay", *libraries(folder, USES)]
+    return subprocess.run(words, stdout=subprocess.PIPE, stderr=subprocess.STDOUT, text=True)
+
+
+def compiled(folder):
+    """The compiled programs. `rt try` removes them after it has run them, within its limit of time; so it is given a linker that keeps a copy of each."""
+    os.makedirs(f"{folder}/toolchain/bin")
+    os.makedirs(f"{folder}/programs")
+    os.symlink(os.path.realpath(f"{OWN}/toolchain/lib"), f"{folder}/toolchain/lib")
+    for tool in glob.glob(f"{OWN}/toolchain/bin/*"):
+        os.symlink(tool, f"{folder}/toolchain/bin/{os.path.basename(tool)}")
+    linker = f"{folder}/toolchain/bin/ld.lld"
+    os.remove(linker)
+    with open(linker, "w") as f:
+        f.write(f"""#!/bin/sh
+"{OWN}/toolchain/bin/ld.lld" "$@" || exit
+while [ "$1" != -o ]; do shift; done
+cp "$2" "{folder}/programs/$(ls "{folder}/programs" | wc -l)"
+""")
+    os.chmod(linker, 0o755)
+    said = tried(folder, f"{folder}/toolchain", [])
+    if said.returncode or len(os.listdir(f"{folder}/programs")) != len(LINKED):
+        sys.exit(said.stdout)
+    return {way: f"{folder}/programs/{i}" for i, way in enumerate(LINKED)}
+
+
+# ---- Running
+def replayed(folder, way, program, vectors):
+    """Whether all vectors are equal, by a compiled program."""
+    with open(f"{folder}/vectors.bin", "rb") as data:
+        done = subprocess.run([program], stdin=data, capture_output=True, text=True)
+    named = re.sub(r"^vector (\d+)", lambda m: vectors[int(m[1])][0], done.stdout, flags=re.M)
+    print(f"{way}: {named.strip()}", flush=True)
+    if done.returncode:
+        print(f"{way}: exit status {done.returncode} {done.stderr}")
+    return done.returncode == 0 and done.stdout == all_equal(vectors)
+
+
+def light(vectors):
+    """For each refusal, the vectors of the least, the middle and the most work among those of little."""
+    chosen = []
+    for refusal in sorted({v["answer"][0] for _, v in vectors}):
+        some = [(name, v) for name, v in vectors if v["answer"][0] == refusal and v["answer"][4] <= LIGHT]
+        some.sort(key=lambda vector: vector[1]["answer"][4])
+        if some:
+            chosen += [some[i] for i in sorted({0, len(some) // 2, len(some) - 1})]
+    return chosen
+
+
+def interpreted(folder, vectors):
+    """Whether the light vectors are equal on the interpreter."""
+    chosen, equal = light(vectors), 0
+    for i in range(0, len(chosen), AT_ONCE):
+        part = chosen[i : i + AT_ONCE]
+        said = tried(folder, f"{OWN}/toolchain", part)
+        if said.returncode == 0 and "ok: the interpreter" in said.stdout:
+            equal += len(part)
+        else:
+            print("interpreter:", *(name for name, _ in part), "\n" + said.stdout)
+    refusals = sorted({v["answer"][0] for _, v in chosen})
+    print(f"interpreter: {equal} equal, {len(chosen) - equal} different, of refusals {refusals}", flush=True)
+    return equal == len(chosen)
+
+
+def replay(folder, ways, vectors):
+    """Whether all vectors are equal in all these ways."""
+    write(vectors, f"{folder}/vectors.bin")
+    programs = compiled(folder)
+    results = [interpreted(folder, vectors) if way == "interpreter" else replayed(folder, way, programs[way], vectors) for way in ways]
+    return all(results)
+
+
+def timed(folder):
+    """Runs the C program with the copy of the crate run as a static library."""
+    uses = dependencies()["run"]
+    words = [f"{OWN}/bin/rattle-cases", "--toolchain", f"{OWN}/toolchain", "--staticlib", f"{folder}/librun.a"]
+    subprocess.run([*words, f"{folder}/run/lib.rt", "--crate-name", "run", *libraries(folder, uses)], check=True)
+    subprocess.run(["cc", "-O2", "-o", f"{folder}/speed", f"{ROOT}/tools/replay_speed.c", f"{folder}/librun.a"], check=True)
+    subprocess.run([f"{folder}/speed"], check=True)
+
+
+def main():
+    options = argparse.ArgumentParser(description=__doc__, formatter_class=argparse.RawDescriptionHelpFormatter)
+    options.add_argument("--at", default="O3", metavar="WAYS")
+    options.add_argument("--speed", action="store_true")
+    options.add_argument("files", nargs="*", metavar="VECTORS.jsonl")
+    chosen = options.parse_args()
+    ways = chosen.at.split(",")
+    if not chosen.speed and not chosen.files or not set(ways) <= {*LINKED, "interpreter"}:
+        options.error("see --help")
+    with tempfile.TemporaryDirectory() as folder:
+        copied(folder)
+        if chosen.speed:
+            timed(folder)
+        if chosen.files and not replay(folder, ways, list(read(chosen.files))):
+            sys.exit(1)
+
+
+if __name__ == "__main__":
+    main()
