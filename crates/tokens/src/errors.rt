@@ -95,13 +95,13 @@ pub fn join_with(first: Failure, second: Failure) -> Failure
 pub fn either(first: Failure, second: Failure) -> Failure
     ensures { λ r. ⌜ failureOf r ≡ eitherOf (failureOf first) (failureOf second) ⌝ }
 {
-    let Failure::At(a) = first else {
+    let Failure::At(e) = first else {
         return Failure::Nothing;
     };
-    let Failure::At(b) = second else {
+    let Failure::At(f) = second else {
         return Failure::Nothing;
     };
-    Failure::At(join(a, b))
+    Failure::At(join(e, f))
 }
 
 // Both sides of a choice failed: their error, where it consumed something since the choice, else that more was wanted there.

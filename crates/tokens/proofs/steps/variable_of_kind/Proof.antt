@@ -25,7 +25,8 @@ returns c =
     let skip = c .before .before .before .before .before .skip in
     let variable-at = c .before .before .before .before .variable-at in
     let end = c .before .before .end in
-    rw (sym (skip .ensures), sym (variable-at .ensures) ∙ ap variableOf (end .given .1), stepAt, eq-eqb _ _ (c .if1 .taken))
+    let kind = end .given .0 .1 .1 .0 in
+    rw (sym (skip .ensures), sym (variable-at .ensures) ∙ ap variableOf (end .given .1), stepAt, eq-eqb kind _ (c .if1 .taken))
 
 returns-2 : tie.Need-returns-2
 unfolding stepAt
@@ -33,7 +34,8 @@ returns-2 c =
     let skip = c .before .before .before .before .before .skip in
     let variable-at = c .before .before .before .before .variable-at in
     let end = c .before .before .end in
-    rw (sym (skip .ensures), sym (variable-at .ensures) ∙ ap variableOf (end .given .1), stepAt, ne-eqb _ _ (c .if1 .left))
+    let kind = end .given .0 .1 .1 .0 in
+    rw (sym (skip .ensures), sym (variable-at .ensures) ∙ ap variableOf (end .given .1), stepAt, ne-eqb kind _ (c .if1 .left))
 
 returns-3 : tie.Need-returns-3
 unfolding stepAt
