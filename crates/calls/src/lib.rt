@@ -8,13 +8,12 @@
 // Each function equals the definition of the same name in the model of the crate rows (specs/Rows.antt and specs/Model.antt there), on the table that the slice
 // gives, and changes one row of it. It asks only that the slice has 104,922 numbers and that its rows are at most 200.
 //
-// The crate relies on the definitions of book, rules and rows, and assumes nothing. specs/ has the definitions (Table) and laws.
+// The crate relies on the promises of sets and book and on the definitions of book, rules and rows, and assumes nothing. specs/ has the definitions (Table) and laws.
 ghost use mathlib.Core.Path.{_≡_};
 ghost use mathlib.Core.List.{[], _∷_};
 ghost use Prim.Native.Nat.{suc, _+_, _-_, _<_, _≤_};
 ghost use lib.ListN.{getD, length};
 ghost use Rattle.book.specs.Book.{associativityNumber};
-ghost use Rattle.book.specs.Check.{associativityOf};
 ghost use Rattle.book.specs.Index.{bookIn};
 ghost use Rattle.rules.specs.Uses.{hasMark, minimumOf};
 ghost use Rattle.rules.specs.Run.{allIn, kept};
@@ -194,17 +193,6 @@ pub fn end_call(rows: &mut [u32], row: usize)
     put(rows, row, LIVE, 0);
 }
 
-fn associativity_number(associativity: Associativity) -> u32
-    ensures { λ r. ⌜ r ≡ associativityNumber associativity ⌝ }
-{
-    match associativity {
-        Associativity::Left => 0,
-        Associativity::Right => 1,
-        Associativity::None => 2,
-        Associativity::Both => 3,
-    }
-}
-
 // The call of a row takes a variant.
 pub fn take_variant(rows: &mut [u32], row: usize, level: u32, associativity: Associativity)
     requires { ⌜ (row ≤ 200) × (104922 ≤ length (now rows)) ⌝ }
@@ -216,7 +204,7 @@ pub fn take_variant(rows: &mut [u32], row: usize, level: u32, associativity: Ass
         rows,
         row,
         ASSOCIATIVITY,
-        associativity_number(associativity),
+        sets::associativity_number(associativity),
     );
 }
 
@@ -237,17 +225,6 @@ pub fn mark(rows: &mut [u32], row: usize)
 }
 
 // ---- Governors
-fn associativity_of(number: u32) -> Associativity
-    ensures { λ r. ⌜ r ≡ associativityOf number ⌝ }
-{
-    match number {
-        0 => Associativity::Left,
-        1 => Associativity::Right,
-        2 => Associativity::None,
-        _ => Associativity::Both,
-    }
-}
-
 fn minimum_of(associativity: Associativity, level: u32) -> usize
     ensures { λ r. ⌜ r ≡ minimumOf associativity level ⌝ }
 {
@@ -303,7 +280,7 @@ pub fn governor_of(rows: &[u32], n: usize, nonterminal: u32, u: u32) -> Governor
     if get(rows, row, START) == u {
         return Governor::SameStart(row);
     }
-    let associativity = associativity_of(get(rows, row, ASSOCIATIVITY));
+    let associativity = sets::associativity_of(get(rows, row, ASSOCIATIVITY));
     Governor::Minimum(minimum_of(associativity, get(rows, row, LEVEL)))
 }
 
@@ -313,7 +290,7 @@ pub fn kept_of(rows: &mut [u32], into: usize, from: usize)
     ensures { λ _. ⌜ table (now (rows .exit)) ≡ onRow (table (now (rows .entry))) into
         (withSet (kept (useAt (rowOf (table (now (rows .entry))) from)) (rowOf (table (now (rows .entry))) from .set))) ⌝ }
 {
-    let associativity = associativity_of(get(rows, from, ASSOCIATIVITY));
+    let associativity = sets::associativity_of(get(rows, from, ASSOCIATIVITY));
     let level = get(rows, from, LEVEL);
     sets::kept(
         rows,

@@ -31,7 +31,8 @@ pub struct Parse {
 const MOST_PARSES: usize = 64;
 
 // ---- One parse
-fn associativity_of(number: u32) -> Associativity
+// The associativity that a number says, any number above 2 being Both; and the number of one.
+pub fn associativity_of(number: u32) -> Associativity
     ensures { λ r. ⌜ r ≡ associativityOf number ⌝ }
 {
     match number {
@@ -42,7 +43,7 @@ fn associativity_of(number: u32) -> Associativity
     }
 }
 
-fn associativity_number(associativity: Associativity) -> u32
+pub fn associativity_number(associativity: Associativity) -> u32
     ensures { λ r. ⌜ r ≡ associativityNumber associativity ⌝ }
 {
     match associativity {

@@ -1,5 +1,5 @@
 -- `sets::item` meets its contract.
-use mathlib.Core.Path.{refl, sym, _∙_}
+use mathlib.Core.Path.{sym, _∙_}
 use native.Mathlib.Omega.{arith}
 use lib.ListN.{List·getD-eq-default}
 use borrow.Author.Needs.{needs}
@@ -32,7 +32,7 @@ parse-at-requires c κs =
 returns : tie.Need-returns
 returns c =
     let size = c .before .before .size in
-    c .parse-at .ensures ∙ sym (set-item _ _ _ _ (rw (size .ensures) at (c .before .if1 .taken)) refl)
+    c .parse-at .ensures ∙ sym (set-item _ _ _ _ (rw (size .ensures) at (c .before .if1 .taken)) (omega arith))
 
 returns-2 : tie.Need-returns-2
 returns-2 c =
