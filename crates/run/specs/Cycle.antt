@@ -11,6 +11,7 @@ use Rattle.rules.specs.Errors.{Error, joinWith}
 use Rattle.rules.specs.Run.{Result, ok, _>>=_, begin, counted}
 use Rattle.rows.specs.Rows.{rowOf}
 use Rattle.rows.specs.Model.{RowState, Outcome, outcome, RowRunner, makes, atRow, bareCall, takeVariant, followedRows, orChild}
+use Rattle.progress.specs.declared.steps.Doing.{Doing}
 use Rattle.progress.specs.declared.steps.Next.{Next}
 use Rattle.progress.specs.declared.steps.Progress.{Progress}
 use Rattle.progress.specs.Steps.{todoFrom, nextRows, sideRows}
@@ -42,3 +43,10 @@ followsRows book text inner n c j rest next items z = z >>= (λ o. followedRows 
 unfoldable pub sidesRows : Book → List ℕ → Option RowRunner → ℕ → ℕ → ℕ → List (Todo ℕ) → Next → ℕ → ℕ → ℕ → RowState → Result Outcome
 sidesRows book text inner n c j rest next M at items s =
     sideRows book text inner n c j rest next at items s >>= (λ a. orChild book text inner n c M (nextRows book text c j rest next items) at a)
+
+-- a path that is to do something else before the steps left is further from its end
+abbrev pub rankOf : Doing → ℕ
+rankOf Doing.Steps = 0
+rankOf (Doing.Child M) = 4
+rankOf (Doing.Optional M) = 4
+rankOf (Doing.Elements l) = 4

@@ -26,10 +26,10 @@ use Rattle.progress.specs.declared.steps.List as list
 use Rattle.progress.specs.declared.steps.Next.{Next}
 use Rattle.progress.specs.declared.steps.Reached.{Reached}
 use Rattle.progress.specs.declared.steps.Stage.{Stage}
-use Rattle.progress.specs.Outcomes.{cellsOf, Held, given, goesOn, Runs}
+use Rattle.progress.specs.Outcomes.{cellsOf, Held, given, goesOn, Ran, Runs}
 use Rattle.progress.specs.Steps.{todoFrom, nextRows, descendsRows, choosesRows, doesRows, resumes, sideRows, Stages, Reaches, Chosen}
-use Rattle.run.specs.Cycle.{sidesRows}
-use Rattle.run.specs.ResultLaws.{bind-assoc, bind-assoc-in, limit-ends, goes-to, goes-on, ended}
+use Rattle.run.specs.Cycle.{sidesRows, rankOf}
+use Rattle.run.specs.ResultLaws.{Going, bind-assoc, bind-assoc-in, limit-ends, goes-to, goes-on, ended}
 
 -- ---- Choices
 sides-optional : (book : Book) (text : List ℕ) (inner : Option RowRunner) (n c j : ℕ) (rest : List (Todo ℕ)) (M x items : ℕ) (s : RowState) →
@@ -93,7 +93,7 @@ module _ (book : Book) (text : List ℕ) (inner : Option RowRunner) (n c j : ℕ
 -- ---- What a path does next
 module _ (book : Book) (text : List ℕ) (inner : Option RowRunner) (n c j : ℕ) (rest : List (Todo ℕ)) (doing : Doing) (at items : ℕ) (o : Outcome)
     (st0 : List ℕ) (T : List Row) where
-  pub resume-ended : goesOn o ≡ false →
+  resume-ended : goesOn o ≡ false →
       Runs text st0 (o .state .cells) st0 T o (λ cells. resumes book text inner n c j rest doing at items (given o cells T))
   unfolding resumes
   resume-ended h held =
@@ -122,19 +122,19 @@ module _ (book : Book) (text : List ℕ) (inner : Option RowRunner) (n c j : ℕ
       let q = k held in
       record { is = q .is ∙ e (rowState (o .state .units) (cellsOf st0 (o .state .cells)) T); held = q .held })
 
-  pub resume-steps : doing ≡ Doing.Steps →
+  resume-steps : doing ≡ Doing.Steps →
       Runs text st0 (o .state .cells) st1 U r (λ cells. stepsRows book text inner n c j rest at items (rowState (o .state .units) cells T)) →
       Runs text st0 (o .state .cells) st1 U r (λ cells. resumes book text inner n c j rest doing at items (given o cells T))
   unfolding doesRows
   resume-steps e k = by-part (λ s. stepsRows book text inner n c j rest at items s) (λ s. rw e) k
 
-  pub resume-child : (M : ℕ) → doing ≡ Doing.Child M →
+  resume-child : (M : ℕ) → doing ≡ Doing.Child M →
       Runs text st0 (o .state .cells) st1 U r (λ cells. descendsRows book text inner n c j rest Next.Steps M at items (rowState (o .state .units) cells T)) →
       Runs text st0 (o .state .cells) st1 U r (λ cells. resumes book text inner n c j rest doing at items (given o cells T))
   unfolding doesRows
   resume-child M e k = by-part (λ s. descendsRows book text inner n c j rest Next.Steps M at items s) (λ s. rw e) k
 
-  pub resume-optional : (M : ℕ) → doing ≡ Doing.Optional M →
+  resume-optional : (M : ℕ) → doing ≡ Doing.Optional M →
       Runs text st0 (o .state .cells) st1 U r (λ cells. sidesRows book text inner n c j rest Next.Steps M at items (rowState (o .state .units) cells T)) →
       Runs text st0 (o .state .cells) st1 U r (λ cells. resumes book text inner n c j rest doing at items (given o cells T))
   unfolding doesRows
@@ -142,7 +142,7 @@ module _ (book : Book) (text : List ℕ) (inner : Option RowRunner) (n c j : ℕ
       by-part (λ s. sidesRows book text inner n c j rest Next.Steps M at items s)
       (λ s. rw e (sides-optional book text inner n c j rest M at items s)) k
 
-  pub resume-elements : (l : list.List) → doing ≡ Doing.Elements l →
+  resume-elements : (l : list.List) → doing ≡ Doing.Elements l →
       Runs text st0 (o .state .cells) st1 U r (λ cells.
       sidesRows book text inner n c j rest (Next.Elements l) (l .nonterminal) at items (rowState (o .state .units) cells T)) →
       Runs text st0 (o .state .cells) st1 U r (λ cells. resumes book text inner n c j rest doing at items (given o cells T))
@@ -160,25 +160,85 @@ todo-step book step (suc left) h l =
     let e : step + 1 ≡ suc step = omega arith in
     rw (drop-cons (book .steps) step (Step.Character 0) (omega (arith, l)), e, sub-one)
 
-module _ (book : Book) (text : List ℕ) (inner : Option RowRunner) (n c j step left at items : ℕ) (s : State) (st0 : List ℕ) (T : List Row) where
-  pub steps-end : (st1 : List ℕ) (U : List Row) (r : Outcome) → left ≡ 0 →
-      Runs text st0 (s .cells) st1 U r (λ cells. completeRows book text c j at items (rowState (s .units) cells T)) →
-      Runs text st0 (s .cells) st1 U r (λ cells. stepsRows book text inner n c j (todoFrom book step left) at items (rowState (s .units) cells T))
-  unfolding stepsRows
-  steps-end st1 U r e k held = let q = k held in record { is = q .is ∙ rw e; held = q .held }
+pub rank-few : (doing : Doing) → rankOf doing ≤ 4
+rank-few Doing.Steps = omega arith
+rank-few (Doing.Child M) = omega arith
+rank-few (Doing.Optional M) = omega arith
+rank-few (Doing.Elements l) = omega arith
 
-  pub steps-on : (st1 st2 : List ℕ) (U : List Row) (g : Stage) (r : Outcome) → (left ≡ 0 → ⊥) → step + left ≤ length (book .steps) →
-      Stages book text st0 s st1 j g (λ inner n c rest s. stepsRows book text inner n c j (take′ (stepNumbered (book .steps) step) ∷ rest) at items s) →
-      Runs text st1 (g .outcome .state .cells) st2 U r (λ cells.
-      resumes book text inner n c j (todoFrom book (step + 1) (left - 1)) (g .doing) (g .at) (g .items) (given (g .outcome) cells T)) →
-      Runs text st0 (s .cells) st2 U r (λ cells. stepsRows book text inner n c j (todoFrom book step left) at items (rowState (s .units) cells T))
-  steps-on st1 st2 U g r h l S R held =
-      let d = S held in
-      let q = R (d .held) in
-      record {
-        is =
-            q .is
-            ∙ d .is inner n c (todoFrom book (step + 1) (left - 1)) T
-            ∙ ap (λ (todo : List (Todo ℕ)). stepsRows book text inner n c j todo at items (rowState (s .units) (cellsOf st0 (s .cells)) T)) (sym (todo-step book step left h l));
-        held = q .held;
-      }
+pub rank-child : (doing : Doing) (M : ℕ) → doing ≡ Doing.Child M → rankOf doing ≡ 4
+rank-child doing M e = rw e
+
+pub rank-optional : (doing : Doing) (M : ℕ) → doing ≡ Doing.Optional M → rankOf doing ≡ 4
+rank-optional doing M e = rw e
+
+pub rank-elements : (doing : Doing) (l : list.List) → doing ≡ Doing.Elements l → rankOf doing ≡ 4
+rank-elements doing l e = rw e
+
+-- the path has come so far: what is left of it from here is what was left of it at first
+module _ (book : Book) (text : List ℕ) (inner : Option RowRunner) (n c j step left : ℕ) (doing : Doing) (at items : ℕ) (o : Outcome)
+    (st0 : List ℕ) (c0 : ℕ) (z : Result model.Outcome) (st : List ℕ) (T : List Row)
+    (inv : Held text st0 c0 → Going text st (o .state .cells)
+    (resumes book text inner n c j (todoFrom book step left) doing at items (given o (cellsOf st (o .state .cells)) T)) z) where
+  then-whole : (st1 : List ℕ) (U : List Row) (r : Outcome) →
+      Runs text st (o .state .cells) st1 U r (λ cells. resumes book text inner n c j (todoFrom book step left) doing at items (given o cells T)) →
+      Held text st0 c0 → Ran text st1 U r z
+  then-whole st1 U r k held =
+      let g = inv held in
+      let q = k (g .held) in
+      record { is = q .is ∙ g .is; held = q .held }
+
+  pub path-ended : goesOn o ≡ false → Held text st0 c0 → Ran text st T o z
+  path-ended h = then-whole st T o (resume-ended book text inner n c j (todoFrom book step left) doing at items o st T h)
+
+  module _ (h : goesOn o ≡ true) where
+    pub path-child : (st1 : List ℕ) (U : List Row) (r : Outcome) (M : ℕ) → doing ≡ Doing.Child M →
+        Runs text st (o .state .cells) st1 U r (λ cells.
+        descendsRows book text inner n c j (todoFrom book step left) Next.Steps M at items (rowState (o .state .units) cells T)) →
+        Held text st0 c0 → Ran text st1 U r z
+    path-child st1 U r M e k = then-whole st1 U r (resume-child book text inner n c j (todoFrom book step left) doing at items o st T st1 U r h M e k)
+
+    pub path-optional : (st1 : List ℕ) (U : List Row) (r : Outcome) (M : ℕ) → doing ≡ Doing.Optional M →
+        Runs text st (o .state .cells) st1 U r (λ cells.
+        sidesRows book text inner n c j (todoFrom book step left) Next.Steps M at items (rowState (o .state .units) cells T)) →
+        Held text st0 c0 → Ran text st1 U r z
+    path-optional st1 U r M e k = then-whole st1 U r (resume-optional book text inner n c j (todoFrom book step left) doing at items o st T st1 U r h M e k)
+
+    pub path-elements : (st1 : List ℕ) (U : List Row) (r : Outcome) (l : list.List) → doing ≡ Doing.Elements l →
+        Runs text st (o .state .cells) st1 U r (λ cells.
+        sidesRows book text inner n c j (todoFrom book step left) (Next.Elements l) (l .nonterminal) at items (rowState (o .state .units) cells T)) →
+        Held text st0 c0 → Ran text st1 U r z
+    path-elements st1 U r l e k = then-whole st1 U r (resume-elements book text inner n c j (todoFrom book step left) doing at items o st T st1 U r h l e k)
+
+    module _ (e : doing ≡ Doing.Steps) where
+      pub path-end : (st1 : List ℕ) (U : List Row) (r : Outcome) → left ≡ 0 →
+          Runs text st (o .state .cells) st1 U r (λ cells. completeRows book text c j at items (rowState (o .state .units) cells T)) →
+          Held text st0 c0 → Ran text st1 U r z
+      unfolding stepsRows
+      path-end st1 U r l k =
+          then-whole st1 U r (resume-steps book text inner n c j (todoFrom book step left) doing at items o st T st1 U r h e (λ held.
+          let q = k held in
+          record { is = q .is ∙ rw l; held = q .held }))
+
+      resumes-steps : (cells : List Cell) →
+          resumes book text inner n c j (todoFrom book step left) doing at items (given o cells T) ≡
+          stepsRows book text inner n c j (todoFrom book step left) at items (rowState (o .state .units) cells T)
+      unfolding resumes doesRows _>>=_
+      resumes-steps cells = rw (goes-on o cells T h, e)
+
+      pub path-step : (st1 : List ℕ) (g : Stage) → (left ≡ 0 → ⊥) → step + left ≤ length (book .steps) →
+          Stages book text st (o .state) st1 j g (λ inner n c rest s. stepsRows book text inner n c j (take′ (stepNumbered (book .steps) step) ∷ rest) at items s) →
+          Held text st0 c0 → Going text st1 (g .outcome .state .cells)
+          (resumes book text inner n c j (todoFrom book (step + 1) (left - 1)) (g .doing) (g .at) (g .items) (given (g .outcome) (cellsOf st1 (g .outcome .state .cells)) T)) z
+      path-step st1 g l k S held =
+          let v = inv held in
+          let d = S (v .held) in
+          record {
+            is =
+                d .is inner n c (todoFrom book (step + 1) (left - 1)) T
+                ∙ ap (λ (todo : List (Todo ℕ)). stepsRows book text inner n c j todo at items (rowState (o .state .units) (cellsOf st (o .state .cells)) T))
+                (sym (todo-step book step left l k))
+                ∙ sym (resumes-steps (cellsOf st (o .state .cells)))
+                ∙ v .is;
+            held = d .held;
+          }

@@ -73,7 +73,17 @@ pub fn variant(
         at: b.at,
         items: b.items,
     };
-    let o = go(book, index, text, store, rows, left - 1, here, b.outcome);
+    let o = steps(
+        book,
+        index,
+        text,
+        store,
+        rows,
+        left - 1,
+        here,
+        Doing::Steps,
+        b.outcome,
+    );
     counted(book, index, j, b.at, before, o)
 }
 
@@ -173,7 +183,7 @@ pub fn follow(
             items: g.items,
         };
         let inner = left - 1;
-        let o = resume(
+        let o = steps(
             book,
             index,
             text,
@@ -221,7 +231,17 @@ pub fn choice(
         at: f.at,
         items: f.items,
     };
-    let a = go(book, index, text, store, rows, left, there, f.outcome);
+    let a = steps(
+        book,
+        index,
+        text,
+        store,
+        rows,
+        left,
+        there,
+        Doing::Steps,
+        f.outcome,
+    );
     if a.limit != 0 {
         return a;
     }
@@ -240,88 +260,7 @@ pub fn choice(
     both(text, rows, here, a, b)
 }
 
-// The steps that are left, if nothing ended the path.
-pub fn go(
-    book: &[u8],
-    index: &[usize],
-    text: &[u8],
-    store: &mut [u32],
-    rows: &mut [u32],
-    left: usize,
-    here: Progress,
-    outcome: Outcome,
-) -> Outcome
-    requires { ⌜ (left ≤ 200) × (104922 ≤ length (now rows)) × Fit (bookIn (now book) (now index)) (now text) × InRange (bookIn (now book) (now index)) here ⌝ }
-    ensures { λ r. ⌜ Runs (now (text .entry)) (now (store .entry)) (outcome .state .cells) (now (store .exit)) (table (now (rows .exit))) r
-        (λ cells. resumes (bookIn (now (book .entry)) (now (index .entry))) (now (text .entry)) (runnerRows (bookIn (now (book .entry)) (now (index .entry))) (now (text .entry)) left) left (here .call) (here .variant) (todoAt (bookIn (now (book .entry)) (now (index .entry))) here) Doing.Steps (here .at) (here .items)
-        (given outcome cells (table (now (rows .entry))))) ⌝ }
-{
-    if !goes_on(outcome) {
-        return outcome;
-    }
-    steps(book, index, text, store, rows, left, here, outcome.state)
-}
-
-// What the path does next, if nothing ended it; what is left of the variant follows that.
-pub fn resume(
-    book: &[u8],
-    index: &[usize],
-    text: &[u8],
-    store: &mut [u32],
-    rows: &mut [u32],
-    left: usize,
-    here: Progress,
-    doing: Doing,
-    outcome: Outcome,
-) -> Outcome
-    requires { ⌜ (left ≤ 200) × (104922 ≤ length (now rows)) × Fit (bookIn (now book) (now index)) (now text) × InRange (bookIn (now book) (now index)) here ⌝ }
-    ensures { λ r. ⌜ Runs (now (text .entry)) (now (store .entry)) (outcome .state .cells) (now (store .exit)) (table (now (rows .exit))) r
-        (λ cells. resumes (bookIn (now (book .entry)) (now (index .entry))) (now (text .entry)) (runnerRows (bookIn (now (book .entry)) (now (index .entry))) (now (text .entry)) left) left (here .call) (here .variant) (todoAt (bookIn (now (book .entry)) (now (index .entry))) here) doing (here .at) (here .items)
-        (given outcome cells (table (now (rows .entry))))) ⌝ }
-{
-    if !goes_on(outcome) {
-        return outcome;
-    }
-    let s = outcome.state;
-    match doing {
-        Doing::Steps => steps(book, index, text, store, rows, left, here, s),
-        Doing::Child(m) => {
-            descend(
-                book,
-                index,
-                text,
-                store,
-                rows,
-                left,
-                here,
-                Next::Steps,
-                m,
-                s,
-            )
-        }
-        Doing::Optional(m) => {
-            choice(
-                book,
-                index,
-                text,
-                store,
-                rows,
-                left,
-                here,
-                Next::Steps,
-                m,
-                s,
-            )
-        }
-        Doing::Elements(list) => {
-            let m = list.nonterminal;
-            let next = Next::Elements(list);
-            choice(book, index, text, store, rows, left, here, next, m, s)
-        }
-    }
-}
-
-// The steps of a variant that are left.
+// What the path does next, and the steps that are left, up to a child or the variant's end; if nothing ended the path.
 pub fn steps(
     book: &[u8],
     index: &[usize],
@@ -329,38 +268,74 @@ pub fn steps(
     store: &mut [u32],
     rows: &mut [u32],
     left: usize,
-    here: Progress,
-    state: State,
+    from: Progress,
+    first: Doing,
+    begun: Outcome,
 ) -> Outcome
-    requires { ⌜ (left ≤ 200) × (104922 ≤ length (now rows)) × Fit (bookIn (now book) (now index)) (now text) × InRange (bookIn (now book) (now index)) here ⌝ }
-    ensures { λ r. ⌜ Runs (now (text .entry)) (now (store .entry)) (state .cells) (now (store .exit)) (table (now (rows .exit))) r
-        (λ cells. stepsRows (bookIn (now (book .entry)) (now (index .entry))) (now (text .entry)) (runnerRows (bookIn (now (book .entry)) (now (index .entry))) (now (text .entry)) left) left (here .call) (here .variant) (todoAt (bookIn (now (book .entry)) (now (index .entry))) here) (here .at) (here .items)
-        (rowState (state .units) cells (table (now (rows .entry))))) ⌝ }
+    requires { ⌜ (left ≤ 200) × (104922 ≤ length (now rows)) × Fit (bookIn (now book) (now index)) (now text) × InRange (bookIn (now book) (now index)) from ⌝ }
+    ensures { λ r. ⌜ Runs (now (text .entry)) (now (store .entry)) (begun .state .cells) (now (store .exit)) (table (now (rows .exit))) r
+        (λ cells. resumes (bookIn (now (book .entry)) (now (index .entry))) (now (text .entry))
+        (runnerRows (bookIn (now (book .entry)) (now (index .entry))) (now (text .entry)) left) left (from .call) (from .variant)
+        (todoAt (bookIn (now (book .entry)) (now (index .entry))) from) first (from .at) (from .items) (given begun cells (table (now (rows .entry))))) ⌝ }
 {
-    if here.left == 0 {
-        return finish(book, index, text, store, rows, here, state);
+    let mut here = from;
+    let mut doing = first;
+    let mut o = begun;
+    while goes_on(o) {
+        match doing {
+            Doing::Steps => {
+                if here.left == 0 {
+                    return finish(book, index, text, store, rows, here, o.state);
+                }
+                let g = take_step(book, index, text, store, here, o.state);
+                let step = here.step + 1;
+                let fewer = here.left - 1;
+                let there = Progress {
+                    call: here.call,
+                    variant: here.variant,
+                    step,
+                    left: fewer,
+                    at: g.at,
+                    items: g.items,
+                };
+                here = there;
+                doing = g.doing;
+                o = g.outcome;
+            }
+            Doing::Child(m) => {
+                return descend(
+                    book,
+                    index,
+                    text,
+                    store,
+                    rows,
+                    left,
+                    here,
+                    Next::Steps,
+                    m,
+                    o.state,
+                );
+            }
+            Doing::Optional(m) => {
+                return choice(
+                    book,
+                    index,
+                    text,
+                    store,
+                    rows,
+                    left,
+                    here,
+                    Next::Steps,
+                    m,
+                    o.state,
+                );
+            }
+            Doing::Elements(list) => {
+                let m = list.nonterminal;
+                let next = Next::Elements(list);
+                return choice(book, index, text, store, rows, left, here, next, m, o.state);
+            }
+        }
     }
-    let g = take_step(book, index, text, store, here, state);
-    let doing = g.doing;
-    let step = here.step + 1;
-    let fewer = here.left - 1;
-    let there = Progress {
-        call: here.call,
-        variant: here.variant,
-        step,
-        left: fewer,
-        at: g.at,
-        items: g.items,
-    };
-    resume(
-        book,
-        index,
-        text,
-        store,
-        rows,
-        left,
-        there,
-        doing,
-        g.outcome,
-    )
+    o
 }

@@ -1,16 +1,16 @@
--- The functions of the cycle meet their contracts: `enter`, `rounds`, `run_call` of left_recursion.rt and `choice`, `descend`, `follow`, `go`, `one_run`,
--- `resume`, `steps`, `variant` of parser.rt. Each return and each turn of a loop is one law of specs/CallLaws, VariantLaws, ChildLaws or PathLaws, applied to what was called before it.
+-- The functions of the cycle meet their contracts: `enter`, `rounds`, `run_call` of left_recursion.rt and `choice`, `descend`, `follow`, `one_run`, `steps`,
+-- `variant` of parser.rt. Each return and each turn of a loop is one law of specs/CallLaws, VariantLaws, ChildLaws or PathLaws, applied to what was called before it.
 --
 -- The measures: 2,048 for each level of nesting left, 6 for each step left, and a rank that falls from one function to the next on one level.
-use Rattle.run.specs.ResultLaws.{Going, goes-without-limit}
-use Rattle.run.specs.CallLaws.{enter-over, enter-runs, run-call-over, run-call-rounds, rounds-none, rounds-over, rounds-again}
-use Rattle.run.specs.VariantLaws.{variants-end, variants-stop, variants-again, one-run-whole, variant-skipped, variant-ran, variants-fit, steps-fit}
+use Rattle.run.specs.PathLaws.{choice-stopped, choice-both, path-ended, path-child, path-optional, path-elements, path-end, path-step, rank-few, rank-child, rank-optional, rank-elements}
 use Rattle.run.specs.ChildLaws.{descended, follow-ended, follow-whole, follow-end, follow-deep, follow-stop, follow-again}
-use Rattle.run.specs.PathLaws.{choice-stopped, choice-both, resume-ended, resume-steps, resume-child, resume-optional, resume-elements, steps-end, steps-on}
-use Rattle.run.specs.Cycle.{todoAt}
+use Rattle.run.specs.VariantLaws.{variants-end, variants-stop, variants-again, one-run-whole, variant-skipped, variant-ran, variants-fit, steps-fit}
+use Rattle.run.specs.CallLaws.{enter-over, enter-runs, run-call-over, run-call-rounds, rounds-none, rounds-over, rounds-again}
+use Rattle.run.specs.ResultLaws.{Going, goes-without-limit}
+use Rattle.run.specs.Cycle.{InRange, todoAt, rankOf}
 use Rattle.progress.specs.Entering.{within}
-use Rattle.progress.specs.Steps.{nextRows}
-use Rattle.progress.specs.Outcomes.{cellsOf, Held}
+use Rattle.progress.specs.Steps.{nextRows, resumes}
+use Rattle.progress.specs.Outcomes.{cellsOf, Held, given}
 use Rattle.rows.specs.Model.{rowState, roundsRows, variantsRows, followFrom, runnerRows}
 use Rattle.calls.specs.Table.{table}
 use Rattle.tokens.specs.Maps.{failureOf}
@@ -27,37 +27,31 @@ use borrow.Fn.Kinds.{In}
 use borrow.Fn.PlainCycle.{Measures, is, falls, and}
 use Rattle.run.proofs.left_recursion.enter.Reads as left-recursion·enter
 use Rattle.run.proofs.left_recursion.enter.Kinds as left-recursion·enter-kinds
-use Rattle.run.proofs.+left_recursion-enter+left_recursion-rounds+left_recursion-run_call+parser-choice+parser-descend+parser-follow+parser-go+parser-one_run+parser-resume+parser-steps+parser-variant.Lts-left_recursion-enter as left-recursion·enter-lts
+use Rattle.run.proofs.+left_recursion-enter+left_recursion-rounds+left_recursion-run_call+parser-choice+parser-descend+parser-follow+parser-one_run+parser-steps+parser-variant.Lts-left_recursion-enter as left-recursion·enter-lts
 use Rattle.run.proofs.left_recursion.rounds.Reads as left-recursion·rounds
 use Rattle.run.proofs.left_recursion.rounds.Kinds as left-recursion·rounds-kinds
-use Rattle.run.proofs.+left_recursion-enter+left_recursion-rounds+left_recursion-run_call+parser-choice+parser-descend+parser-follow+parser-go+parser-one_run+parser-resume+parser-steps+parser-variant.Lts-left_recursion-rounds as left-recursion·rounds-lts
+use Rattle.run.proofs.+left_recursion-enter+left_recursion-rounds+left_recursion-run_call+parser-choice+parser-descend+parser-follow+parser-one_run+parser-steps+parser-variant.Lts-left_recursion-rounds as left-recursion·rounds-lts
 use Rattle.run.proofs.left_recursion.run_call.Reads as left-recursion·run-call
 use Rattle.run.proofs.left_recursion.run_call.Kinds as left-recursion·run-call-kinds
-use Rattle.run.proofs.+left_recursion-enter+left_recursion-rounds+left_recursion-run_call+parser-choice+parser-descend+parser-follow+parser-go+parser-one_run+parser-resume+parser-steps+parser-variant.Lts-left_recursion-run_call as left-recursion·run-call-lts
+use Rattle.run.proofs.+left_recursion-enter+left_recursion-rounds+left_recursion-run_call+parser-choice+parser-descend+parser-follow+parser-one_run+parser-steps+parser-variant.Lts-left_recursion-run_call as left-recursion·run-call-lts
 use Rattle.run.proofs.parser.choice.Reads as parser·choice
 use Rattle.run.proofs.parser.choice.Kinds as parser·choice-kinds
-use Rattle.run.proofs.+left_recursion-enter+left_recursion-rounds+left_recursion-run_call+parser-choice+parser-descend+parser-follow+parser-go+parser-one_run+parser-resume+parser-steps+parser-variant.Lts-parser-choice as parser·choice-lts
+use Rattle.run.proofs.+left_recursion-enter+left_recursion-rounds+left_recursion-run_call+parser-choice+parser-descend+parser-follow+parser-one_run+parser-steps+parser-variant.Lts-parser-choice as parser·choice-lts
 use Rattle.run.proofs.parser.descend.Reads as parser·descend
 use Rattle.run.proofs.parser.descend.Kinds as parser·descend-kinds
-use Rattle.run.proofs.+left_recursion-enter+left_recursion-rounds+left_recursion-run_call+parser-choice+parser-descend+parser-follow+parser-go+parser-one_run+parser-resume+parser-steps+parser-variant.Lts-parser-descend as parser·descend-lts
+use Rattle.run.proofs.+left_recursion-enter+left_recursion-rounds+left_recursion-run_call+parser-choice+parser-descend+parser-follow+parser-one_run+parser-steps+parser-variant.Lts-parser-descend as parser·descend-lts
 use Rattle.run.proofs.parser.follow.Reads as parser·follow
 use Rattle.run.proofs.parser.follow.Kinds as parser·follow-kinds
-use Rattle.run.proofs.+left_recursion-enter+left_recursion-rounds+left_recursion-run_call+parser-choice+parser-descend+parser-follow+parser-go+parser-one_run+parser-resume+parser-steps+parser-variant.Lts-parser-follow as parser·follow-lts
-use Rattle.run.proofs.parser.go.Reads as parser·go
-use Rattle.run.proofs.parser.go.Kinds as parser·go-kinds
-use Rattle.run.proofs.+left_recursion-enter+left_recursion-rounds+left_recursion-run_call+parser-choice+parser-descend+parser-follow+parser-go+parser-one_run+parser-resume+parser-steps+parser-variant.Lts-parser-go as parser·go-lts
+use Rattle.run.proofs.+left_recursion-enter+left_recursion-rounds+left_recursion-run_call+parser-choice+parser-descend+parser-follow+parser-one_run+parser-steps+parser-variant.Lts-parser-follow as parser·follow-lts
 use Rattle.run.proofs.parser.one_run.Reads as parser·one-run
 use Rattle.run.proofs.parser.one_run.Kinds as parser·one-run-kinds
-use Rattle.run.proofs.+left_recursion-enter+left_recursion-rounds+left_recursion-run_call+parser-choice+parser-descend+parser-follow+parser-go+parser-one_run+parser-resume+parser-steps+parser-variant.Lts-parser-one_run as parser·one-run-lts
-use Rattle.run.proofs.parser.resume.Reads as parser·resume
-use Rattle.run.proofs.parser.resume.Kinds as parser·resume-kinds
-use Rattle.run.proofs.+left_recursion-enter+left_recursion-rounds+left_recursion-run_call+parser-choice+parser-descend+parser-follow+parser-go+parser-one_run+parser-resume+parser-steps+parser-variant.Lts-parser-resume as parser·resume-lts
+use Rattle.run.proofs.+left_recursion-enter+left_recursion-rounds+left_recursion-run_call+parser-choice+parser-descend+parser-follow+parser-one_run+parser-steps+parser-variant.Lts-parser-one_run as parser·one-run-lts
 use Rattle.run.proofs.parser.steps.Reads as parser·steps
 use Rattle.run.proofs.parser.steps.Kinds as parser·steps-kinds
-use Rattle.run.proofs.+left_recursion-enter+left_recursion-rounds+left_recursion-run_call+parser-choice+parser-descend+parser-follow+parser-go+parser-one_run+parser-resume+parser-steps+parser-variant.Lts-parser-steps as parser·steps-lts
+use Rattle.run.proofs.+left_recursion-enter+left_recursion-rounds+left_recursion-run_call+parser-choice+parser-descend+parser-follow+parser-one_run+parser-steps+parser-variant.Lts-parser-steps as parser·steps-lts
 use Rattle.run.proofs.parser.variant.Reads as parser·variant
 use Rattle.run.proofs.parser.variant.Kinds as parser·variant-kinds
-use Rattle.run.proofs.+left_recursion-enter+left_recursion-rounds+left_recursion-run_call+parser-choice+parser-descend+parser-follow+parser-go+parser-one_run+parser-resume+parser-steps+parser-variant.Lts-parser-variant as parser·variant-lts
+use Rattle.run.proofs.+left_recursion-enter+left_recursion-rounds+left_recursion-run_call+parser-choice+parser-descend+parser-follow+parser-one_run+parser-steps+parser-variant.Lts-parser-variant as parser·variant-lts
 use Rattle.book.proofs.nonterminal.Reads as nonterminal-reads
 use Rattle.book.proofs.variant.Reads as variant-reads
 use Rattle.calls.proofs.clear_run.Reads as clear-run-reads
@@ -80,10 +74,10 @@ use Rattle.progress.proofs.first_side.Reads as first-side-reads
 use Rattle.progress.proofs.joined.Reads as joined-reads
 use Rattle.progress.proofs.next_of.Reads as next-of-reads
 use Rattle.progress.proofs.take_step.Reads as take-step-reads
-use Rattle.run.proofs.+left_recursion-enter+left_recursion-rounds+left_recursion-run_call+parser-choice+parser-descend+parser-follow+parser-go+parser-one_run+parser-resume+parser-steps+parser-variant.{
+use Rattle.run.proofs.+left_recursion-enter+left_recursion-rounds+left_recursion-run_call+parser-choice+parser-descend+parser-follow+parser-one_run+parser-steps+parser-variant.{
   statement,
 }
-use Rattle.run.proofs.+left_recursion-enter+left_recursion-rounds+left_recursion-run_call+parser-choice+parser-descend+parser-follow+parser-go+parser-one_run+parser-resume+parser-steps+parser-variant.Tie.{
+use Rattle.run.proofs.+left_recursion-enter+left_recursion-rounds+left_recursion-run_call+parser-choice+parser-descend+parser-follow+parser-one_run+parser-steps+parser-variant.Tie.{
   close,
 }
 
@@ -97,7 +91,7 @@ abbrev μ-left-recursion·run-call : Measures 5 left-recursion·run-call-kinds.p
 μ-left-recursion·run-call κs a = 2048 * (a .1 .1 .1 .1 .1 .0) + 4
 
 abbrev μ-parser·choice : Measures 5 parser·choice-kinds.ps ℕ
-μ-parser·choice κs a = 2048 * (a .1 .1 .1 .1 .1 .0) + 6 * (a .1 .1 .1 .1 .1 .1 .0) .left + 11
+μ-parser·choice κs a = 2048 * (a .1 .1 .1 .1 .1 .0) + 6 * (a .1 .1 .1 .1 .1 .1 .0) .left + 9
 
 abbrev μ-parser·descend : Measures 5 parser·descend-kinds.ps ℕ
 μ-parser·descend κs a = 2048 * (a .1 .1 .1 .1 .1 .0) + 7
@@ -105,17 +99,11 @@ abbrev μ-parser·descend : Measures 5 parser·descend-kinds.ps ℕ
 abbrev μ-parser·follow : Measures 5 parser·follow-kinds.ps ℕ
 μ-parser·follow κs a = 2048 * (a .1 .1 .1 .1 .1 .0) + 6
 
-abbrev μ-parser·go : Measures 5 parser·go-kinds.ps ℕ
-μ-parser·go κs a = 2048 * (a .1 .1 .1 .1 .1 .0) + 6 * (a .1 .1 .1 .1 .1 .1 .0) .left + 9
-
 abbrev μ-parser·one-run : Measures 5 parser·one-run-kinds.ps ℕ
 μ-parser·one-run κs a = 2048 * (a .1 .1 .1 .1 .1 .0) + 2
 
-abbrev μ-parser·resume : Measures 5 parser·resume-kinds.ps ℕ
-μ-parser·resume κs a = 2048 * (a .1 .1 .1 .1 .1 .0) + 6 * (a .1 .1 .1 .1 .1 .1 .0) .left + 12
-
 abbrev μ-parser·steps : Measures 5 parser·steps-kinds.ps ℕ
-μ-parser·steps κs a = 2048 * (a .1 .1 .1 .1 .1 .0) + 6 * (a .1 .1 .1 .1 .1 .1 .0) .left + 8
+μ-parser·steps κs a = 2048 * (a .1 .1 .1 .1 .1 .0) + 6 * (a .1 .1 .1 .1 .1 .1 .0) .left + rankOf (a .1 .1 .1 .1 .1 .1 .1 .0) + 8
 
 abbrev μ-parser·variant : Measures 5 parser·variant-kinds.ps ℕ
 μ-parser·variant κs a = 2048 * (a .1 .1 .1 .1 .1 .0) + 1
@@ -208,13 +196,6 @@ parser·follow-below t =
     (falls 5 parser·follow-kinds.ps _<_ μ-parser·follow t)
     parser·follow.Pre
 
-abbrev parser·go-at : ℕ → In 5 parser·go-kinds.ps
-parser·go-at t = and 5 parser·go-kinds.ps (is 5 parser·go-kinds.ps μ-parser·go t) parser·go.Pre
-
-abbrev parser·go-below : ℕ → In 5 parser·go-kinds.ps
-parser·go-below t =
-    and 5 parser·go-kinds.ps (falls 5 parser·go-kinds.ps _<_ μ-parser·go t) parser·go.Pre
-
 abbrev parser·one-run-at : ℕ → In 5 parser·one-run-kinds.ps
 parser·one-run-at t =
     and
@@ -230,18 +211,6 @@ parser·one-run-below t =
     parser·one-run-kinds.ps
     (falls 5 parser·one-run-kinds.ps _<_ μ-parser·one-run t)
     parser·one-run.Pre
-
-abbrev parser·resume-at : ℕ → In 5 parser·resume-kinds.ps
-parser·resume-at t =
-    and 5 parser·resume-kinds.ps (is 5 parser·resume-kinds.ps μ-parser·resume t) parser·resume.Pre
-
-abbrev parser·resume-below : ℕ → In 5 parser·resume-kinds.ps
-parser·resume-below t =
-    and
-    5
-    parser·resume-kinds.ps
-    (falls 5 parser·resume-kinds.ps _<_ μ-parser·resume t)
-    parser·resume.Pre
 
 abbrev parser·steps-at : ℕ → In 5 parser·steps-kinds.ps
 parser·steps-at t =
@@ -743,8 +712,8 @@ left-recursion·run-call-returns-2 t c =
 parser·choice-first-side-requires : (t : ℕ) → parser·choice-lts.Need-first-side-requires (
   first-side-reads.Asked,
   first-side-reads.Learnt,
-  parser·go-below t,
-  parser·go.Post,
+  parser·steps-below t,
+  parser·steps.Post,
   parser·descend-below t,
   parser·descend.Post,
   both-reads.Asked,
@@ -752,25 +721,25 @@ parser·choice-first-side-requires : (t : ℕ) → parser·choice-lts.Need-first
 ) (parser·choice-at t) parser·choice.Post
 parser·choice-first-side-requires t c κs = (c .before .before .before .before .before .before) .pre .1 .2
 
-parser·choice-go-requires : (t : ℕ) → parser·choice-lts.Need-go-requires (
+parser·choice-steps-requires : (t : ℕ) → parser·choice-lts.Need-steps-requires (
   first-side-reads.Asked,
   first-side-reads.Learnt,
-  parser·go-below t,
-  parser·go.Post,
+  parser·steps-below t,
+  parser·steps.Post,
   parser·descend-below t,
   parser·descend.Post,
   both-reads.Asked,
   both-reads.Learnt,
 ) (parser·choice-at t) parser·choice.Post
-parser·choice-go-requires t c κs =
+parser·choice-steps-requires t c κs =
     let start = c .before .before .before .before .before .before .before .before .before .before .before in
     (omega (arith, start .pre .0), (start .pre .1 .0, start .pre .1 .1, start .pre .1 .2, start .pre .1 .3))
 
 parser·choice-same-length : (t : ℕ) → parser·choice-lts.Need-same-length (
   first-side-reads.Asked,
   first-side-reads.Learnt,
-  parser·go-below t,
-  parser·go.Post,
+  parser·steps-below t,
+  parser·steps.Post,
   parser·descend-below t,
   parser·descend.Post,
   both-reads.Asked,
@@ -778,26 +747,26 @@ parser·choice-same-length : (t : ℕ) → parser·choice-lts.Need-same-length (
 ) (parser·choice-at t) parser·choice.Post
 parser·choice-same-length t c =
     let first-side = c .before .before .before .before .before .before .before .before .before .before .before .first-side in
-    let go = c .before .before .before .before .before .before .go in
-    go .kept .1 .1 .1 .0 ∙ first-side .kept .1 .1 .1 .0
+    let steps = c .before .before .before .before .before .before .steps in
+    steps .kept .1 .1 .1 .0 ∙ first-side .kept .1 .1 .1 .0
 
 parser·choice-same-length-2 : (t : ℕ) → parser·choice-lts.Need-same-length-2 (
   first-side-reads.Asked,
   first-side-reads.Learnt,
-  parser·go-below t,
-  parser·go.Post,
+  parser·steps-below t,
+  parser·steps.Post,
   parser·descend-below t,
   parser·descend.Post,
   both-reads.Asked,
   both-reads.Learnt,
 ) (parser·choice-at t) parser·choice.Post
-parser·choice-same-length-2 t c = (c .before .before .before .before .before .before .go) .kept .1 .1 .1 .1 .0
+parser·choice-same-length-2 t c = (c .before .before .before .before .before .before .steps) .kept .1 .1 .1 .1 .0
 
 parser·choice-returns : (t : ℕ) → parser·choice-lts.Need-returns (
   first-side-reads.Asked,
   first-side-reads.Learnt,
-  parser·go-below t,
-  parser·go.Post,
+  parser·steps-below t,
+  parser·steps.Post,
   parser·descend-below t,
   parser·descend.Post,
   both-reads.Asked,
@@ -805,15 +774,15 @@ parser·choice-returns : (t : ℕ) → parser·choice-lts.Need-returns (
 ) (parser·choice-at t) parser·choice.Post
 parser·choice-returns t c =
     let first-side = c .before .before .before .before .before .before .before .before .before .before .before .first-side in
-    let go = c .before .before .before .before .before .before .go in
+    let steps = c .before .before .before .before .before .before .steps in
     let if1 = c .if1 in
-    choice-stopped _ _ _ _ _ _ _ _ _ _ _ _ _ _ _ _ _ _ _ (first-side .ensures) (go .ensures) (if1 .taken)
+    choice-stopped _ _ _ _ _ _ _ _ _ _ _ _ _ _ _ _ _ _ _ (first-side .ensures) (steps .ensures) (if1 .taken)
 
 parser·choice-descend-requires : (t : ℕ) → parser·choice-lts.Need-descend-requires (
   first-side-reads.Asked,
   first-side-reads.Learnt,
-  parser·go-below t,
-  parser·go.Post,
+  parser·steps-below t,
+  parser·steps.Post,
   parser·descend-below t,
   parser·descend.Post,
   both-reads.Asked,
@@ -821,14 +790,14 @@ parser·choice-descend-requires : (t : ℕ) → parser·choice-lts.Need-descend-
 ) (parser·choice-at t) parser·choice.Post
 parser·choice-descend-requires t c κs =
     let start = c .before .before .before .before .before .before .before .before .before .before .before .before .before .before .before .before .before .before .before .before in
-    let go = c .before .before .before .before .before .before .before .before .go in
-    (omega (arith, start .pre .0), (start .pre .1 .0, omega (arith, start .pre .1 .1, go .kept .1 .1 .1 .1 .0), start .pre .1 .2, start .pre .1 .3))
+    let steps = c .before .before .before .before .before .before .before .before .steps in
+    (omega (arith, start .pre .0), (start .pre .1 .0, omega (arith, start .pre .1 .1, steps .kept .1 .1 .1 .1 .0), start .pre .1 .2, start .pre .1 .3))
 
 parser·choice-both-requires : (t : ℕ) → parser·choice-lts.Need-both-requires (
   first-side-reads.Asked,
   first-side-reads.Learnt,
-  parser·go-below t,
-  parser·go.Post,
+  parser·steps-below t,
+  parser·steps.Post,
   parser·descend-below t,
   parser·descend.Post,
   both-reads.Asked,
@@ -836,15 +805,15 @@ parser·choice-both-requires : (t : ℕ) → parser·choice-lts.Need-both-requir
 ) (parser·choice-at t) parser·choice.Post
 parser·choice-both-requires t c κs =
     let start = c .before .before .before .before .before .before .before .before .before .before .before .before .before .before .before .before .before .before .before .before .before .before .before .before .before .before in
-    let go = c .before .before .before .before .before .before .before .before .before .before .before .before .before .before .go in
+    let steps = c .before .before .before .before .before .before .before .before .before .before .before .before .before .before .steps in
     let descend = c .before .before .before .before .before .descend in
-    (start .pre .1 .3 .0, omega (arith, start .pre .1 .1, go .kept .1 .1 .1 .1 .0, descend .kept .1 .1 .1 .1 .0))
+    (start .pre .1 .3 .0, omega (arith, start .pre .1 .1, steps .kept .1 .1 .1 .1 .0, descend .kept .1 .1 .1 .1 .0))
 
 parser·choice-same-length-3 : (t : ℕ) → parser·choice-lts.Need-same-length-3 (
   first-side-reads.Asked,
   first-side-reads.Learnt,
-  parser·go-below t,
-  parser·go.Post,
+  parser·steps-below t,
+  parser·steps.Post,
   parser·descend-below t,
   parser·descend.Post,
   both-reads.Asked,
@@ -852,30 +821,30 @@ parser·choice-same-length-3 : (t : ℕ) → parser·choice-lts.Need-same-length
 ) (parser·choice-at t) parser·choice.Post
 parser·choice-same-length-3 t c =
     let first-side = c .before .before .before .before .before .before .before .before .before .before .before .before .before .before .before .before .before .before .before .before .first-side in
-    let go = c .before .before .before .before .before .before .before .before .before .before .before .before .before .before .before .go in
+    let steps = c .before .before .before .before .before .before .before .before .before .before .before .before .before .before .before .steps in
     let descend = c .before .before .before .before .before .before .descend in
-    descend .kept .1 .1 .1 .0 ∙ go .kept .1 .1 .1 .0 ∙ first-side .kept .1 .1 .1 .0
+    descend .kept .1 .1 .1 .0 ∙ steps .kept .1 .1 .1 .0 ∙ first-side .kept .1 .1 .1 .0
 
 parser·choice-same-length-4 : (t : ℕ) → parser·choice-lts.Need-same-length-4 (
   first-side-reads.Asked,
   first-side-reads.Learnt,
-  parser·go-below t,
-  parser·go.Post,
+  parser·steps-below t,
+  parser·steps.Post,
   parser·descend-below t,
   parser·descend.Post,
   both-reads.Asked,
   both-reads.Learnt,
 ) (parser·choice-at t) parser·choice.Post
 parser·choice-same-length-4 t c =
-    let go = c .before .before .before .before .before .before .before .before .before .before .before .before .before .before .before .go in
+    let steps = c .before .before .before .before .before .before .before .before .before .before .before .before .before .before .before .steps in
     let descend = c .before .before .before .before .before .before .descend in
-    descend .kept .1 .1 .1 .1 .0 ∙ go .kept .1 .1 .1 .1 .0
+    descend .kept .1 .1 .1 .1 .0 ∙ steps .kept .1 .1 .1 .1 .0
 
 parser·choice-returns-2 : (t : ℕ) → parser·choice-lts.Need-returns-2 (
   first-side-reads.Asked,
   first-side-reads.Learnt,
-  parser·go-below t,
-  parser·go.Post,
+  parser·steps-below t,
+  parser·steps.Post,
   parser·descend-below t,
   parser·descend.Post,
   both-reads.Asked,
@@ -883,11 +852,11 @@ parser·choice-returns-2 : (t : ℕ) → parser·choice-lts.Need-returns-2 (
 ) (parser·choice-at t) parser·choice.Post
 parser·choice-returns-2 t c =
     let first-side = c .before .before .before .before .before .before .before .before .before .before .before .before .before .before .before .before .before .before .before .before .first-side in
-    let go = c .before .before .before .before .before .before .before .before .before .before .before .before .before .before .before .go in
+    let steps = c .before .before .before .before .before .before .before .before .before .before .before .before .before .before .before .steps in
     let if1 = c .before .before .before .before .before .before .before .before .before .if1 in
     let descend = c .before .before .before .before .before .before .descend in
     let both = c .both in
-    choice-both _ _ _ _ _ _ _ _ _ _ _ _ _ _ _ _ _ _ _ (first-side .ensures) (go .ensures) (if1 .left) _ _ _ _ (descend .ensures) (both .ensures)
+    choice-both _ _ _ _ _ _ _ _ _ _ _ _ _ _ _ _ _ _ _ (first-side .ensures) (steps .ensures) (if1 .left) _ _ _ _ (descend .ensures) (both .ensures)
 
 parser·descend-begin-child-requires : (t : ℕ) → parser·descend-lts.Need-begin-child-requires (
   begin-child-reads.Asked,
@@ -986,8 +955,8 @@ parser·follow-goes-on-requires : (t : ℕ) → parser·follow-lts.Need-goes-on-
   item-reads.Learnt,
   next-of-reads.Asked,
   next-of-reads.Learnt,
-  parser·resume-below t,
-  parser·resume.Post,
+  parser·steps-below t,
+  parser·steps.Post,
   joined-reads.Asked,
   joined-reads.Learnt,
 ) (parser·follow-at t) parser·follow.Post parser·follow-Inv-loop parser·follow-μ-loop
@@ -1004,8 +973,8 @@ parser·follow-returns : (t : ℕ) → parser·follow-lts.Need-returns (
   item-reads.Learnt,
   next-of-reads.Asked,
   next-of-reads.Learnt,
-  parser·resume-below t,
-  parser·resume.Post,
+  parser·steps-below t,
+  parser·steps.Post,
   joined-reads.Asked,
   joined-reads.Learnt,
 ) (parser·follow-at t) parser·follow.Post parser·follow-Inv-loop parser·follow-μ-loop
@@ -1025,8 +994,8 @@ parser·follow-found-requires : (t : ℕ) → parser·follow-lts.Need-found-requ
   item-reads.Learnt,
   next-of-reads.Asked,
   next-of-reads.Learnt,
-  parser·resume-below t,
-  parser·resume.Post,
+  parser·steps-below t,
+  parser·steps.Post,
   joined-reads.Asked,
   joined-reads.Learnt,
 ) (parser·follow-at t) parser·follow.Post parser·follow-Inv-loop parser·follow-μ-loop
@@ -1045,8 +1014,8 @@ parser·follow-loop-holds : (t : ℕ) → parser·follow-lts.Need-loop-holds (
   item-reads.Learnt,
   next-of-reads.Asked,
   next-of-reads.Learnt,
-  parser·resume-below t,
-  parser·resume.Post,
+  parser·steps-below t,
+  parser·steps.Post,
   joined-reads.Asked,
   joined-reads.Learnt,
 ) (parser·follow-at t) parser·follow.Post parser·follow-Inv-loop parser·follow-μ-loop
@@ -1066,8 +1035,8 @@ parser·follow-at-limit-requires : (t : ℕ) → parser·follow-lts.Need-at-limi
   item-reads.Learnt,
   next-of-reads.Asked,
   next-of-reads.Learnt,
-  parser·resume-below t,
-  parser·resume.Post,
+  parser·steps-below t,
+  parser·steps.Post,
   joined-reads.Asked,
   joined-reads.Learnt,
 ) (parser·follow-at t) parser·follow.Post parser·follow-Inv-loop parser·follow-μ-loop
@@ -1084,8 +1053,8 @@ parser·follow-same-length : (t : ℕ) → parser·follow-lts.Need-same-length (
   item-reads.Learnt,
   next-of-reads.Asked,
   next-of-reads.Learnt,
-  parser·resume-below t,
-  parser·resume.Post,
+  parser·steps-below t,
+  parser·steps.Post,
   joined-reads.Asked,
   joined-reads.Learnt,
 ) (parser·follow-at t) parser·follow.Post parser·follow-Inv-loop parser·follow-μ-loop
@@ -1102,8 +1071,8 @@ parser·follow-same-length-2 : (t : ℕ) → parser·follow-lts.Need-same-length
   item-reads.Learnt,
   next-of-reads.Asked,
   next-of-reads.Learnt,
-  parser·resume-below t,
-  parser·resume.Post,
+  parser·steps-below t,
+  parser·steps.Post,
   joined-reads.Asked,
   joined-reads.Learnt,
 ) (parser·follow-at t) parser·follow.Post parser·follow-Inv-loop parser·follow-μ-loop
@@ -1120,8 +1089,8 @@ parser·follow-returns-2 : (t : ℕ) → parser·follow-lts.Need-returns-2 (
   item-reads.Learnt,
   next-of-reads.Asked,
   next-of-reads.Learnt,
-  parser·resume-below t,
-  parser·resume.Post,
+  parser·steps-below t,
+  parser·steps.Post,
   joined-reads.Asked,
   joined-reads.Learnt,
 ) (parser·follow-at t) parser·follow.Post parser·follow-Inv-loop parser·follow-μ-loop
@@ -1146,8 +1115,8 @@ parser·follow-item-requires : (t : ℕ) → parser·follow-lts.Need-item-requir
   item-reads.Learnt,
   next-of-reads.Asked,
   next-of-reads.Learnt,
-  parser·resume-below t,
-  parser·resume.Post,
+  parser·steps-below t,
+  parser·steps.Post,
   joined-reads.Asked,
   joined-reads.Learnt,
 ) (parser·follow-at t) parser·follow.Post parser·follow-Inv-loop parser·follow-μ-loop
@@ -1167,8 +1136,8 @@ parser·follow-next-of-requires : (t : ℕ) → parser·follow-lts.Need-next-of-
   item-reads.Learnt,
   next-of-reads.Asked,
   next-of-reads.Learnt,
-  parser·resume-below t,
-  parser·resume.Post,
+  parser·steps-below t,
+  parser·steps.Post,
   joined-reads.Asked,
   joined-reads.Learnt,
 ) (parser·follow-at t) parser·follow.Post parser·follow-Inv-loop parser·follow-μ-loop
@@ -1187,14 +1156,14 @@ parser·follow-sub-inner : (t : ℕ) → parser·follow-lts.Need-sub-inner (
   item-reads.Learnt,
   next-of-reads.Asked,
   next-of-reads.Learnt,
-  parser·resume-below t,
-  parser·resume.Post,
+  parser·steps-below t,
+  parser·steps.Post,
   joined-reads.Asked,
   joined-reads.Learnt,
 ) (parser·follow-at t) parser·follow.Post parser·follow-Inv-loop parser·follow-μ-loop
 parser·follow-sub-inner t c = omega (arith, (c .before .before .before .before .before .before .if2) .left)
 
-parser·follow-resume-requires : (t : ℕ) → parser·follow-lts.Need-resume-requires (
+parser·follow-steps-requires : (t : ℕ) → parser·follow-lts.Need-steps-requires (
   goes-on-reads.Asked,
   goes-on-reads.Learnt,
   found-reads.Asked,
@@ -1205,16 +1174,17 @@ parser·follow-resume-requires : (t : ℕ) → parser·follow-lts.Need-resume-re
   item-reads.Learnt,
   next-of-reads.Asked,
   next-of-reads.Learnt,
-  parser·resume-below t,
-  parser·resume.Post,
+  parser·steps-below t,
+  parser·steps.Post,
   joined-reads.Asked,
   joined-reads.Learnt,
 ) (parser·follow-at t) parser·follow.Post parser·follow-Inv-loop parser·follow-μ-loop
-parser·follow-resume-requires t c κs =
+parser·follow-steps-requires t c κs =
     let start = c .before .before .before .before .before .before .before .before .before .before .before .before .before .before .before .before .before .before .before .before .before in
     let loop = c .before .before .before .before .before .before .before .before .before .before .before .loop in
     let if2 = c .before .before .before .before .before .before .before .before .if2 in
-    (omega (arith, start .pre .0, if2 .left, start .pre .1 .3 .1), (omega (arith, start .pre .1 .0), omega (arith, start .pre .1 .1, loop .inv .2), start .pre .1 .2, start .pre .1 .3))
+    let next-of = c .before .before .before .before .next-of in
+    (omega (arith, start .pre .0, if2 .left, start .pre .1 .3 .1, rank-few (next-of .result .doing)), (omega (arith, start .pre .1 .0), omega (arith, start .pre .1 .1, loop .inv .2), start .pre .1 .2, start .pre .1 .3))
 
 parser·follow-joined-requires : (t : ℕ) → parser·follow-lts.Need-joined-requires (
   goes-on-reads.Asked,
@@ -1227,8 +1197,8 @@ parser·follow-joined-requires : (t : ℕ) → parser·follow-lts.Need-joined-re
   item-reads.Learnt,
   next-of-reads.Asked,
   next-of-reads.Learnt,
-  parser·resume-below t,
-  parser·resume.Post,
+  parser·steps-below t,
+  parser·steps.Post,
   joined-reads.Asked,
   joined-reads.Learnt,
 ) (parser·follow-at t) parser·follow.Post parser·follow-Inv-loop parser·follow-μ-loop
@@ -1245,16 +1215,16 @@ parser·follow-same-length-3 : (t : ℕ) → parser·follow-lts.Need-same-length
   item-reads.Learnt,
   next-of-reads.Asked,
   next-of-reads.Learnt,
-  parser·resume-below t,
-  parser·resume.Post,
+  parser·steps-below t,
+  parser·steps.Post,
   joined-reads.Asked,
   joined-reads.Learnt,
 ) (parser·follow-at t) parser·follow.Post parser·follow-Inv-loop parser·follow-μ-loop
 parser·follow-same-length-3 t c =
     let loop = c .before .before .before .before .before .before .before .before .before .before .before .before .before .before .before .before .before .before .before .loop in
     let next-of = c .before .before .before .before .before .before .before .before .before .before .before .before .next-of in
-    let resume = c .before .before .before .before .before .before .before .resume in
-    resume .kept .1 .1 .1 .0 ∙ next-of .kept .1 .1 .1 .0 ∙ loop .inv .1
+    let steps = c .before .before .before .before .before .before .before .steps in
+    steps .kept .1 .1 .1 .0 ∙ next-of .kept .1 .1 .1 .0 ∙ loop .inv .1
 
 parser·follow-same-length-4 : (t : ℕ) → parser·follow-lts.Need-same-length-4 (
   goes-on-reads.Asked,
@@ -1267,15 +1237,15 @@ parser·follow-same-length-4 : (t : ℕ) → parser·follow-lts.Need-same-length
   item-reads.Learnt,
   next-of-reads.Asked,
   next-of-reads.Learnt,
-  parser·resume-below t,
-  parser·resume.Post,
+  parser·steps-below t,
+  parser·steps.Post,
   joined-reads.Asked,
   joined-reads.Learnt,
 ) (parser·follow-at t) parser·follow.Post parser·follow-Inv-loop parser·follow-μ-loop
 parser·follow-same-length-4 t c =
     let loop = c .before .before .before .before .before .before .before .before .before .before .before .before .before .before .before .before .before .before .before .loop in
-    let resume = c .before .before .before .before .before .before .before .resume in
-    resume .kept .1 .1 .1 .1 .0 ∙ loop .inv .2
+    let steps = c .before .before .before .before .before .before .before .steps in
+    steps .kept .1 .1 .1 .1 .0 ∙ loop .inv .2
 
 parser·follow-returns-3 : (t : ℕ) → parser·follow-lts.Need-returns-3 (
   goes-on-reads.Asked,
@@ -1288,8 +1258,8 @@ parser·follow-returns-3 : (t : ℕ) → parser·follow-lts.Need-returns-3 (
   item-reads.Learnt,
   next-of-reads.Asked,
   next-of-reads.Learnt,
-  parser·resume-below t,
-  parser·resume.Post,
+  parser·steps-below t,
+  parser·steps.Post,
   joined-reads.Asked,
   joined-reads.Learnt,
 ) (parser·follow-at t) parser·follow.Post parser·follow-Inv-loop parser·follow-μ-loop
@@ -1302,10 +1272,10 @@ parser·follow-returns-3 t c =
     let if2 = c .before .before .before .before .before .before .before .before .before .before .before .before .before .before .before .before .if2 in
     let item = c .before .before .before .before .before .before .before .before .before .before .before .before .before .before .item in
     let next-of = c .before .before .before .before .before .before .before .before .before .before .before .before .next-of in
-    let resume = c .before .before .before .before .before .before .before .resume in
+    let steps = c .before .before .before .before .before .before .before .steps in
     let joined = c .before .before .joined in
     let if3 = c .if3 in
-    follow-whole _ _ _ _ _ _ _ _ _ _ _ _ _ _ _ _ (sym (goes-on .ensures) ∙ not-false _ (if1 .left)) (found .ensures) (follow-stop _ _ _ _ _ _ _ _ _ _ _ _ _ _ (table (loop .rows)) (loop .all) (loop .inv .4) (loop-test .taken) (if2 .left) _ (item .ensures) _ _ _ _ _ _ (next-of .ensures) (resume .ensures) (joined .ensures) (if3 .taken))
+    follow-whole _ _ _ _ _ _ _ _ _ _ _ _ _ _ _ _ (sym (goes-on .ensures) ∙ not-false _ (if1 .left)) (found .ensures) (follow-stop _ _ _ _ _ _ _ _ _ _ _ _ _ _ (table (loop .rows)) (loop .all) (loop .inv .4) (loop-test .taken) (if2 .left) _ (item .ensures) _ _ _ _ _ _ (next-of .ensures) (steps .ensures) (joined .ensures) (if3 .taken))
 
 parser·follow-add-i : (t : ℕ) → parser·follow-lts.Need-add-i (
   goes-on-reads.Asked,
@@ -1318,8 +1288,8 @@ parser·follow-add-i : (t : ℕ) → parser·follow-lts.Need-add-i (
   item-reads.Learnt,
   next-of-reads.Asked,
   next-of-reads.Learnt,
-  parser·resume-below t,
-  parser·resume.Post,
+  parser·steps-below t,
+  parser·steps.Post,
   joined-reads.Asked,
   joined-reads.Learnt,
 ) (parser·follow-at t) parser·follow.Post parser·follow-Inv-loop parser·follow-μ-loop
@@ -1339,8 +1309,8 @@ parser·follow-loop-less : (t : ℕ) → parser·follow-lts.Need-loop-less (
   item-reads.Learnt,
   next-of-reads.Asked,
   next-of-reads.Learnt,
-  parser·resume-below t,
-  parser·resume.Post,
+  parser·steps-below t,
+  parser·steps.Post,
   joined-reads.Asked,
   joined-reads.Learnt,
 ) (parser·follow-at t) parser·follow.Post parser·follow-Inv-loop parser·follow-μ-loop
@@ -1359,8 +1329,8 @@ parser·follow-loop-again : (t : ℕ) → parser·follow-lts.Need-loop-again (
   item-reads.Learnt,
   next-of-reads.Asked,
   next-of-reads.Learnt,
-  parser·resume-below t,
-  parser·resume.Post,
+  parser·steps-below t,
+  parser·steps.Post,
   joined-reads.Asked,
   joined-reads.Learnt,
 ) (parser·follow-at t) parser·follow.Post parser·follow-Inv-loop parser·follow-μ-loop
@@ -1370,10 +1340,10 @@ parser·follow-loop-again t c =
     let if2 = c .before .before .before .before .before .before .before .before .before .before .before .before .before .before .before .before .if2 in
     let item = c .before .before .before .before .before .before .before .before .before .before .before .before .before .before .item in
     let next-of = c .before .before .before .before .before .before .before .before .before .before .before .before .next-of in
-    let resume = c .before .before .before .before .before .before .before .resume in
+    let steps = c .before .before .before .before .before .before .before .steps in
     let joined = c .before .before .joined in
     let if3 = c .if3 in
-    (omega (arith, loop-test .taken), resume .kept .1 .1 .1 .0 ∙ next-of .kept .1 .1 .1 .0 ∙ loop .inv .1, resume .kept .1 .1 .1 .1 .0 ∙ loop .inv .2, if3 .left, follow-again _ _ _ _ _ _ _ _ _ _ _ _ _ _ (table (loop .rows)) (loop .all) (loop .inv .4) (loop-test .taken) (if2 .left) _ (item .ensures) _ _ _ _ _ _ (next-of .ensures) (resume .ensures) (joined .ensures) (if3 .left))
+    (omega (arith, loop-test .taken), steps .kept .1 .1 .1 .0 ∙ next-of .kept .1 .1 .1 .0 ∙ loop .inv .1, steps .kept .1 .1 .1 .1 .0 ∙ loop .inv .2, if3 .left, follow-again _ _ _ _ _ _ _ _ _ _ _ _ _ _ (table (loop .rows)) (loop .all) (loop .inv .4) (loop-test .taken) (if2 .left) _ (item .ensures) _ _ _ _ _ _ (next-of .ensures) (steps .ensures) (joined .ensures) (if3 .left))
 
 parser·follow-same-length-5 : (t : ℕ) → parser·follow-lts.Need-same-length-5 (
   goes-on-reads.Asked,
@@ -1386,8 +1356,8 @@ parser·follow-same-length-5 : (t : ℕ) → parser·follow-lts.Need-same-length
   item-reads.Learnt,
   next-of-reads.Asked,
   next-of-reads.Learnt,
-  parser·resume-below t,
-  parser·resume.Post,
+  parser·steps-below t,
+  parser·steps.Post,
   joined-reads.Asked,
   joined-reads.Learnt,
 ) (parser·follow-at t) parser·follow.Post parser·follow-Inv-loop parser·follow-μ-loop
@@ -1404,8 +1374,8 @@ parser·follow-same-length-6 : (t : ℕ) → parser·follow-lts.Need-same-length
   item-reads.Learnt,
   next-of-reads.Asked,
   next-of-reads.Learnt,
-  parser·resume-below t,
-  parser·resume.Post,
+  parser·steps-below t,
+  parser·steps.Post,
   joined-reads.Asked,
   joined-reads.Learnt,
 ) (parser·follow-at t) parser·follow.Post parser·follow-Inv-loop parser·follow-μ-loop
@@ -1422,8 +1392,8 @@ parser·follow-returns-4 : (t : ℕ) → parser·follow-lts.Need-returns-4 (
   item-reads.Learnt,
   next-of-reads.Asked,
   next-of-reads.Learnt,
-  parser·resume-below t,
-  parser·resume.Post,
+  parser·steps-below t,
+  parser·steps.Post,
   joined-reads.Asked,
   joined-reads.Learnt,
 ) (parser·follow-at t) parser·follow.Post parser·follow-Inv-loop parser·follow-μ-loop
@@ -1434,63 +1404,6 @@ parser·follow-returns-4 t c =
     let loop = c .before .loop in
     let loop-test = c .loop-test in
     follow-whole _ _ _ _ _ _ _ _ _ _ _ _ _ _ _ _ (sym (goes-on .ensures) ∙ not-false _ (if1 .left)) (found .ensures) (follow-end _ _ _ _ _ _ _ _ _ _ _ _ _ _ (table (loop .rows)) (loop .all) (loop .inv .4) (loop-test .left) (loop .inv .3))
-
-parser·go-goes-on-requires : (t : ℕ) → parser·go-lts.Need-goes-on-requires (
-  goes-on-reads.Asked,
-  goes-on-reads.Learnt,
-  parser·steps-below t,
-  parser·steps.Post,
-) (parser·go-at t) parser·go.Post
-parser·go-goes-on-requires t c κs = search needs
-
-parser·go-returns : (t : ℕ) → parser·go-lts.Need-returns (
-  goes-on-reads.Asked,
-  goes-on-reads.Learnt,
-  parser·steps-below t,
-  parser·steps.Post,
-) (parser·go-at t) parser·go.Post
-parser·go-returns t c =
-    let goes-on = c .before .goes-on in
-    let if1 = c .if1 in
-    resume-ended _ _ _ _ _ _ _ _ _ _ _ _ _ (sym (goes-on .ensures) ∙ not-true _ (if1 .taken))
-
-parser·go-steps-requires : (t : ℕ) → parser·go-lts.Need-steps-requires (
-  goes-on-reads.Asked,
-  goes-on-reads.Learnt,
-  parser·steps-below t,
-  parser·steps.Post,
-) (parser·go-at t) parser·go.Post
-parser·go-steps-requires t c κs =
-    let start = c .before .before .before .before .before .before .before .before .before in
-    (omega (arith, start .pre .0), start .pre .1)
-
-parser·go-same-length : (t : ℕ) → parser·go-lts.Need-same-length (
-  goes-on-reads.Asked,
-  goes-on-reads.Learnt,
-  parser·steps-below t,
-  parser·steps.Post,
-) (parser·go-at t) parser·go.Post
-parser·go-same-length t c = (c .before .before .before .before .steps) .kept .1 .1 .1 .0
-
-parser·go-same-length-2 : (t : ℕ) → parser·go-lts.Need-same-length-2 (
-  goes-on-reads.Asked,
-  goes-on-reads.Learnt,
-  parser·steps-below t,
-  parser·steps.Post,
-) (parser·go-at t) parser·go.Post
-parser·go-same-length-2 t c = (c .before .before .before .before .steps) .kept .1 .1 .1 .1 .0
-
-parser·go-returns-2 : (t : ℕ) → parser·go-lts.Need-returns-2 (
-  goes-on-reads.Asked,
-  goes-on-reads.Learnt,
-  parser·steps-below t,
-  parser·steps.Post,
-) (parser·go-at t) parser·go.Post
-parser·go-returns-2 t c =
-    let goes-on = c .before .before .before .before .before .before .before .before .goes-on in
-    let if1 = c .before .before .before .before .before .before .before .if1 in
-    let steps = c .before .before .before .before .steps in
-    resume-steps _ _ _ _ _ _ _ _ _ _ _ _ _ _ _ _ (sym (goes-on .ensures) ∙ not-false _ (if1 .left)) refl (steps .ensures)
 
 abbrev parser·one-run-Inv-loop : parser·one-run-lts.InvT-loop
 parser·one-run-Inv-loop book index text store₀ rows₀ left minimum nonterminal called o₀ k₀ store rows o k = (k ≤ called .number) × (length store ≡ length store₀) × (length rows ≡ length rows₀) × (o .limit ≡ 0) × (Held text store₀ (o₀ .state .cells) → Going text store (o .state .cells) (variantsRows (bookIn book index) text (within (bookIn book index) text left) left minimum (called .number - k) (called .first + k) (failureOf (o .failure)) (rowState (o .state .units) (cellsOf store (o .state .cells)) (table rows))) (variantsRows (bookIn book index) text (within (bookIn book index) text left) left minimum (called .number) (called .first) (failureOf (o₀ .failure)) (rowState (o₀ .state .units) (cellsOf store₀ (o₀ .state .cells)) (table rows₀))))
@@ -1800,438 +1713,519 @@ parser·one-run-returns-2 t c =
     let if1 = c .if1 in
     one-run-whole _ _ _ _ _ _ _ _ _ _ _ _ _ _ _ (nonterminal-of .ensures) (clear-run .ensures) (nonterminal .ensures) (done .ensures) (variants-end _ _ _ _ _ _ _ _ _ _ _ _ (table (loop .rows)) (loop .o) (loop .inv .4) (if1 .left) (loop .inv .3))
 
-parser·resume-goes-on-requires : (t : ℕ) → parser·resume-lts.Need-goes-on-requires (
-  goes-on-reads.Asked,
-  goes-on-reads.Learnt,
-  parser·steps-below t,
-  parser·steps.Post,
-  parser·descend-below t,
-  parser·descend.Post,
-  parser·choice-below t,
-  parser·choice.Post,
-) (parser·resume-at t) parser·resume.Post
-parser·resume-goes-on-requires t c κs = search needs
+abbrev parser·steps-Inv-loop : parser·steps-lts.InvT-loop
+parser·steps-Inv-loop book index text store₀ rows₀ left here₀ doing₀ o₀ store rows here doing o = (length store ≡ length store₀) × (length rows ≡ length rows₀) × InRange (bookIn book index) here × (6 * here .left + rankOf doing ≤ 6 * here₀ .left + rankOf doing₀) × (Held text store₀ (o₀ .state .cells) → Going text store (o .state .cells) (resumes (bookIn book index) text (runnerRows (bookIn book index) text left) left (here .call) (here .variant) (todoAt (bookIn book index) here) doing (here .at) (here .items) (given o (cellsOf store (o .state .cells)) (table rows))) (resumes (bookIn book index) text (runnerRows (bookIn book index) text left) left (here₀ .call) (here₀ .variant) (todoAt (bookIn book index) here₀) doing₀ (here₀ .at) (here₀ .items) (given o₀ (cellsOf store₀ (o₀ .state .cells)) (table rows₀))))
 
-parser·resume-returns : (t : ℕ) → parser·resume-lts.Need-returns (
-  goes-on-reads.Asked,
-  goes-on-reads.Learnt,
-  parser·steps-below t,
-  parser·steps.Post,
-  parser·descend-below t,
-  parser·descend.Post,
-  parser·choice-below t,
-  parser·choice.Post,
-) (parser·resume-at t) parser·resume.Post
-parser·resume-returns t c =
-    let goes-on = c .before .goes-on in
-    let if1 = c .if1 in
-    resume-ended _ _ _ _ _ _ _ _ _ _ _ _ _ (sym (goes-on .ensures) ∙ not-true _ (if1 .taken))
+abbrev parser·steps-μ-loop : parser·steps-lts.MeasureT-loop
+parser·steps-μ-loop book index text store₀ rows₀ left here₀ doing₀ o₀ store rows here doing o = here .left
 
-parser·resume-enum-told : (t : ℕ) → parser·resume-lts.Need-enum-told (
+parser·steps-loop-holds : (t : ℕ) → parser·steps-lts.Need-loop-holds (
   goes-on-reads.Asked,
   goes-on-reads.Learnt,
-  parser·steps-below t,
-  parser·steps.Post,
+  finish-reads.Asked,
+  finish-reads.Learnt,
+  take-step-reads.Asked,
+  take-step-reads.Learnt,
   parser·descend-below t,
   parser·descend.Post,
   parser·choice-below t,
   parser·choice.Post,
-) (parser·resume-at t) parser·resume.Post
-parser·resume-enum-told t c = search needs
+) (parser·steps-at t) parser·steps.Post parser·steps-Inv-loop parser·steps-μ-loop
+parser·steps-loop-holds t c = (refl, refl, (c .before .before .before .before .before) .pre .1 .3, omega arith, λ held. record { held = held; is = refl })
 
-parser·resume-steps-requires : (t : ℕ) → parser·resume-lts.Need-steps-requires (
+parser·steps-goes-on-requires : (t : ℕ) → parser·steps-lts.Need-goes-on-requires (
   goes-on-reads.Asked,
   goes-on-reads.Learnt,
-  parser·steps-below t,
-  parser·steps.Post,
+  finish-reads.Asked,
+  finish-reads.Learnt,
+  take-step-reads.Asked,
+  take-step-reads.Learnt,
   parser·descend-below t,
   parser·descend.Post,
   parser·choice-below t,
   parser·choice.Post,
-) (parser·resume-at t) parser·resume.Post
-parser·resume-steps-requires t c κs =
-    let start = c .before .before .before .before .before .before .before .before .before .before .before .before in
-    (omega (arith, start .pre .0), start .pre .1)
+) (parser·steps-at t) parser·steps.Post parser·steps-Inv-loop parser·steps-μ-loop
+parser·steps-goes-on-requires t c κs = search needs
 
-parser·resume-enum-known-doing : (t : ℕ) → parser·resume-lts.Need-enum-known-doing (
+parser·steps-enum-told : (t : ℕ) → parser·steps-lts.Need-enum-told (
   goes-on-reads.Asked,
   goes-on-reads.Learnt,
-  parser·steps-below t,
-  parser·steps.Post,
+  finish-reads.Asked,
+  finish-reads.Learnt,
+  take-step-reads.Asked,
+  take-step-reads.Learnt,
   parser·descend-below t,
   parser·descend.Post,
   parser·choice-below t,
   parser·choice.Post,
-) (parser·resume-at t) parser·resume.Post
-parser·resume-enum-known-doing t c = search needs
-
-parser·resume-descend-requires : (t : ℕ) → parser·resume-lts.Need-descend-requires (
-  goes-on-reads.Asked,
-  goes-on-reads.Learnt,
-  parser·steps-below t,
-  parser·steps.Post,
-  parser·descend-below t,
-  parser·descend.Post,
-  parser·choice-below t,
-  parser·choice.Post,
-) (parser·resume-at t) parser·resume.Post
-parser·resume-descend-requires t c κs =
-    let start = c .before .before .before .before .before .before .before .before .before .before .before .before .before in
-    (omega (arith, start .pre .0), start .pre .1)
-
-parser·resume-enum-known-doing-2 : (t : ℕ) → parser·resume-lts.Need-enum-known-doing-2 (
-  goes-on-reads.Asked,
-  goes-on-reads.Learnt,
-  parser·steps-below t,
-  parser·steps.Post,
-  parser·descend-below t,
-  parser·descend.Post,
-  parser·choice-below t,
-  parser·choice.Post,
-) (parser·resume-at t) parser·resume.Post
-parser·resume-enum-known-doing-2 t c = search needs
-
-parser·resume-choice-requires : (t : ℕ) → parser·resume-lts.Need-choice-requires (
-  goes-on-reads.Asked,
-  goes-on-reads.Learnt,
-  parser·steps-below t,
-  parser·steps.Post,
-  parser·descend-below t,
-  parser·descend.Post,
-  parser·choice-below t,
-  parser·choice.Post,
-) (parser·resume-at t) parser·resume.Post
-parser·resume-choice-requires t c κs =
-    let start = c .before .before .before .before .before .before .before .before .before .before .before .before .before in
-    (omega (arith, start .pre .0), start .pre .1)
-
-parser·resume-enum-known-doing-3 : (t : ℕ) → parser·resume-lts.Need-enum-known-doing-3 (
-  goes-on-reads.Asked,
-  goes-on-reads.Learnt,
-  parser·steps-below t,
-  parser·steps.Post,
-  parser·descend-below t,
-  parser·descend.Post,
-  parser·choice-below t,
-  parser·choice.Post,
-) (parser·resume-at t) parser·resume.Post
-parser·resume-enum-known-doing-3 t c = search needs
-
-parser·resume-choice-requires-2 : (t : ℕ) → parser·resume-lts.Need-choice-requires-2 (
-  goes-on-reads.Asked,
-  goes-on-reads.Learnt,
-  parser·steps-below t,
-  parser·steps.Post,
-  parser·descend-below t,
-  parser·descend.Post,
-  parser·choice-below t,
-  parser·choice.Post,
-) (parser·resume-at t) parser·resume.Post
-parser·resume-choice-requires-2 t c κs =
-    let start = c .before .before .before .before .before .before .before .before .before .before .before .before .before in
-    (omega (arith, start .pre .0), start .pre .1)
-
-parser·resume-same-length : (t : ℕ) → parser·resume-lts.Need-same-length (
-  goes-on-reads.Asked,
-  goes-on-reads.Learnt,
-  parser·steps-below t,
-  parser·steps.Post,
-  parser·descend-below t,
-  parser·descend.Post,
-  parser·choice-below t,
-  parser·choice.Post,
-) (parser·resume-at t) parser·resume.Post
-parser·resume-same-length t c = (c .before .before .before .before .steps) .kept .1 .1 .1 .0
-
-parser·resume-same-length-2 : (t : ℕ) → parser·resume-lts.Need-same-length-2 (
-  goes-on-reads.Asked,
-  goes-on-reads.Learnt,
-  parser·steps-below t,
-  parser·steps.Post,
-  parser·descend-below t,
-  parser·descend.Post,
-  parser·choice-below t,
-  parser·choice.Post,
-) (parser·resume-at t) parser·resume.Post
-parser·resume-same-length-2 t c = (c .before .before .before .before .steps) .kept .1 .1 .1 .1 .0
-
-parser·resume-returns-2 : (t : ℕ) → parser·resume-lts.Need-returns-2 (
-  goes-on-reads.Asked,
-  goes-on-reads.Learnt,
-  parser·steps-below t,
-  parser·steps.Post,
-  parser·descend-below t,
-  parser·descend.Post,
-  parser·choice-below t,
-  parser·choice.Post,
-) (parser·resume-at t) parser·resume.Post
-parser·resume-returns-2 t c =
-    let goes-on = c .before .before .before .before .before .before .before .before .before .before .before .goes-on in
-    let if1 = c .before .before .before .before .before .before .before .before .before .before .if1 in
-    let enum-told = c .before .before .before .before .before .before .before .enum-told in
-    let steps = c .before .before .before .before .steps in
-    resume-steps _ _ _ _ _ _ _ _ _ _ _ _ _ _ _ _ (sym (goes-on .ensures) ∙ not-false _ (if1 .left)) (enum-told .given .1) (steps .ensures)
-
-parser·resume-same-length-3 : (t : ℕ) → parser·resume-lts.Need-same-length-3 (
-  goes-on-reads.Asked,
-  goes-on-reads.Learnt,
-  parser·steps-below t,
-  parser·steps.Post,
-  parser·descend-below t,
-  parser·descend.Post,
-  parser·choice-below t,
-  parser·choice.Post,
-) (parser·resume-at t) parser·resume.Post
-parser·resume-same-length-3 t c = (c .before .before .before .before .descend) .kept .1 .1 .1 .0
-
-parser·resume-same-length-4 : (t : ℕ) → parser·resume-lts.Need-same-length-4 (
-  goes-on-reads.Asked,
-  goes-on-reads.Learnt,
-  parser·steps-below t,
-  parser·steps.Post,
-  parser·descend-below t,
-  parser·descend.Post,
-  parser·choice-below t,
-  parser·choice.Post,
-) (parser·resume-at t) parser·resume.Post
-parser·resume-same-length-4 t c = (c .before .before .before .before .descend) .kept .1 .1 .1 .1 .0
-
-parser·resume-returns-3 : (t : ℕ) → parser·resume-lts.Need-returns-3 (
-  goes-on-reads.Asked,
-  goes-on-reads.Learnt,
-  parser·steps-below t,
-  parser·steps.Post,
-  parser·descend-below t,
-  parser·descend.Post,
-  parser·choice-below t,
-  parser·choice.Post,
-) (parser·resume-at t) parser·resume.Post
-parser·resume-returns-3 t c =
-    let goes-on = c .before .before .before .before .before .before .before .before .before .before .before .before .goes-on in
-    let if1 = c .before .before .before .before .before .before .before .before .before .before .before .if1 in
-    let doing = c .before .before .before .before .before .before .before .before .doing in
-    let descend = c .before .before .before .before .descend in
-    resume-child _ _ _ _ _ _ _ _ _ _ _ _ _ _ _ _ (sym (goes-on .ensures) ∙ not-false _ (if1 .left)) _ (doing .given .1) (descend .ensures)
-
-parser·resume-same-length-5 : (t : ℕ) → parser·resume-lts.Need-same-length-5 (
-  goes-on-reads.Asked,
-  goes-on-reads.Learnt,
-  parser·steps-below t,
-  parser·steps.Post,
-  parser·descend-below t,
-  parser·descend.Post,
-  parser·choice-below t,
-  parser·choice.Post,
-) (parser·resume-at t) parser·resume.Post
-parser·resume-same-length-5 t c = (c .before .before .before .before .choice) .kept .1 .1 .1 .0
-
-parser·resume-same-length-6 : (t : ℕ) → parser·resume-lts.Need-same-length-6 (
-  goes-on-reads.Asked,
-  goes-on-reads.Learnt,
-  parser·steps-below t,
-  parser·steps.Post,
-  parser·descend-below t,
-  parser·descend.Post,
-  parser·choice-below t,
-  parser·choice.Post,
-) (parser·resume-at t) parser·resume.Post
-parser·resume-same-length-6 t c = (c .before .before .before .before .choice) .kept .1 .1 .1 .1 .0
-
-parser·resume-returns-4 : (t : ℕ) → parser·resume-lts.Need-returns-4 (
-  goes-on-reads.Asked,
-  goes-on-reads.Learnt,
-  parser·steps-below t,
-  parser·steps.Post,
-  parser·descend-below t,
-  parser·descend.Post,
-  parser·choice-below t,
-  parser·choice.Post,
-) (parser·resume-at t) parser·resume.Post
-parser·resume-returns-4 t c =
-    let goes-on = c .before .before .before .before .before .before .before .before .before .before .before .before .goes-on in
-    let if1 = c .before .before .before .before .before .before .before .before .before .before .before .if1 in
-    let doing2 = c .before .before .before .before .before .before .before .before .doing2 in
-    let choice = c .before .before .before .before .choice in
-    resume-optional _ _ _ _ _ _ _ _ _ _ _ _ _ _ _ _ (sym (goes-on .ensures) ∙ not-false _ (if1 .left)) _ (doing2 .given .1) (choice .ensures)
-
-parser·resume-same-length-7 : (t : ℕ) → parser·resume-lts.Need-same-length-7 (
-  goes-on-reads.Asked,
-  goes-on-reads.Learnt,
-  parser·steps-below t,
-  parser·steps.Post,
-  parser·descend-below t,
-  parser·descend.Post,
-  parser·choice-below t,
-  parser·choice.Post,
-) (parser·resume-at t) parser·resume.Post
-parser·resume-same-length-7 t c = (c .before .before .before .before .choice2) .kept .1 .1 .1 .0
-
-parser·resume-same-length-8 : (t : ℕ) → parser·resume-lts.Need-same-length-8 (
-  goes-on-reads.Asked,
-  goes-on-reads.Learnt,
-  parser·steps-below t,
-  parser·steps.Post,
-  parser·descend-below t,
-  parser·descend.Post,
-  parser·choice-below t,
-  parser·choice.Post,
-) (parser·resume-at t) parser·resume.Post
-parser·resume-same-length-8 t c = (c .before .before .before .before .choice2) .kept .1 .1 .1 .1 .0
-
-parser·resume-returns-5 : (t : ℕ) → parser·resume-lts.Need-returns-5 (
-  goes-on-reads.Asked,
-  goes-on-reads.Learnt,
-  parser·steps-below t,
-  parser·steps.Post,
-  parser·descend-below t,
-  parser·descend.Post,
-  parser·choice-below t,
-  parser·choice.Post,
-) (parser·resume-at t) parser·resume.Post
-parser·resume-returns-5 t c =
-    let goes-on = c .before .before .before .before .before .before .before .before .before .before .before .before .goes-on in
-    let if1 = c .before .before .before .before .before .before .before .before .before .before .before .if1 in
-    let doing3 = c .before .before .before .before .before .before .before .before .doing3 in
-    let choice2 = c .before .before .before .before .choice2 in
-    resume-elements _ _ _ _ _ _ _ _ _ _ _ _ _ _ _ _ (sym (goes-on .ensures) ∙ not-false _ (if1 .left)) _ (doing3 .given .1) (choice2 .ensures)
+) (parser·steps-at t) parser·steps.Post parser·steps-Inv-loop parser·steps-μ-loop
+parser·steps-enum-told t c = search needs
 
 parser·steps-finish-requires : (t : ℕ) → parser·steps-lts.Need-finish-requires (
+  goes-on-reads.Asked,
+  goes-on-reads.Learnt,
   finish-reads.Asked,
   finish-reads.Learnt,
   take-step-reads.Asked,
   take-step-reads.Learnt,
-  parser·resume-below t,
-  parser·resume.Post,
-) (parser·steps-at t) parser·steps.Post
+  parser·descend-below t,
+  parser·descend.Post,
+  parser·choice-below t,
+  parser·choice.Post,
+) (parser·steps-at t) parser·steps.Post parser·steps-Inv-loop parser·steps-μ-loop
 parser·steps-finish-requires t c κs =
-    let start = c .before .before .before .before .before .before .before .before .before in
-    (start .pre .1 .3 .0, start .pre .1 .1, start .pre .1 .2)
+    let start = c .before .before .before .before .before .before .before .before .before .before .before .before .before .before in
+    let loop = c .before .before .before .before .before .before .before .before .loop in
+    (loop .inv .2 .0, omega (arith, start .pre .1 .1, loop .inv .1), start .pre .1 .2)
 
 parser·steps-same-length : (t : ℕ) → parser·steps-lts.Need-same-length (
+  goes-on-reads.Asked,
+  goes-on-reads.Learnt,
   finish-reads.Asked,
   finish-reads.Learnt,
   take-step-reads.Asked,
   take-step-reads.Learnt,
-  parser·resume-below t,
-  parser·resume.Post,
-) (parser·steps-at t) parser·steps.Post
-parser·steps-same-length t c = (c .before .before .before .before .finish) .kept .1 .1 .1 .0
+  parser·descend-below t,
+  parser·descend.Post,
+  parser·choice-below t,
+  parser·choice.Post,
+) (parser·steps-at t) parser·steps.Post parser·steps-Inv-loop parser·steps-μ-loop
+parser·steps-same-length t c =
+    let loop = c .before .before .before .before .before .before .before .before .before .before .before .before .before .loop in
+    let finish = c .before .before .before .before .finish in
+    finish .kept .1 .1 .1 .0 ∙ loop .inv .0
 
 parser·steps-same-length-2 : (t : ℕ) → parser·steps-lts.Need-same-length-2 (
+  goes-on-reads.Asked,
+  goes-on-reads.Learnt,
   finish-reads.Asked,
   finish-reads.Learnt,
   take-step-reads.Asked,
   take-step-reads.Learnt,
-  parser·resume-below t,
-  parser·resume.Post,
-) (parser·steps-at t) parser·steps.Post
-parser·steps-same-length-2 t c = (c .before .before .before .before .finish) .kept .1 .1 .1 .1 .0
+  parser·descend-below t,
+  parser·descend.Post,
+  parser·choice-below t,
+  parser·choice.Post,
+) (parser·steps-at t) parser·steps.Post parser·steps-Inv-loop parser·steps-μ-loop
+parser·steps-same-length-2 t c =
+    let loop = c .before .before .before .before .before .before .before .before .before .before .before .before .before .loop in
+    let finish = c .before .before .before .before .finish in
+    finish .kept .1 .1 .1 .1 .0 ∙ loop .inv .1
 
 parser·steps-returns : (t : ℕ) → parser·steps-lts.Need-returns (
+  goes-on-reads.Asked,
+  goes-on-reads.Learnt,
   finish-reads.Asked,
   finish-reads.Learnt,
   take-step-reads.Asked,
   take-step-reads.Learnt,
-  parser·resume-below t,
-  parser·resume.Post,
-) (parser·steps-at t) parser·steps.Post
+  parser·descend-below t,
+  parser·descend.Post,
+  parser·choice-below t,
+  parser·choice.Post,
+) (parser·steps-at t) parser·steps.Post parser·steps-Inv-loop parser·steps-μ-loop
 parser·steps-returns t c =
-    let start = c .before .before .before .before .before .before .before .before .before .before .before .before .before .before in
-    let if1 = c .before .before .before .before .before .before .before .if1 in
+    let loop = c .before .before .before .before .before .before .before .before .before .before .before .before .before .loop in
+    let goes-on = c .before .before .before .before .before .before .before .before .before .before .before .before .goes-on in
+    let if1 = c .before .before .before .before .before .before .before .before .before .before .before .if1 in
+    let enum-told = c .before .before .before .before .before .before .before .before .before .enum-told in
+    let if2 = c .before .before .before .before .before .before .before .if2 in
     let finish = c .before .before .before .before .finish in
-    steps-end _ _ _ _ _ _ (start .args .here .step) (start .args .here .left) _ _ _ _ _ _ _ _ (if1 .taken) (finish .ensures)
+    path-end _ _ _ _ (loop .here .call) (loop .here .variant) (loop .here .step) (loop .here .left) _ _ _ (loop .o) _ _ _ _ (table (loop .rows)) (loop .inv .4) (sym (goes-on .ensures) ∙ if1 .taken) (enum-told .given .1) _ _ _ (if2 .taken) (finish .ensures)
 
 parser·steps-take-step-requires : (t : ℕ) → parser·steps-lts.Need-take-step-requires (
+  goes-on-reads.Asked,
+  goes-on-reads.Learnt,
   finish-reads.Asked,
   finish-reads.Learnt,
   take-step-reads.Asked,
   take-step-reads.Learnt,
-  parser·resume-below t,
-  parser·resume.Post,
-) (parser·steps-at t) parser·steps.Post
-parser·steps-take-step-requires t c κs = (c .before .before .before .before .before .before .before .before) .pre .1 .2
+  parser·descend-below t,
+  parser·descend.Post,
+  parser·choice-below t,
+  parser·choice.Post,
+) (parser·steps-at t) parser·steps.Post parser·steps-Inv-loop parser·steps-μ-loop
+parser·steps-take-step-requires t c κs =
+    let start = c .before .before .before .before .before .before .before .before .before .before .before .before .before in
+    start .pre .1 .2
 
 parser·steps-add-step : (t : ℕ) → parser·steps-lts.Need-add-step (
+  goes-on-reads.Asked,
+  goes-on-reads.Learnt,
   finish-reads.Asked,
   finish-reads.Learnt,
   take-step-reads.Asked,
   take-step-reads.Learnt,
-  parser·resume-below t,
-  parser·resume.Post,
-) (parser·steps-at t) parser·steps.Post
+  parser·descend-below t,
+  parser·descend.Post,
+  parser·choice-below t,
+  parser·choice.Post,
+) (parser·steps-at t) parser·steps.Post parser·steps-Inv-loop parser·steps-μ-loop
 parser·steps-add-step t c =
-    let start = c .before .before .before .before .before .before .before .before .before .before .before .before in
-    let if1 = c .before .before .before .before .before .if1 in
-    omega (arith, start .pre .1 .3 .2, start .pre .1 .2 .all, if1 .left)
+    let start = c .before .before .before .before .before .before .before .before .before .before .before .before .before .before .before .before .before in
+    let loop = c .before .before .before .before .before .before .before .before .before .before .before .loop in
+    let if2 = c .before .before .before .before .before .if2 in
+    omega (arith, loop .inv .2 .2, start .pre .1 .2 .all, if2 .left)
 
 parser·steps-sub-fewer : (t : ℕ) → parser·steps-lts.Need-sub-fewer (
+  goes-on-reads.Asked,
+  goes-on-reads.Learnt,
   finish-reads.Asked,
   finish-reads.Learnt,
   take-step-reads.Asked,
   take-step-reads.Learnt,
-  parser·resume-below t,
-  parser·resume.Post,
-) (parser·steps-at t) parser·steps.Post
-parser·steps-sub-fewer t c = omega (arith, (c .before .before .before .before .before .before .if1) .left)
+  parser·descend-below t,
+  parser·descend.Post,
+  parser·choice-below t,
+  parser·choice.Post,
+) (parser·steps-at t) parser·steps.Post parser·steps-Inv-loop parser·steps-μ-loop
+parser·steps-sub-fewer t c = omega (arith, (c .before .before .before .before .before .before .if2) .left)
 
-parser·steps-resume-requires : (t : ℕ) → parser·steps-lts.Need-resume-requires (
+parser·steps-loop-less : (t : ℕ) → parser·steps-lts.Need-loop-less (
+  goes-on-reads.Asked,
+  goes-on-reads.Learnt,
   finish-reads.Asked,
   finish-reads.Learnt,
   take-step-reads.Asked,
   take-step-reads.Learnt,
-  parser·resume-below t,
-  parser·resume.Post,
-) (parser·steps-at t) parser·steps.Post
-parser·steps-resume-requires t c κs =
-    let start = c .before .before .before .before .before .before .before .before .before .before .before .before .before .before .before in
-    let if1 = c .before .before .before .before .before .before .before .before .if1 in
-    (omega (arith, start .pre .0, if1 .left), (start .pre .1 .0, start .pre .1 .1, start .pre .1 .2, (start .pre .1 .3 .0, omega (arith, start .pre .1 .3 .1), omega (arith, start .pre .1 .3 .2, if1 .left))))
+  parser·descend-below t,
+  parser·descend.Post,
+  parser·choice-below t,
+  parser·choice.Post,
+) (parser·steps-at t) parser·steps.Post parser·steps-Inv-loop parser·steps-μ-loop
+parser·steps-loop-less t c = omega (arith, (c .before .before .before .before .before .before .before .if2) .left)
+
+parser·steps-loop-again : (t : ℕ) → parser·steps-lts.Need-loop-again (
+  goes-on-reads.Asked,
+  goes-on-reads.Learnt,
+  finish-reads.Asked,
+  finish-reads.Learnt,
+  take-step-reads.Asked,
+  take-step-reads.Learnt,
+  parser·descend-below t,
+  parser·descend.Post,
+  parser·choice-below t,
+  parser·choice.Post,
+) (parser·steps-at t) parser·steps.Post parser·steps-Inv-loop parser·steps-μ-loop
+parser·steps-loop-again t c =
+    let loop = c .before .before .before .before .before .before .before .before .before .before .before .before .before .loop in
+    let goes-on = c .before .before .before .before .before .before .before .before .before .before .before .before .goes-on in
+    let if1 = c .before .before .before .before .before .before .before .before .before .before .before .if1 in
+    let enum-told = c .before .before .before .before .before .before .before .before .before .enum-told in
+    let if2 = c .before .before .before .before .before .before .before .if2 in
+    let take-step = c .before .before .before .before .before .take-step in
+    (take-step .kept .1 .1 .1 .0 ∙ loop .inv .0, loop .inv .1, (loop .inv .2 .0, omega (arith, loop .inv .2 .1), omega (arith, loop .inv .2 .2, if2 .left)), omega (arith, loop .inv .3, if2 .left, rank-few (take-step .result .doing)), path-step _ _ _ _ (loop .here .call) (loop .here .variant) (loop .here .step) (loop .here .left) _ _ _ (loop .o) _ _ _ _ (table (loop .rows)) (loop .inv .4) (sym (goes-on .ensures) ∙ if1 .taken) (enum-told .given .1) _ _ (if2 .left) (loop .inv .2 .2) (take-step .ensures))
+
+parser·steps-enum-known-doing : (t : ℕ) → parser·steps-lts.Need-enum-known-doing (
+  goes-on-reads.Asked,
+  goes-on-reads.Learnt,
+  finish-reads.Asked,
+  finish-reads.Learnt,
+  take-step-reads.Asked,
+  take-step-reads.Learnt,
+  parser·descend-below t,
+  parser·descend.Post,
+  parser·choice-below t,
+  parser·choice.Post,
+) (parser·steps-at t) parser·steps.Post parser·steps-Inv-loop parser·steps-μ-loop
+parser·steps-enum-known-doing t c = search needs
+
+parser·steps-descend-requires : (t : ℕ) → parser·steps-lts.Need-descend-requires (
+  goes-on-reads.Asked,
+  goes-on-reads.Learnt,
+  finish-reads.Asked,
+  finish-reads.Learnt,
+  take-step-reads.Asked,
+  take-step-reads.Learnt,
+  parser·descend-below t,
+  parser·descend.Post,
+  parser·choice-below t,
+  parser·choice.Post,
+) (parser·steps-at t) parser·steps.Post parser·steps-Inv-loop parser·steps-μ-loop
+parser·steps-descend-requires t c κs =
+    let start = c .before .before .before .before .before .before .before .before .before .before .before .before .before in
+    let loop = c .before .before .before .before .before .before .before .loop in
+    (omega (arith, start .pre .0, loop .inv .3), (start .pre .1 .0, omega (arith, start .pre .1 .1, loop .inv .1), start .pre .1 .2, loop .inv .2))
 
 parser·steps-same-length-3 : (t : ℕ) → parser·steps-lts.Need-same-length-3 (
+  goes-on-reads.Asked,
+  goes-on-reads.Learnt,
   finish-reads.Asked,
   finish-reads.Learnt,
   take-step-reads.Asked,
   take-step-reads.Learnt,
-  parser·resume-below t,
-  parser·resume.Post,
-) (parser·steps-at t) parser·steps.Post
+  parser·descend-below t,
+  parser·descend.Post,
+  parser·choice-below t,
+  parser·choice.Post,
+) (parser·steps-at t) parser·steps.Post parser·steps-Inv-loop parser·steps-μ-loop
 parser·steps-same-length-3 t c =
-    let take-step = c .before .before .before .before .before .before .before .before .before .before .before .take-step in
-    let resume = c .before .before .before .before .resume in
-    resume .kept .1 .1 .1 .0 ∙ take-step .kept .1 .1 .1 .0
+    let loop = c .before .before .before .before .before .before .before .before .before .before .before .before .loop in
+    let descend = c .before .before .before .before .descend in
+    descend .kept .1 .1 .1 .0 ∙ loop .inv .0
 
 parser·steps-same-length-4 : (t : ℕ) → parser·steps-lts.Need-same-length-4 (
+  goes-on-reads.Asked,
+  goes-on-reads.Learnt,
   finish-reads.Asked,
   finish-reads.Learnt,
   take-step-reads.Asked,
   take-step-reads.Learnt,
-  parser·resume-below t,
-  parser·resume.Post,
-) (parser·steps-at t) parser·steps.Post
-parser·steps-same-length-4 t c = (c .before .before .before .before .resume) .kept .1 .1 .1 .1 .0
+  parser·descend-below t,
+  parser·descend.Post,
+  parser·choice-below t,
+  parser·choice.Post,
+) (parser·steps-at t) parser·steps.Post parser·steps-Inv-loop parser·steps-μ-loop
+parser·steps-same-length-4 t c =
+    let loop = c .before .before .before .before .before .before .before .before .before .before .before .before .loop in
+    let descend = c .before .before .before .before .descend in
+    descend .kept .1 .1 .1 .1 .0 ∙ loop .inv .1
 
 parser·steps-returns-2 : (t : ℕ) → parser·steps-lts.Need-returns-2 (
+  goes-on-reads.Asked,
+  goes-on-reads.Learnt,
   finish-reads.Asked,
   finish-reads.Learnt,
   take-step-reads.Asked,
   take-step-reads.Learnt,
-  parser·resume-below t,
-  parser·resume.Post,
-) (parser·steps-at t) parser·steps.Post
+  parser·descend-below t,
+  parser·descend.Post,
+  parser·choice-below t,
+  parser·choice.Post,
+) (parser·steps-at t) parser·steps.Post parser·steps-Inv-loop parser·steps-μ-loop
 parser·steps-returns-2 t c =
-    let start = c .before .before .before .before .before .before .before .before .before .before .before .before .before .before .before .before .before .before .before .before in
-    let if1 = c .before .before .before .before .before .before .before .before .before .before .before .before .before .if1 in
-    let take-step = c .before .before .before .before .before .before .before .before .before .before .before .take-step in
-    let resume = c .before .before .before .before .resume in
-    steps-on _ _ _ _ _ _ _ _ _ _ _ _ _ _ _ _ _ _ (if1 .left) (start .pre .1 .3 .2) (take-step .ensures) (resume .ensures)
+    let loop = c .before .before .before .before .before .before .before .before .before .before .before .before .loop in
+    let goes-on = c .before .before .before .before .before .before .before .before .before .before .before .goes-on in
+    let if1 = c .before .before .before .before .before .before .before .before .before .before .if1 in
+    let doing = c .before .before .before .before .before .before .before .before .doing in
+    let descend = c .before .before .before .before .descend in
+    path-child _ _ _ _ (loop .here .call) (loop .here .variant) (loop .here .step) (loop .here .left) _ _ _ (loop .o) _ _ _ _ (table (loop .rows)) (loop .inv .4) (sym (goes-on .ensures) ∙ if1 .taken) _ _ _ _ (doing .given .1) (descend .ensures)
+
+parser·steps-enum-known-doing-2 : (t : ℕ) → parser·steps-lts.Need-enum-known-doing-2 (
+  goes-on-reads.Asked,
+  goes-on-reads.Learnt,
+  finish-reads.Asked,
+  finish-reads.Learnt,
+  take-step-reads.Asked,
+  take-step-reads.Learnt,
+  parser·descend-below t,
+  parser·descend.Post,
+  parser·choice-below t,
+  parser·choice.Post,
+) (parser·steps-at t) parser·steps.Post parser·steps-Inv-loop parser·steps-μ-loop
+parser·steps-enum-known-doing-2 t c = search needs
+
+parser·steps-choice-requires : (t : ℕ) → parser·steps-lts.Need-choice-requires (
+  goes-on-reads.Asked,
+  goes-on-reads.Learnt,
+  finish-reads.Asked,
+  finish-reads.Learnt,
+  take-step-reads.Asked,
+  take-step-reads.Learnt,
+  parser·descend-below t,
+  parser·descend.Post,
+  parser·choice-below t,
+  parser·choice.Post,
+) (parser·steps-at t) parser·steps.Post parser·steps-Inv-loop parser·steps-μ-loop
+parser·steps-choice-requires t c κs =
+    let start = c .before .before .before .before .before .before .before .before .before .before .before .before .before in
+    let loop = c .before .before .before .before .before .before .before .loop in
+    let doing2 = c .before .before .before .doing2 in
+    (omega (arith, start .pre .0, loop .inv .3, rank-optional _ _ (doing2 .given .1)), (start .pre .1 .0, omega (arith, start .pre .1 .1, loop .inv .1), start .pre .1 .2, loop .inv .2))
+
+parser·steps-same-length-5 : (t : ℕ) → parser·steps-lts.Need-same-length-5 (
+  goes-on-reads.Asked,
+  goes-on-reads.Learnt,
+  finish-reads.Asked,
+  finish-reads.Learnt,
+  take-step-reads.Asked,
+  take-step-reads.Learnt,
+  parser·descend-below t,
+  parser·descend.Post,
+  parser·choice-below t,
+  parser·choice.Post,
+) (parser·steps-at t) parser·steps.Post parser·steps-Inv-loop parser·steps-μ-loop
+parser·steps-same-length-5 t c =
+    let loop = c .before .before .before .before .before .before .before .before .before .before .before .before .loop in
+    let choice = c .before .before .before .before .choice in
+    choice .kept .1 .1 .1 .0 ∙ loop .inv .0
+
+parser·steps-same-length-6 : (t : ℕ) → parser·steps-lts.Need-same-length-6 (
+  goes-on-reads.Asked,
+  goes-on-reads.Learnt,
+  finish-reads.Asked,
+  finish-reads.Learnt,
+  take-step-reads.Asked,
+  take-step-reads.Learnt,
+  parser·descend-below t,
+  parser·descend.Post,
+  parser·choice-below t,
+  parser·choice.Post,
+) (parser·steps-at t) parser·steps.Post parser·steps-Inv-loop parser·steps-μ-loop
+parser·steps-same-length-6 t c =
+    let loop = c .before .before .before .before .before .before .before .before .before .before .before .before .loop in
+    let choice = c .before .before .before .before .choice in
+    choice .kept .1 .1 .1 .1 .0 ∙ loop .inv .1
+
+parser·steps-returns-3 : (t : ℕ) → parser·steps-lts.Need-returns-3 (
+  goes-on-reads.Asked,
+  goes-on-reads.Learnt,
+  finish-reads.Asked,
+  finish-reads.Learnt,
+  take-step-reads.Asked,
+  take-step-reads.Learnt,
+  parser·descend-below t,
+  parser·descend.Post,
+  parser·choice-below t,
+  parser·choice.Post,
+) (parser·steps-at t) parser·steps.Post parser·steps-Inv-loop parser·steps-μ-loop
+parser·steps-returns-3 t c =
+    let loop = c .before .before .before .before .before .before .before .before .before .before .before .before .loop in
+    let goes-on = c .before .before .before .before .before .before .before .before .before .before .before .goes-on in
+    let if1 = c .before .before .before .before .before .before .before .before .before .before .if1 in
+    let doing2 = c .before .before .before .before .before .before .before .before .doing2 in
+    let choice = c .before .before .before .before .choice in
+    path-optional _ _ _ _ (loop .here .call) (loop .here .variant) (loop .here .step) (loop .here .left) _ _ _ (loop .o) _ _ _ _ (table (loop .rows)) (loop .inv .4) (sym (goes-on .ensures) ∙ if1 .taken) _ _ _ _ (doing2 .given .1) (choice .ensures)
+
+parser·steps-enum-known-doing-3 : (t : ℕ) → parser·steps-lts.Need-enum-known-doing-3 (
+  goes-on-reads.Asked,
+  goes-on-reads.Learnt,
+  finish-reads.Asked,
+  finish-reads.Learnt,
+  take-step-reads.Asked,
+  take-step-reads.Learnt,
+  parser·descend-below t,
+  parser·descend.Post,
+  parser·choice-below t,
+  parser·choice.Post,
+) (parser·steps-at t) parser·steps.Post parser·steps-Inv-loop parser·steps-μ-loop
+parser·steps-enum-known-doing-3 t c = search needs
+
+parser·steps-choice-requires-2 : (t : ℕ) → parser·steps-lts.Need-choice-requires-2 (
+  goes-on-reads.Asked,
+  goes-on-reads.Learnt,
+  finish-reads.Asked,
+  finish-reads.Learnt,
+  take-step-reads.Asked,
+  take-step-reads.Learnt,
+  parser·descend-below t,
+  parser·descend.Post,
+  parser·choice-below t,
+  parser·choice.Post,
+) (parser·steps-at t) parser·steps.Post parser·steps-Inv-loop parser·steps-μ-loop
+parser·steps-choice-requires-2 t c κs =
+    let start = c .before .before .before .before .before .before .before .before .before .before .before .before .before in
+    let loop = c .before .before .before .before .before .before .before .loop in
+    let doing3 = c .before .before .before .doing3 in
+    (omega (arith, start .pre .0, loop .inv .3, rank-elements _ _ (doing3 .given .1)), (start .pre .1 .0, omega (arith, start .pre .1 .1, loop .inv .1), start .pre .1 .2, loop .inv .2))
+
+parser·steps-same-length-7 : (t : ℕ) → parser·steps-lts.Need-same-length-7 (
+  goes-on-reads.Asked,
+  goes-on-reads.Learnt,
+  finish-reads.Asked,
+  finish-reads.Learnt,
+  take-step-reads.Asked,
+  take-step-reads.Learnt,
+  parser·descend-below t,
+  parser·descend.Post,
+  parser·choice-below t,
+  parser·choice.Post,
+) (parser·steps-at t) parser·steps.Post parser·steps-Inv-loop parser·steps-μ-loop
+parser·steps-same-length-7 t c =
+    let loop = c .before .before .before .before .before .before .before .before .before .before .before .before .loop in
+    let choice2 = c .before .before .before .before .choice2 in
+    choice2 .kept .1 .1 .1 .0 ∙ loop .inv .0
+
+parser·steps-same-length-8 : (t : ℕ) → parser·steps-lts.Need-same-length-8 (
+  goes-on-reads.Asked,
+  goes-on-reads.Learnt,
+  finish-reads.Asked,
+  finish-reads.Learnt,
+  take-step-reads.Asked,
+  take-step-reads.Learnt,
+  parser·descend-below t,
+  parser·descend.Post,
+  parser·choice-below t,
+  parser·choice.Post,
+) (parser·steps-at t) parser·steps.Post parser·steps-Inv-loop parser·steps-μ-loop
+parser·steps-same-length-8 t c =
+    let loop = c .before .before .before .before .before .before .before .before .before .before .before .before .loop in
+    let choice2 = c .before .before .before .before .choice2 in
+    choice2 .kept .1 .1 .1 .1 .0 ∙ loop .inv .1
+
+parser·steps-returns-4 : (t : ℕ) → parser·steps-lts.Need-returns-4 (
+  goes-on-reads.Asked,
+  goes-on-reads.Learnt,
+  finish-reads.Asked,
+  finish-reads.Learnt,
+  take-step-reads.Asked,
+  take-step-reads.Learnt,
+  parser·descend-below t,
+  parser·descend.Post,
+  parser·choice-below t,
+  parser·choice.Post,
+) (parser·steps-at t) parser·steps.Post parser·steps-Inv-loop parser·steps-μ-loop
+parser·steps-returns-4 t c =
+    let loop = c .before .before .before .before .before .before .before .before .before .before .before .before .loop in
+    let goes-on = c .before .before .before .before .before .before .before .before .before .before .before .goes-on in
+    let if1 = c .before .before .before .before .before .before .before .before .before .before .if1 in
+    let doing3 = c .before .before .before .before .before .before .before .before .doing3 in
+    let choice2 = c .before .before .before .before .choice2 in
+    path-elements _ _ _ _ (loop .here .call) (loop .here .variant) (loop .here .step) (loop .here .left) _ _ _ (loop .o) _ _ _ _ (table (loop .rows)) (loop .inv .4) (sym (goes-on .ensures) ∙ if1 .taken) _ _ _ _ (doing3 .given .1) (choice2 .ensures)
+
+parser·steps-same-length-9 : (t : ℕ) → parser·steps-lts.Need-same-length-9 (
+  goes-on-reads.Asked,
+  goes-on-reads.Learnt,
+  finish-reads.Asked,
+  finish-reads.Learnt,
+  take-step-reads.Asked,
+  take-step-reads.Learnt,
+  parser·descend-below t,
+  parser·descend.Post,
+  parser·choice-below t,
+  parser·choice.Post,
+) (parser·steps-at t) parser·steps.Post parser·steps-Inv-loop parser·steps-μ-loop
+parser·steps-same-length-9 t c = (c .before .before .loop) .inv .0
+
+parser·steps-same-length-10 : (t : ℕ) → parser·steps-lts.Need-same-length-10 (
+  goes-on-reads.Asked,
+  goes-on-reads.Learnt,
+  finish-reads.Asked,
+  finish-reads.Learnt,
+  take-step-reads.Asked,
+  take-step-reads.Learnt,
+  parser·descend-below t,
+  parser·descend.Post,
+  parser·choice-below t,
+  parser·choice.Post,
+) (parser·steps-at t) parser·steps.Post parser·steps-Inv-loop parser·steps-μ-loop
+parser·steps-same-length-10 t c = (c .before .before .loop) .inv .1
+
+parser·steps-returns-5 : (t : ℕ) → parser·steps-lts.Need-returns-5 (
+  goes-on-reads.Asked,
+  goes-on-reads.Learnt,
+  finish-reads.Asked,
+  finish-reads.Learnt,
+  take-step-reads.Asked,
+  take-step-reads.Learnt,
+  parser·descend-below t,
+  parser·descend.Post,
+  parser·choice-below t,
+  parser·choice.Post,
+) (parser·steps-at t) parser·steps.Post parser·steps-Inv-loop parser·steps-μ-loop
+parser·steps-returns-5 t c =
+    let loop = c .before .before .loop in
+    let goes-on = c .before .goes-on in
+    let if1 = c .if1 in
+    path-ended _ _ _ _ (loop .here .call) (loop .here .variant) (loop .here .step) (loop .here .left) _ _ _ (loop .o) _ _ _ _ (table (loop .rows)) (loop .inv .4) (sym (goes-on .ensures) ∙ if1 .left)
 
 parser·variant-variant-requires : (t : ℕ) → parser·variant-lts.Need-variant-requires (
   variant-reads.Asked,
   variant-reads.Learnt,
   begin-variant-reads.Asked,
   begin-variant-reads.Learnt,
-  parser·go-below t,
-  parser·go.Post,
+  parser·steps-below t,
+  parser·steps.Post,
   counted-reads.Asked,
   counted-reads.Learnt,
 ) (parser·variant-at t) parser·variant.Post
@@ -2242,8 +2236,8 @@ parser·variant-returns : (t : ℕ) → parser·variant-lts.Need-returns (
   variant-reads.Learnt,
   begin-variant-reads.Asked,
   begin-variant-reads.Learnt,
-  parser·go-below t,
-  parser·go.Post,
+  parser·steps-below t,
+  parser·steps.Post,
   counted-reads.Asked,
   counted-reads.Learnt,
 ) (parser·variant-at t) parser·variant.Post
@@ -2258,8 +2252,8 @@ parser·variant-begin-variant-requires : (t : ℕ) → parser·variant-lts.Need-
   variant-reads.Learnt,
   begin-variant-reads.Asked,
   begin-variant-reads.Learnt,
-  parser·go-below t,
-  parser·go.Post,
+  parser·steps-below t,
+  parser·steps.Post,
   counted-reads.Asked,
   counted-reads.Learnt,
 ) (parser·variant-at t) parser·variant.Post
@@ -2272,8 +2266,8 @@ parser·variant-cast-first : (t : ℕ) → parser·variant-lts.Need-cast-first (
   variant-reads.Learnt,
   begin-variant-reads.Asked,
   begin-variant-reads.Learnt,
-  parser·go-below t,
-  parser·go.Post,
+  parser·steps-below t,
+  parser·steps.Post,
   counted-reads.Asked,
   counted-reads.Learnt,
 ) (parser·variant-at t) parser·variant.Post
@@ -2287,8 +2281,8 @@ parser·variant-cast-number : (t : ℕ) → parser·variant-lts.Need-cast-number
   variant-reads.Learnt,
   begin-variant-reads.Asked,
   begin-variant-reads.Learnt,
-  parser·go-below t,
-  parser·go.Post,
+  parser·steps-below t,
+  parser·steps.Post,
   counted-reads.Asked,
   counted-reads.Learnt,
 ) (parser·variant-at t) parser·variant.Post
@@ -2297,31 +2291,31 @@ parser·variant-cast-number t c =
     let variant = c .before .before .before .before .before .before .before .before .before .before .before .variant in
     omega (arith, steps-fit _ _ _ _ (start .pre .1 .2) (variant .ensures))
 
-parser·variant-sub-go : (t : ℕ) → parser·variant-lts.Need-sub-go (
+parser·variant-sub-steps : (t : ℕ) → parser·variant-lts.Need-sub-steps (
   variant-reads.Asked,
   variant-reads.Learnt,
   begin-variant-reads.Asked,
   begin-variant-reads.Learnt,
-  parser·go-below t,
-  parser·go.Post,
+  parser·steps-below t,
+  parser·steps.Post,
   counted-reads.Asked,
   counted-reads.Learnt,
 ) (parser·variant-at t) parser·variant.Post
-parser·variant-sub-go t c =
+parser·variant-sub-steps t c =
     let start = c .before .before .before .before .before .before .before .before .before .before .before .before .before .before .before .before .before .before .before in
     omega (arith, start .pre .1 .3)
 
-parser·variant-go-requires : (t : ℕ) → parser·variant-lts.Need-go-requires (
+parser·variant-steps-requires : (t : ℕ) → parser·variant-lts.Need-steps-requires (
   variant-reads.Asked,
   variant-reads.Learnt,
   begin-variant-reads.Asked,
   begin-variant-reads.Learnt,
-  parser·go-below t,
-  parser·go.Post,
+  parser·steps-below t,
+  parser·steps.Post,
   counted-reads.Asked,
   counted-reads.Learnt,
 ) (parser·variant-at t) parser·variant.Post
-parser·variant-go-requires t c κs =
+parser·variant-steps-requires t c κs =
     let start = c .before .before .before .before .before .before .before .before .before .before .before .before .before .before .before .before .before .before .before in
     let variant = c .before .before .before .before .before .before .before .before .before .before .before .before .before .variant in
     let begin-variant = c .before .before .before .before .before .before .before .before .begin-variant in
@@ -2332,8 +2326,8 @@ parser·variant-counted-requires : (t : ℕ) → parser·variant-lts.Need-counte
   variant-reads.Learnt,
   begin-variant-reads.Asked,
   begin-variant-reads.Learnt,
-  parser·go-below t,
-  parser·go.Post,
+  parser·steps-below t,
+  parser·steps.Post,
   counted-reads.Asked,
   counted-reads.Learnt,
 ) (parser·variant-at t) parser·variant.Post
@@ -2344,38 +2338,38 @@ parser·variant-same-length : (t : ℕ) → parser·variant-lts.Need-same-length
   variant-reads.Learnt,
   begin-variant-reads.Asked,
   begin-variant-reads.Learnt,
-  parser·go-below t,
-  parser·go.Post,
+  parser·steps-below t,
+  parser·steps.Post,
   counted-reads.Asked,
   counted-reads.Learnt,
 ) (parser·variant-at t) parser·variant.Post
 parser·variant-same-length t c =
     let begin-variant = c .before .before .before .before .before .before .before .before .before .before .before .before .before .before .begin-variant in
-    let go = c .before .before .before .before .before .go in
-    go .kept .1 .1 .1 .0 ∙ begin-variant .kept .1 .1 .1 .0
+    let steps = c .before .before .before .before .before .steps in
+    steps .kept .1 .1 .1 .0 ∙ begin-variant .kept .1 .1 .1 .0
 
 parser·variant-same-length-2 : (t : ℕ) → parser·variant-lts.Need-same-length-2 (
   variant-reads.Asked,
   variant-reads.Learnt,
   begin-variant-reads.Asked,
   begin-variant-reads.Learnt,
-  parser·go-below t,
-  parser·go.Post,
+  parser·steps-below t,
+  parser·steps.Post,
   counted-reads.Asked,
   counted-reads.Learnt,
 ) (parser·variant-at t) parser·variant.Post
 parser·variant-same-length-2 t c =
     let begin-variant = c .before .before .before .before .before .before .before .before .before .before .before .before .before .before .begin-variant in
-    let go = c .before .before .before .before .before .go in
-    go .kept .1 .1 .1 .1 .0 ∙ begin-variant .kept .1 .1 .1 .1 .0
+    let steps = c .before .before .before .before .before .steps in
+    steps .kept .1 .1 .1 .1 .0 ∙ begin-variant .kept .1 .1 .1 .1 .0
 
 parser·variant-returns-2 : (t : ℕ) → parser·variant-lts.Need-returns-2 (
   variant-reads.Asked,
   variant-reads.Learnt,
   begin-variant-reads.Asked,
   begin-variant-reads.Learnt,
-  parser·go-below t,
-  parser·go.Post,
+  parser·steps-below t,
+  parser·steps.Post,
   counted-reads.Asked,
   counted-reads.Learnt,
 ) (parser·variant-at t) parser·variant.Post
@@ -2383,13 +2377,13 @@ parser·variant-returns-2 t c =
     let variant = c .before .before .before .before .before .before .before .before .before .before .before .before .before .before .before .before .before .before .before .variant in
     let if1 = c .before .before .before .before .before .before .before .before .before .before .before .before .before .before .before .before .before .if1 in
     let begin-variant = c .before .before .before .before .before .before .before .before .before .before .before .before .before .before .begin-variant in
-    let go = c .before .before .before .before .before .go in
+    let steps = c .before .before .before .before .before .steps in
     let counted = c .counted in
-    variant-ran _ _ _ _ _ _ _ (variant .ensures) _ _ (if1 .left) _ _ _ _ _ _ _ (begin-variant .ensures) (go .ensures) (counted .ensures)
+    variant-ran _ _ _ _ _ _ _ (variant .ensures) _ _ (if1 .left) _ _ _ _ _ _ _ (begin-variant .ensures) (steps .ensures) (counted .ensures)
 
-pub +left-recursion·enter+left-recursion·rounds+left-recursion·run-call+parser·choice+parser·descend+parser·follow+parser·go+parser·one-run+parser·resume+parser·steps+parser·variant-spec :
+pub +left-recursion·enter+left-recursion·rounds+left-recursion·run-call+parser·choice+parser·descend+parser·follow+parser·one-run+parser·steps+parser·variant-spec :
     {M : Type 1} → statement M
-+left-recursion·enter+left-recursion·rounds+left-recursion·run-call+parser·choice+parser·descend+parser·follow+parser·go+parser·one-run+parser·resume+parser·steps+parser·variant-spec =
++left-recursion·enter+left-recursion·rounds+left-recursion·run-call+parser·choice+parser·descend+parser·follow+parser·one-run+parser·steps+parser·variant-spec =
     close
     μ-left-recursion·enter
     μ-left-recursion·rounds
@@ -2397,9 +2391,7 @@ pub +left-recursion·enter+left-recursion·rounds+left-recursion·run-call+parse
     μ-parser·choice
     μ-parser·descend
     μ-parser·follow
-    μ-parser·go
     μ-parser·one-run
-    μ-parser·resume
     μ-parser·steps
     μ-parser·variant
     (λ t. left-recursion·enter-lts.spec (
@@ -2468,8 +2460,8 @@ pub +left-recursion·enter+left-recursion·rounds+left-recursion·run-call+parse
     (λ t. parser·choice-lts.spec (
       first-side-reads.Asked,
       first-side-reads.Learnt,
-      parser·go-below t,
-      parser·go.Post,
+      parser·steps-below t,
+      parser·steps.Post,
       parser·descend-below t,
       parser·descend.Post,
       both-reads.Asked,
@@ -2478,7 +2470,7 @@ pub +left-recursion·enter+left-recursion·rounds+left-recursion·run-call+parse
     (parser·choice-at t)
     parser·choice.Post
     (parser·choice-first-side-requires t)
-    (parser·choice-go-requires t)
+    (parser·choice-steps-requires t)
     (parser·choice-same-length t)
     (parser·choice-same-length-2 t)
     (parser·choice-returns t)
@@ -2514,8 +2506,8 @@ pub +left-recursion·enter+left-recursion·rounds+left-recursion·run-call+parse
       item-reads.Learnt,
       next-of-reads.Asked,
       next-of-reads.Learnt,
-      parser·resume-below t,
-      parser·resume.Post,
+      parser·steps-below t,
+      parser·steps.Post,
       joined-reads.Asked,
       joined-reads.Learnt,
     )
@@ -2534,7 +2526,7 @@ pub +left-recursion·enter+left-recursion·rounds+left-recursion·run-call+parse
     (parser·follow-item-requires t)
     (parser·follow-next-of-requires t)
     (parser·follow-sub-inner t)
-    (parser·follow-resume-requires t)
+    (parser·follow-steps-requires t)
     (parser·follow-joined-requires t)
     (parser·follow-same-length-3 t)
     (parser·follow-same-length-4 t)
@@ -2545,20 +2537,6 @@ pub +left-recursion·enter+left-recursion·rounds+left-recursion·run-call+parse
     (parser·follow-same-length-5 t)
     (parser·follow-same-length-6 t)
     (parser·follow-returns-4 t))
-    (λ t. parser·go-lts.spec (
-      goes-on-reads.Asked,
-      goes-on-reads.Learnt,
-      parser·steps-below t,
-      parser·steps.Post,
-    )
-    (parser·go-at t)
-    parser·go.Post
-    (parser·go-goes-on-requires t)
-    (parser·go-returns t)
-    (parser·go-steps-requires t)
-    (parser·go-same-length t)
-    (parser·go-same-length-2 t)
-    (parser·go-returns-2 t))
     (λ t. parser·one-run-lts.spec (
       nonterminal-of-reads.Asked,
       nonterminal-of-reads.Learnt,
@@ -2593,50 +2571,25 @@ pub +left-recursion·enter+left-recursion·rounds+left-recursion·run-call+parse
     (parser·one-run-same-length-3 t)
     (parser·one-run-same-length-4 t)
     (parser·one-run-returns-2 t))
-    (λ t. parser·resume-lts.spec (
+    (λ t. parser·steps-lts.spec (
       goes-on-reads.Asked,
       goes-on-reads.Learnt,
-      parser·steps-below t,
-      parser·steps.Post,
+      finish-reads.Asked,
+      finish-reads.Learnt,
+      take-step-reads.Asked,
+      take-step-reads.Learnt,
       parser·descend-below t,
       parser·descend.Post,
       parser·choice-below t,
       parser·choice.Post,
     )
-    (parser·resume-at t)
-    parser·resume.Post
-    (parser·resume-goes-on-requires t)
-    (parser·resume-returns t)
-    (parser·resume-enum-told t)
-    (parser·resume-steps-requires t)
-    (parser·resume-enum-known-doing t)
-    (parser·resume-descend-requires t)
-    (parser·resume-enum-known-doing-2 t)
-    (parser·resume-choice-requires t)
-    (parser·resume-enum-known-doing-3 t)
-    (parser·resume-choice-requires-2 t)
-    (parser·resume-same-length t)
-    (parser·resume-same-length-2 t)
-    (parser·resume-returns-2 t)
-    (parser·resume-same-length-3 t)
-    (parser·resume-same-length-4 t)
-    (parser·resume-returns-3 t)
-    (parser·resume-same-length-5 t)
-    (parser·resume-same-length-6 t)
-    (parser·resume-returns-4 t)
-    (parser·resume-same-length-7 t)
-    (parser·resume-same-length-8 t)
-    (parser·resume-returns-5 t))
-    (λ t. parser·steps-lts.spec (
-      finish-reads.Asked,
-      finish-reads.Learnt,
-      take-step-reads.Asked,
-      take-step-reads.Learnt,
-      parser·resume-below t,
-      parser·resume.Post,
-    )
     (parser·steps-at t)
     parser·steps.Post
+    parser·steps-Inv-loop
+    parser·steps-μ-loop
+    (parser·steps-loop-holds t)
+    (parser·steps-goes-on-requires t)
+    (parser·steps-enum-told t)
     (parser·steps-finish-requires t)
     (parser·steps-same-length t)
     (parser·steps-same-length-2 t)
@@ -2644,17 +2597,33 @@ pub +left-recursion·enter+left-recursion·rounds+left-recursion·run-call+parse
     (parser·steps-take-step-requires t)
     (parser·steps-add-step t)
     (parser·steps-sub-fewer t)
-    (parser·steps-resume-requires t)
+    (parser·steps-loop-less t)
+    (parser·steps-loop-again t)
+    (parser·steps-enum-known-doing t)
+    (parser·steps-descend-requires t)
     (parser·steps-same-length-3 t)
     (parser·steps-same-length-4 t)
-    (parser·steps-returns-2 t))
+    (parser·steps-returns-2 t)
+    (parser·steps-enum-known-doing-2 t)
+    (parser·steps-choice-requires t)
+    (parser·steps-same-length-5 t)
+    (parser·steps-same-length-6 t)
+    (parser·steps-returns-3 t)
+    (parser·steps-enum-known-doing-3 t)
+    (parser·steps-choice-requires-2 t)
+    (parser·steps-same-length-7 t)
+    (parser·steps-same-length-8 t)
+    (parser·steps-returns-4 t)
+    (parser·steps-same-length-9 t)
+    (parser·steps-same-length-10 t)
+    (parser·steps-returns-5 t))
     λ t. parser·variant-lts.spec (
       variant-reads.Asked,
       variant-reads.Learnt,
       begin-variant-reads.Asked,
       begin-variant-reads.Learnt,
-      parser·go-below t,
-      parser·go.Post,
+      parser·steps-below t,
+      parser·steps.Post,
       counted-reads.Asked,
       counted-reads.Learnt,
     )
@@ -2665,8 +2634,8 @@ pub +left-recursion·enter+left-recursion·rounds+left-recursion·run-call+parse
     (parser·variant-begin-variant-requires t)
     (parser·variant-cast-first t)
     (parser·variant-cast-number t)
-    (parser·variant-sub-go t)
-    (parser·variant-go-requires t)
+    (parser·variant-sub-steps t)
+    (parser·variant-steps-requires t)
     (parser·variant-counted-requires t)
     (parser·variant-same-length t)
     (parser·variant-same-length-2 t)
