@@ -11,6 +11,7 @@ use cells::STORE_SIZE;
 use characters::skip;
 use progress::Outcome;
 use progress::State;
+use progress::failure_of;
 use tokens::Failure;
 
 // "nesting beyond 200" is a limit; also the outermost call's row
@@ -176,7 +177,7 @@ fn ending(
         cleared(cells, parses);
         return at_end(outcome.limit, work, 0, 0);
     }
-    let failure = outcome.failure;
+    let failure = failure_of(outcome);
     match failure {
         Failure::At(e) => {
             cleared(cells, parses);

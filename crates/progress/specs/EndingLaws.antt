@@ -15,7 +15,7 @@ use Rattle.rules.specs.Cells.{Cell}
 use Rattle.rules.specs.Run as run
 use Rattle.rules.specs.Run.{Result, ok, _>>=_}
 use Rattle.rows.specs.Rows.{Row, rowOf, onRow, withVariant}
-use Rattle.rows.specs.Model.{RowState, rowState, Outcome, outcome, bareCall}
+use Rattle.rows.specs.Model.{RowState, rowState, Outcome, outcome, bareCall, settleFirst}
 use Rattle.calls.specs.Table.{SettledFirst, SettledNext}
 use Rattle.calls.specs.declared.Settled.{Settled}
 use Rattle.tokens.specs.Failures as failures
@@ -28,11 +28,11 @@ use Rattle.progress.specs.declared.outcomes.State.{State}
 use Rattle.progress.specs.declared.items.Made.{Made}
 use Rattle.progress.specs.declared.entering.Ended.{Ended}
 use Rattle.progress.specs.declared.steps.Reached.{Reached}
-use Rattle.progress.specs.Outcomes.{cellsOf, given, Runs, MadeBy}
+use Rattle.progress.specs.Outcomes.{cellsOf, given, Runs, MadeBy, limitOf, doneWith, failureAt}
 use Rattle.progress.specs.Steps.{resumes, doesRows}
 use Rattle.progress.specs.Entering.{goesAgain, EndedBy, FirstEnded, RoundEnded, Begins, Counted}
 use Rattle.progress.specs.OutcomeLaws.{given-ok, given-met, cell-ok, cell-met}
-use Rattle.progress.specs.ResumeLaws.{limitOf, doneWith, bind-met, bind-ok}
+use Rattle.progress.specs.ResumeLaws.{bind-met, bind-ok}
 use Rattle.progress.specs.GivenLaws.{given-done, makes-met, makes-ok}
 
 -- ---- Runs
@@ -91,22 +91,23 @@ module _ (T : List Row) (n : ℕ) (o : outcomes.Outcome) (e : Ended) where
   round-limit h ee =
       record { is = λ book text again cells. limit-ends again _ cells h ee; cells = ap (λ e. e .outcome .state .cells) ee }
 
-  pub first-settled : (U : List Row) (how : Settled) → o .limit ≡ 0 → SettledFirst how T U n → EndedBy U n how (o .failure) (o .state) e → FirstEnded T U n o e
-  first-settled U how h settled ended =
+  pub first-settled : (U : List Row) (how : Settled) → o .limit ≡ 0 → SettledFirst how T U n → (f : Failure) → f ≡ failureAt o → EndedBy U n how f (o .state) e → FirstEnded T U n o e
+  first-settled U how h settled f ef ended =
       record {
         is = λ book text again cells.
             ended .is again cells
-            ∙ sym (settled .now book text again (failureOf (o .failure)) (o .state .units) cells)
+            ∙ sym (settled .now book text again (failureOf f) (o .state .units) cells)
+            ∙ ap (λ (f : Failure). settleFirst book text n again (outcome (failureOf f) (rowState (o .state .units) cells T))) ef
             ∙ sym (bind-ok _ (given-ok o cells T h));
         cells = ended .cells;
       }
 
-  pub round-settled : (U : List Row) (how : Settled) → o .limit ≡ 0 → SettledNext how T U n → EndedBy U n how (o .failure) (o .state) e → RoundEnded T U n o e
-  round-settled U how h settled ended =
+  pub round-settled : (U : List Row) (how : Settled) → o .limit ≡ 0 → SettledNext how T U n → (f : Failure) → f ≡ failureAt o → EndedBy U n how f (o .state) e → RoundEnded T U n o e
+  round-settled U how h settled f ef ended =
       record {
         is = λ book text again cells.
             ended .is again cells
-            ∙ sym (settled .now book text again (failureOf (o .failure)) (o .state .units) cells)
+            ∙ sym (settled .now book text again (failureOf f) (o .state .units) cells)
             ∙ sym (bind-ok _ (given-ok o cells T h));
         cells = ended .cells;
       }
@@ -162,19 +163,21 @@ module _ (book : Book) (j start : ℕ) (before o r : outcomes.Outcome) where
         cells = ap (λ o. o .state .cells) e;
       }
 
-  pub counted-done : (w : Variant) (x y : Failure) → o .limit ≡ 0 → w ≡ variantNumber book j →
-      failureOf x ≡ failures.counted (w .committed) start (failureOf (o .failure)) → failureOf y ≡ joinWith (failureOf (before .failure)) (failureOf x) →
+  pub counted-done : (w : Variant) (a b x y : Failure) → o .limit ≡ 0 → a ≡ failureAt before → b ≡ failureAt o → w ≡ variantNumber book j →
+      failureOf x ≡ failures.counted (w .committed) start (failureOf b) → failureOf y ≡ joinWith (failureOf a) (failureOf x) →
       r ≡ doneWith y (o .state) → Counted book j start before o r
-  counted-done w x y h ew ex ey er =
+  counted-done w a b x y h ea eb ew ex ey er =
       record {
         is = λ text N cells T.
             given-done r y (o .state) cells T er
             ∙ ap (λ (z : Option Error). ok (outcome z (rowState (o .state .units) cells T)))
             (ey
-            ∙ ap (joinWith (failureOf (before .failure)))
+            ∙ ap (λ (a : Failure). joinWith (failureOf a) (failureOf x)) ea
+            ∙ ap (joinWith (failureOf (failureAt before)))
             (ex
-            ∙ ap (λ (w : Variant). failures.counted (w .committed) start (failureOf (o .failure))) ew
-            ∙ sym (counted-run book text (bareCall N start) j (failureOf (o .failure)))))
+            ∙ ap (λ (b : Failure). failures.counted (w .committed) start (failureOf b)) eb
+            ∙ ap (λ (w : Variant). failures.counted (w .committed) start (failureOf (failureAt o))) ew
+            ∙ sym (counted-run book text (bareCall N start) j (failureOf (failureAt o)))))
             ∙ sym (bind-ok _ (given-ok o cells T h));
         cells = ap (λ o. o .state .cells) er;
       }

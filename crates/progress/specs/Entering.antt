@@ -24,7 +24,7 @@ use Rattle.progress.specs.declared.entering.Entered.{Entered}
 use Rattle.progress.specs.declared.entering.Ended.{Ended}
 use Rattle.progress.specs.declared.steps.Doing.{Doing}
 use Rattle.progress.specs.declared.steps.Reached.{Reached}
-use Rattle.progress.specs.Outcomes.{cellsOf, Held, given}
+use Rattle.progress.specs.Outcomes.{cellsOf, Held, given, failureAt}
 use Rattle.progress.specs.Steps.{resumes}
 
 -- ---- Entering
@@ -103,5 +103,5 @@ Begins book text before after T U n j s r = Held text before (s .cells) → Begu
 pub record Counted (book : Book) (j start : ℕ) (before o r : code.Outcome) : Type 0 where
   pub is : (text : List ℕ) (N : ℕ) (cells : List Cell) (T : List Row) →
       given r cells T ≡ (given o cells T >>= (λ y.
-      ok (outcome (joinWith (failureOf (before .failure)) (counted book text (bareCall N start) j (y .failure))) (y .state))))
+      ok (outcome (joinWith (failureOf (failureAt before)) (counted book text (bareCall N start) j (y .failure))) (y .state))))
   pub cells : r .state .cells ≡ o .state .cells

@@ -34,10 +34,10 @@ use Rattle.progress.specs.declared.outcomes.Outcome as outcomes
 use Rattle.progress.specs.declared.outcomes.State.{State}
 use Rattle.progress.specs.declared.items.Made.{Made}
 use Rattle.progress.specs.declared.entering.Entered.{Entered}
-use Rattle.progress.specs.Outcomes.{cellsOf, Held, bare, given, Ran, Runs, Spent, MadeBy}
+use Rattle.progress.specs.Outcomes.{cellsOf, Held, bare, given, Ran, Runs, Spent, MadeBy, limitOf, doneWith}
 use Rattle.progress.specs.Entering.{Stores, within, goesIn, Entering, Opens, Enters}
 use Rattle.progress.specs.OutcomeLaws.{given-ok, given-met, cell-ok, cell-met}
-use Rattle.progress.specs.ResumeLaws.{limitOf, doneWith, bind-met, bind-ok, unit-met, unit-ok}
+use Rattle.progress.specs.ResumeLaws.{bind-met, bind-ok, unit-met, unit-ok}
 use Rattle.progress.specs.GivenLaws.{given-done, ran-with, makes-met, makes-ok}
 
 -- ---- A stored answer

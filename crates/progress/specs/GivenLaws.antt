@@ -11,14 +11,17 @@ use Rattle.tokens.specs.Maps.{failureOf}
 use Rattle.tokens.specs.declared.errors.Failure.{Failure}
 use Rattle.progress.specs.declared.outcomes.Outcome as outcomes
 use Rattle.progress.specs.declared.outcomes.State.{State}
-use Rattle.progress.specs.Outcomes.{cellsOf, Held, given, Ran}
-use Rattle.progress.specs.OutcomeLaws.{given-ok}
-use Rattle.progress.specs.ResumeLaws.{doneWith, bind-met, bind-ok}
+use Rattle.progress.specs.Outcomes.{cellsOf, Held, given, Ran, doneWith}
+use Rattle.progress.specs.OutcomeLaws.{failure-done, given-ok}
+use Rattle.progress.specs.ResumeLaws.{bind-met, bind-ok}
 
 -- ---- Outcomes of the code
 pub given-done : (o : outcomes.Outcome) (f : Failure) (s : State) (cells : List Cell) (T : List Row) → o ≡ doneWith f s →
     given o cells T ≡ ok (outcome (failureOf f) (rowState (s .units) cells T))
-given-done o f s cells T e = ap (λ o. given o cells T) e ∙ given-ok (doneWith f s) cells T refl
+given-done o f s cells T e =
+    ap (λ o. given o cells T) e
+    ∙ given-ok (doneWith f s) cells T refl
+    ∙ ap (λ (f : Failure). ok (outcome (failureOf f) (rowState (s .units) cells T))) (failure-done f s)
 
 -- what was done, where the cells are those of a state
 pub ran-with : (text store : List ℕ) (T : List Row) (o : outcomes.Outcome) (s : State) (z : Result Outcome) → o .state .cells ≡ s .cells →

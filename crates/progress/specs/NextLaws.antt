@@ -27,10 +27,10 @@ use Rattle.progress.specs.declared.steps.List as lists
 use Rattle.progress.specs.declared.steps.Next.{Next}
 use Rattle.progress.specs.declared.steps.Reached.{Reached}
 use Rattle.progress.specs.declared.steps.Stage.{Stage}
-use Rattle.progress.specs.Outcomes.{cellsOf, Spent, MadeBy}
-use Rattle.progress.specs.OutcomeLaws.{given-ok, given-met}
+use Rattle.progress.specs.Outcomes.{cellsOf, Spent, MadeBy, limitOf, doneWith, failureAt}
+use Rattle.progress.specs.OutcomeLaws.{given-ok, given-met, failure-done}
 use Rattle.progress.specs.Steps.{nextRows, choosesRows, doesRows, sideRows, Part, Stages, Reaches, Chosen, Joined}
-use Rattle.progress.specs.ResumeLaws.{limitOf, doneWith, endedBy, reachedWith, thenSteps, stateIn, bind-met, bind-ok, unit-met, unit-ok, makes-ok, makes-met, resumes-met, resumes-on, made-resumes}
+use Rattle.progress.specs.ResumeLaws.{endedBy, reachedWith, thenSteps, stateIn, bind-met, bind-ok, unit-met, unit-ok, makes-ok, makes-met, resumes-met, resumes-on, made-resumes}
 use Rattle.progress.specs.StepsLaws.{stopsPart}
 
 -- ---- What follows a parse
@@ -145,13 +145,13 @@ unfolding together
 together-either zero a b h = absurd (h refl)
 together-either (suc i) a b h = refl
 
-pub joined-both : (i : ℕ) (before o r : Outcome) (f : Failure) → o .limit ≡ 0 → (i ≡ 0 → ⊥) →
-    failureOf f ≡ either (failureOf (before .failure)) (failureOf (o .failure)) → r ≡ doneWith f (o .state) → Joined i before o r
-joined-both i before o r f l h e q =
+pub joined-both : (i : ℕ) (before o r : Outcome) (a b f : Failure) → o .limit ≡ 0 → (i ≡ 0 → ⊥) → a ≡ failureAt before → b ≡ failureAt o →
+    failureOf f ≡ either (failureOf a) (failureOf b) → r ≡ doneWith f (o .state) → Joined i before o r
+joined-both i before o r a b f l h ea eb e q =
     rw q (record {
       is = λ cells T.
           given-ok (doneWith f (o .state)) cells T refl
-          ∙ ap (λ z. ok (outcome z (rowState (o .state .units) cells T))) (e ∙ sym (together-either i (failureOf (before .failure)) (failureOf (o .failure)) h))
+          ∙ ap (λ z. ok (outcome z (rowState (o .state .units) cells T))) (ap failureOf (failure-done f (o .state)) ∙ (rw (ea, eb) at e) ∙ sym (together-either i (failureOf (failureAt before)) (failureOf (failureAt o)) h))
           ∙ sym (bind-ok _ (given-ok o cells T l));
       cells = refl;
     })
@@ -192,7 +192,7 @@ module _ (s : State) (spent : Outcome) (p : Spent spent s) (cells : List Cell) (
 
   spend-goes : spent .limit ≡ 0 → spendRows (rowState (s .units) cells T) ≡ ok (rowState (spent .state .units) cells T)
   spend-goes l =
-      unit-ok (spendRows (rowState (s .units) cells T)) (failureOf (spent .failure)) (rowState (spent .state .units) cells T)
+      unit-ok (spendRows (rowState (s .units) cells T)) (failureOf (failureAt spent)) (rowState (spent .state .units) cells T)
       (sym (given-ok spent cells T l) ∙ p .is cells T)
 
 module _ (book : Book) (text before : List ℕ) (j at items : ℕ) (l : lists.List) (s : State) (spent : Outcome) (p : Spent spent s) where
@@ -239,13 +239,14 @@ both-limit text T c at a b l =
       cells = refl;
     }
 
-pub both-chosen : (text : List ℕ) (T : List Row) (c at N x : ℕ) (a b r : Outcome) (f : Failure) → b .limit ≡ 0 → N ≡ rowOf T c .nonterminal → x ≡ skipFrom text at →
-    failureOf f ≡ failures.chosen x N (failureOf (a .failure)) (failureOf (b .failure)) → r ≡ doneWith f (b .state) → Chosen text T c at a b r
-both-chosen text T c at N x a b r f l eN ex e q =
+pub both-chosen : (text : List ℕ) (T : List Row) (c at N x : ℕ) (a b r : Outcome) (first second f : Failure) → b .limit ≡ 0 → N ≡ rowOf T c .nonterminal →
+    x ≡ skipFrom text at → first ≡ failureAt a → second ≡ failureAt b → failureOf f ≡ failures.chosen x N (failureOf first) (failureOf second) → r ≡ doneWith f (b .state) → Chosen text T c at a b r
+both-chosen text T c at N x a b r first second f l eN ex ea eb e q =
     rw q (record {
       is = λ book inner n cells.
           given-ok (doneWith f (b .state)) cells T refl
-          ∙ ap (λ z. ok (outcome z (rowState (b .state .units) cells T))) (rw (ex, eN) at (e ∙ chosen-same N x (failureOf (a .failure)) (failureOf (b .failure))))
+          ∙ ap (λ z. ok (outcome z (rowState (b .state .units) cells T)))
+          (ap failureOf (failure-done f (b .state)) ∙ (rw (ex, eN) at ((rw (ea, eb) at e) ∙ chosen-same N x (failureOf (failureAt a)) (failureOf (failureAt b)))))
           ∙ sym (bind-ok _ (given-ok b cells T l));
       cells = refl;
     })

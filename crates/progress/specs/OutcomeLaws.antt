@@ -29,11 +29,11 @@ use Rattle.progress.specs.declared.outcomes.State.{State}
 use Rattle.progress.specs.declared.outcomes.Outcome.{Outcome}
 use Rattle.progress.specs.declared.items.Made.{Made}
 use Rattle.progress.specs.Fit.{Fits, ItemFits}
-use Rattle.progress.specs.Outcomes.{cellsOf, Held, bare, given, nothing, goesOn, Spent, givenCell, MadeIn, MadeBy}
+use Rattle.progress.specs.Outcomes.{cellsOf, Held, bare, limitOf, doneWith, failureAt, given, goesOn, Spent, givenCell, MadeIn, MadeBy}
 
 -- ---- Outcomes
 pub given-ok : (o : Outcome) (cells : List Cell) (T : List Row) → o .limit ≡ 0 →
-    given o cells T ≡ ok (outcome (failureOf (o .failure)) (rowState (o .state .units) cells T))
+    given o cells T ≡ ok (outcome (failureOf (failureAt o)) (rowState (o .state .units) cells T))
 unfolding given
 given-ok o cells T e = rw (eq-eqb (o .limit) 0 e, given)
 
@@ -45,13 +45,26 @@ pub limit-stops : (o : Outcome) → (o .limit ≡ 0 → ⊥) → false ≡ goesO
 unfolding goesOn
 limit-stops o h = rw (ne-eqb (o .limit) 0 h, goesOn)
 
-pub nothing-goes-on : (o : Outcome) → o .limit ≡ 0 → o .failure ≡ Failure.Nothing → true ≡ goesOn o
-unfolding goesOn
-nothing-goes-on o h e = rw (eq-eqb (o .limit) 0 h, e, goesOn)
+-- the failure is the one that it is done with
+pub failure-done : (f : Failure) (s : State) → failureAt (doneWith f s) ≡ f
+failure-done Failure.Nothing s = refl
+failure-done (Failure.At e) s = refl
 
-pub failure-stops : (o : Outcome) (e : code.Error) → o .failure ≡ Failure.At e → false ≡ goesOn o
+pub goes-as : (o : Outcome) → o .limit ≡ 0 → eqb (o .failed) 0 ≡ goesOn o
 unfolding goesOn
-failure-stops o e q = by-test (eqb (o .limit) 0) (λ t. rw (t, q, goesOn)) (λ t. rw (t, goesOn))
+goes-as o h = rw (eq-eqb (o .limit) 0 h, goesOn)
+
+pub failure-none : (o : Outcome) → o .failed ≡ 0 → Failure.Nothing ≡ failureAt o
+failure-none o e = rw (eq-eqb (o .failed) 0 e)
+
+pub failure-some : (o : Outcome) → (o .failed ≡ 0 → ⊥) → Failure.At (o .error) ≡ failureAt o
+failure-some o h = rw (ne-eqb (o .failed) 0 h)
+
+pub done-nothing : (f : Failure) (s : State) (r : Outcome) → f ≡ Failure.Nothing → r ≡ limitOf 0 s → r ≡ doneWith f s
+done-nothing f s r e q = rw e q
+
+pub done-at : (f : Failure) (s : State) (x : code.Error) → f ≡ Failure.At x → record { limit = 0; failed = 1; state = s; error = x } ≡ doneWith f s
+done-at f s x e = rw e
 
 -- ---- Units
 pub spend-one : (units : ℕ) (cells : List Cell) (T : List Row) → (units ≡ 0 → ⊥) → spendRows (rowState units cells T) ≡ ok (rowState (units - 1) cells T)
@@ -63,7 +76,7 @@ unfolding spendRows run.spend _>>=_
 spend-none units cells T h = rw (h, spendRows, run.spend, _>>=_)
 
 pub unit-spent : (s : State) (r : Outcome) (units : ℕ) → (s .units ≡ 0 → ⊥) → units ≡ s .units - 1 →
-    r ≡ record { limit = 0; failure = Failure.Nothing; state = record { units = units; cells = s .cells } } → Spent r s
+    r ≡ doneWith Failure.Nothing (record { units = units; cells = s .cells }) → Spent r s
 unfolding given _>>=_
 unit-spent s r units h u e =
     record {
@@ -71,7 +84,7 @@ unit-spent s r units h u e =
       cells = ap (λ (o : Outcome). o .state .cells) e;
     }
 
-pub no-unit : (s : State) (r : Outcome) → s .units ≡ 0 → r ≡ record { limit = 20; failure = Failure.Nothing; state = s } → Spent r s
+pub no-unit : (s : State) (r : Outcome) → s .units ≡ 0 → r ≡ limitOf 20 s → Spent r s
 unfolding given _>>=_
 no-unit s r h e =
     record {

@@ -1,7 +1,7 @@
 -- What the parts of a run give, as the model of the crate rows has it, and the cells that the store holds. Scaffolding between that model and the code: no
 -- definition of document 01.
 use mathlib.Core.Path.{_≡_}
-use mathlib.Core.Bool.{Bool, true, false, _&&_}
+use mathlib.Core.Bool.{Bool, cond, _&&_}
 use mathlib.Core.List.{List, []}
 use mathlib.Core.Option.{Option, none}
 use Prim.Native.Nat.{ℕ}
@@ -16,6 +16,7 @@ use Rattle.rows.specs.Model as model
 use Rattle.rows.specs.Model.{rowState, outcome, spendRows}
 use Rattle.cells.specs.Store.{Holds, storedCells}
 use Rattle.tokens.specs.Maps.{failureOf}
+use Rattle.tokens.specs.declared.errors.Error.{Error}
 use Rattle.tokens.specs.declared.errors.Failure.{Failure}
 use Rattle.progress.specs.declared.outcomes.State.{State}
 use Rattle.progress.specs.declared.outcomes.Outcome.{Outcome}
@@ -36,18 +37,37 @@ abbrev pub bare : ℕ → List Cell → run.State
 bare units cells = record { units = units; cells = cells; asked = [] }
 
 -- ---- Outcomes
+-- what stands for an error where there is none
+abbrev noError : Error
+noError = record { place = 0; kind = 0; argument = 0 }
+
+abbrev failedBy : Failure → ℕ
+failedBy Failure.Nothing = 0
+failedBy (Failure.At e) = 1
+
+abbrev errorBy : Failure → Error
+errorBy Failure.Nothing = noError
+errorBy (Failure.At e) = e
+
+-- the code's outcome at a limit, and without one
+abbrev pub limitOf : ℕ → State → Outcome
+limitOf limit s = record { limit = limit; failed = 0; state = s; error = noError }
+
+abbrev pub doneWith : Failure → State → Outcome
+doneWith failure s = record { limit = 0; failed = failedBy failure; state = s; error = errorBy failure }
+
+-- its failure
+abbrev pub failureAt : Outcome → Failure
+failureAt o = cond (eqb (o .failed) 0) Failure.Nothing (Failure.At (o .error))
+
 -- an outcome of the code, with the cells and rows that it leaves; a limit forgets them
 unfoldable pub given : Outcome → List Cell → List Row → Result model.Outcome
 given o cells T =
-    when (eqb (o .limit) 0) (λ _. ok (outcome (failureOf (o .failure)) (rowState (o .state .units) cells T))) (λ _. met (o .limit) (o .state .units))
-
-abbrev pub nothing : Failure → Bool
-nothing Failure.Nothing = true
-nothing (Failure.At e) = false
+    when (eqb (o .limit) 0) (λ _. ok (outcome (failureOf (failureAt o)) (rowState (o .state .units) cells T))) (λ _. met (o .limit) (o .state .units))
 
 -- neither a limit nor a failure
 unfoldable pub goesOn : Outcome → Bool
-goesOn o = eqb (o .limit) 0 && nothing (o .failure)
+goesOn o = eqb (o .limit) 0 && eqb (o .failed) 0
 
 -- what a part leaves: its outcome, the cells of the store and the rows are those of the model
 pub record Ran (text store : List ℕ) (T : List Row) (o : Outcome) (z : Result model.Outcome) : Type 0 where

@@ -25,17 +25,11 @@ use Rattle.progress.specs.declared.items.Made.{Made}
 use Rattle.progress.specs.declared.steps.Doing.{Doing}
 use Rattle.progress.specs.declared.steps.Reached.{Reached}
 use Rattle.progress.specs.declared.steps.Stage.{Stage}
-use Rattle.progress.specs.Outcomes.{cellsOf, bare, given, MadeIn}
+use Rattle.progress.specs.Outcomes.{cellsOf, bare, limitOf, doneWith, given, MadeIn}
 use Rattle.progress.specs.OutcomeLaws.{given-ok, given-met, cell-ok, cell-met}
 use Rattle.progress.specs.Steps.{doesRows, resumes}
 
 -- ---- The values of the small functions
-abbrev pub limitOf : ℕ → State → Outcome
-limitOf limit s = record { limit = limit; failure = Failure.Nothing; state = s }
-
-abbrev pub doneWith : Failure → State → Outcome
-doneWith failure s = record { limit = 0; failure = failure; state = s }
-
 abbrev pub endedBy : Outcome → Reached
 endedBy o = record { outcome = o; at = 0; items = 0 }
 

@@ -25,7 +25,7 @@ use Rattle.progress.specs.declared.steps.Doing.{Doing}
 use Rattle.progress.specs.declared.steps.Next.{Next}
 use Rattle.progress.specs.declared.steps.Reached.{Reached}
 use Rattle.progress.specs.declared.steps.Stage.{Stage}
-use Rattle.progress.specs.Outcomes.{cellsOf, Held, given}
+use Rattle.progress.specs.Outcomes.{cellsOf, Held, given, failureAt}
 
 -- so many steps of a book from one on
 abbrev pub todoFrom : Book → ℕ → ℕ → List (Todo ℕ)
@@ -106,11 +106,11 @@ pub record StepSpent (r : code.Outcome) (step : Step) (s : State) : Type 0 where
 -- both sides of a choice at a place
 pub record Chosen (text : List ℕ) (T : List Row) (c at : ℕ) (a b r : code.Outcome) : Type 0 where
   pub is : (book : Book) (inner : Option RowRunner) (n : ℕ) (cells : List Cell) →
-      given r cells T ≡ (given b cells T >>= (λ y. ok (chosenRows book text inner n c (skipFrom text at) (failureOf (a .failure)) y)))
+      given r cells T ≡ (given b cells T >>= (λ y. ok (chosenRows book text inner n c (skipFrom text at) (failureOf (failureAt a)) y)))
   pub cells : r .state .cells ≡ b .state .cells
 
 -- what follows the i-th parse, after those before it
 pub record Joined (i : ℕ) (before o r : code.Outcome) : Type 0 where
   pub is : (cells : List Cell) (T : List Row) →
-      given r cells T ≡ (given o cells T >>= (λ y. ok (outcome (together i (failureOf (before .failure)) (y .failure)) (y .state))))
+      given r cells T ≡ (given o cells T >>= (λ y. ok (outcome (together i (failureOf (failureAt before)) (y .failure)) (y .state))))
   pub cells : r .state .cells ≡ o .state .cells

@@ -40,10 +40,10 @@ use Rattle.progress.specs.declared.steps.Doing.{Doing}
 use Rattle.progress.specs.declared.steps.Reached.{Reached}
 use Rattle.progress.specs.declared.steps.Stage.{Stage}
 use Rattle.progress.specs.Fit.{Fit}
-use Rattle.progress.specs.Outcomes.{cellsOf, Held, bare, given, Runs, Spent, MadeIn, MadeBy}
+use Rattle.progress.specs.Outcomes.{cellsOf, Held, bare, given, Runs, Spent, MadeIn, MadeBy, limitOf, doneWith, failureAt}
 use Rattle.progress.specs.OutcomeLaws.{given-ok, given-met}
 use Rattle.progress.specs.Steps.{nextRows, descendsRows, choosesRows, doesRows, unopenedRows, tokenRows, Part, Stages, Reaches, StepSpent}
-use Rattle.progress.specs.ResumeLaws.{limitOf, doneWith, endedBy, reachedWith, thenSteps, thenDoes, stateIn, bind-met, bind-ok, unit-met, unit-ok, makes-ok, makes-met, resumes-met, resumes-on, resumes-failed, made-resumes}
+use Rattle.progress.specs.ResumeLaws.{endedBy, reachedWith, thenSteps, thenDoes, stateIn, bind-met, bind-ok, unit-met, unit-ok, makes-ok, makes-met, resumes-met, resumes-on, resumes-failed, made-resumes}
 
 -- ---- The end of a variant
 pub level-fits : (book : Book) (text : List ℕ) (j : ℕ) (w : Variant) → w ≡ variantNumber book j → Fit book text → w .level < 4294967296
@@ -197,7 +197,7 @@ module _ (r : Outcome) (step : Step) (s : State) (p : StepSpent r step s) (book 
 
   unit-goes : r .limit ≡ 0 → stepUnitRows book text inner n step (rowState (s .units) cells T) ≡ ok (rowState (r .state .units) cells T)
   unit-goes l =
-      unit-ok (stepUnitRows book text inner n step (rowState (s .units) cells T)) (failureOf (r .failure)) (rowState (r .state .units) cells T)
+      unit-ok (stepUnitRows book text inner n step (rowState (s .units) cells T)) (failureOf (failureAt r)) (rowState (r .state .units) cells T)
       (sym (given-ok r cells T l) ∙ p .is book text inner n cells T)
 
 -- ---- A list begins, or has no opening

@@ -23,6 +23,7 @@ use crate::outcomes::State;
 use crate::outcomes::TOO_DEEP;
 use crate::outcomes::at_limit;
 use crate::outcomes::done;
+use crate::outcomes::failure_of;
 use crate::outcomes::spend;
 use crate::steps::Progress;
 use crate::steps::Reached;
@@ -290,7 +291,7 @@ pub fn after_first(rows: &mut [u32], n: usize, o: Outcome) -> Ended
         return over(o);
     }
     let how = calls::settle_first(rows, n);
-    let failure = o.failure;
+    let failure = failure_of(o);
     ended_by(rows, n, how, failure, o.state)
 }
 
@@ -303,7 +304,7 @@ pub fn after_round(rows: &mut [u32], n: usize, o: Outcome) -> Ended
         return over(o);
     }
     let how = calls::settle(rows, n);
-    let failure = o.failure;
+    let failure = failure_of(o);
     ended_by(rows, n, how, failure, o.state)
 }
 
@@ -346,8 +347,8 @@ pub fn counted(
         return o;
     }
     let w = book::variant(book, index, j as usize);
-    let first = before.failure;
-    let second = o.failure;
+    let first = failure_of(before);
+    let second = failure_of(o);
     done(
         tokens::join_with(first, tokens::counted(w.committed, start as usize, second)),
         o.state,

@@ -23,6 +23,7 @@ pub use outcomes::Outcome;
 pub use outcomes::State;
 pub use outcomes::at_limit;
 pub use outcomes::done;
+pub use outcomes::failure_of;
 pub use outcomes::goes_on;
 pub use steps::Doing;
 pub use steps::List;

@@ -1,7 +1,7 @@
 // What the parts of a run give: a limit met, or a failure or none, and the state.
 ghost use mathlib.Core.Path.{_≡_};
-ghost use Rattle.tokens.specs.declared.errors.Failure.{Failure};
-ghost use Rattle.progress.specs.Outcomes.{goesOn, Spent};
+ghost use Rattle.progress.specs.Outcomes.{limitOf, doneWith, failureAt, goesOn, Spent};
+use tokens::Error;
 use tokens::Failure;
 
 // Document 01, "The answer", 20 to 23.
@@ -19,31 +19,55 @@ pub struct State {
     pub cells: u32,
 }
 
-// The limit, or 0 and the rest; what was found is in a row. With a limit only the units count.
+// The limit, or 0 and the rest; what was found is in a row. With a limit only the units count. Numbers alone, so that it is copied quickly.
 pub struct Outcome {
     pub limit: u32,
-    pub failure: Failure,
+    // 0 where there is no failure
+    pub failed: u32,
     pub state: State,
+    // the failure; zeros where there is none
+    pub error: Error,
 }
 
 pub fn at_limit(limit: u32, state: State) -> Outcome
-    ensures { λ r. ⌜ r ≡ record { limit = limit; failure = Failure.Nothing; state = state } ⌝ }
+    ensures { λ r. ⌜ r ≡ limitOf limit state ⌝ }
 {
+    let error = Error {
+        place: 0,
+        kind: 0,
+        argument: 0,
+    };
     Outcome {
         limit,
-        failure: Failure::Nothing,
+        failed: 0,
         state,
+        error,
     }
 }
 
 pub fn done(failure: Failure, state: State) -> Outcome
-    ensures { λ r. ⌜ r ≡ record { limit = 0; failure = failure; state = state } ⌝ }
+    ensures { λ r. ⌜ r ≡ doneWith failure state ⌝ }
 {
+    let Failure::At(error) = failure else {
+        return at_limit(0, state);
+    };
     Outcome {
         limit: 0,
-        failure,
+        failed: 1,
         state,
+        error,
     }
+}
+
+// The failure, or none.
+pub fn failure_of(o: Outcome) -> Failure
+    ensures { λ r. ⌜ r ≡ failureAt o ⌝ }
+{
+    if o.failed == 0 {
+        return Failure::Nothing;
+    }
+    let error = o.error;
+    Failure::At(error)
 }
 
 // A unit, if one is left.
@@ -70,9 +94,5 @@ pub fn goes_on(outcome: Outcome) -> bool
     if outcome.limit != 0 {
         return false;
     }
-    let failure = outcome.failure;
-    match failure {
-        Failure::Nothing => true,
-        Failure::At(_) => false,
-    }
+    outcome.failed == 0
 }

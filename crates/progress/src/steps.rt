@@ -10,8 +10,7 @@ ghost use Rattle.sets.specs.Sets.{parse, parseOf};
 ghost use Rattle.rows.specs.Model.{rowState, completeRows, stopsRows, listingRows, stepsRows};
 ghost use Rattle.calls.specs.Table.{table};
 ghost use Rattle.tokens.specs.Maps.{endOf, itemOf};
-ghost use Rattle.tokens.specs.declared.errors.Failure.{Failure};
-ghost use Rattle.progress.specs.Outcomes.{Runs};
+ghost use Rattle.progress.specs.Outcomes.{limitOf, Runs};
 ghost use Rattle.progress.specs.Fit.{Fit, ItemFits};
 ghost use Rattle.progress.specs.Steps.{Stages, Reaches, StepSpent, Chosen, Joined, nextRows, sideRows, unopenedRows, tokenRows};
 ghost use Rattle.progress.specs.declared.steps.Doing.{Doing};
@@ -26,6 +25,7 @@ use crate::outcomes::Outcome;
 use crate::outcomes::State;
 use crate::outcomes::at_limit;
 use crate::outcomes::done;
+use crate::outcomes::failure_of;
 use crate::outcomes::spend;
 use book::Step;
 use book::Variant;
@@ -98,7 +98,7 @@ fn ended(outcome: Outcome) -> Reached
 
 // At a place, with the items that were made; or at a limit.
 pub fn reached_with(m: Made, at: u32) -> Reached
-    ensures { λ r. ⌜ r ≡ record { outcome = record { limit = m .limit; failure = Failure.Nothing; state = m .state }; at = at; items = m .cell } ⌝ }
+    ensures { λ r. ⌜ r ≡ record { outcome = limitOf (m .limit) (m .state); at = at; items = m .cell } ⌝ }
 {
     let outcome = at_limit(m.limit, m.state);
     Reached {
@@ -224,7 +224,7 @@ fn step_unit(step: Step, state: State) -> Outcome
 
 // A child, or perhaps one, from where the path is.
 fn then_child(here: Progress, doing: Doing, state: State) -> Stage
-    ensures { λ r. ⌜ r ≡ record { outcome = record { limit = 0; failure = Failure.Nothing; state = state }; at = here .at; items = here .items; doing = doing } ⌝ }
+    ensures { λ r. ⌜ r ≡ record { outcome = limitOf 0 state; at = here .at; items = here .items; doing = doing } ⌝ }
 {
     let outcome = done(Failure::Nothing, state);
     Stage {
@@ -485,8 +485,8 @@ pub fn joined(i: usize, before: Outcome, o: Outcome) -> Outcome
     if i == 0 {
         return o;
     }
-    let first = before.failure;
-    let second = o.failure;
+    let first = failure_of(before);
+    let second = failure_of(o);
     done(tokens::either(first, second), o.state)
 }
 
@@ -587,8 +587,8 @@ pub fn both(text: &[u8], rows: &[u32], here: Progress, a: Outcome, b: Outcome) -
     if b.limit != 0 {
         return b;
     }
-    let first = a.failure;
-    let second = b.failure;
+    let first = failure_of(a);
+    let second = failure_of(b);
     let nonterminal = calls::nonterminal_of(rows, here.call) as usize;
     done(
         tokens::chosen(skip(text, here.at as usize), nonterminal, first, second),

@@ -12,12 +12,11 @@ use Rattle.rows.specs.Rows.{Row, onRow, opened}
 use Rattle.rows.specs.Model as model
 use Rattle.rows.specs.Model.{RowState, rowState, outcome, RowRunner}
 use Rattle.rows.specs.Model.{oneRunRows, roundsRows, runCallRows, enterRows, runnerRows}
-use Rattle.tokens.specs.declared.errors.Failure.{Failure}
 use Rattle.progress.specs.declared.outcomes.Outcome.{Outcome}
 use Rattle.progress.specs.declared.outcomes.State.{State}
 use Rattle.progress.specs.declared.entering.Entered.{Entered}
 use Rattle.progress.specs.declared.entering.Ended.{Ended}
-use Rattle.progress.specs.Outcomes.{cellsOf, Held, given, Ran, Runs}
+use Rattle.progress.specs.Outcomes.{cellsOf, Held, given, Ran, Runs, limitOf}
 use Rattle.progress.specs.Entering.{within, goesIn, Enters, goesAgain, FirstEnded, RoundEnded}
 use Rattle.run.specs.ResultLaws.{Going, sub-turn, sub-end}
 
@@ -76,7 +75,7 @@ module _ (book : Book) (text st0 st1 : List ℕ) (T T1 U U1 : List Row) (n N u m
 -- ---- Further runs
 module _ (book : Book) (text : List ℕ) (run : RowRunner) (n m i : ℕ) (st0 : List ℕ) (c0 : ℕ) (z : Result model.Outcome) (st : List ℕ) (T : List Row) (s : State)
     (inv : Held text st0 c0 → Going text st (s .cells) (roundsRows book text (65 - i) run n m (rowState (s .units) (cellsOf st (s .cells)) T)) z) where
-  pub rounds-none : (r : Outcome) → r ≡ record { limit = 22; failure = Failure.Nothing; state = s } → 65 ≤ i → Held text st0 c0 → Ran text st T r z
+  pub rounds-none : (r : Outcome) → r ≡ limitOf 22 s → 65 ≤ i → Held text st0 c0 → Ran text st T r z
   unfolding roundsRows given
   rounds-none r er h held = let g = inv held in rw er (record { is = rw (sub-end 65 i h) at (g .is); held = g .held })
 

@@ -18,12 +18,11 @@ use Rattle.rows.specs.Model as model
 use Rattle.rows.specs.Model.{RowState, rowState, outcome, RowRunner, RowNext, noParse, together}
 use Rattle.rows.specs.Model.{enterRows, runnerRows, stepsRows, nestedRows, enterChildRows, followFrom, followedRows}
 use Rattle.tokens.specs.Maps.{failureOf}
-use Rattle.tokens.specs.declared.errors.Failure.{Failure}
 use Rattle.progress.specs.declared.outcomes.Outcome.{Outcome}
 use Rattle.progress.specs.declared.outcomes.State.{State}
 use Rattle.progress.specs.declared.steps.Next.{Next}
 use Rattle.progress.specs.declared.steps.Stage.{Stage}
-use Rattle.progress.specs.Outcomes.{cellsOf, Held, given, goesOn, Ran, Runs}
+use Rattle.progress.specs.Outcomes.{cellsOf, Held, given, goesOn, Ran, Runs, failureAt, limitOf}
 use Rattle.progress.specs.Steps.{nextRows, descendsRows, resumes, Stages, Joined}
 use Rattle.progress.specs.Entering.{within}
 use Rattle.run.specs.Cycle.{followsRows}
@@ -61,7 +60,7 @@ follow-ended book text inner n c j rest next items st T o h held =
 -- those of one that did not are
 follow-all : (book : Book) (text : List ℕ) (inner : Option RowRunner) (n c j : ℕ) (rest : List (Todo ℕ)) (next : Next) (items k : ℕ)
     (T : List Row) (o : Outcome) (cells : List Cell) → goesOn o ≡ true → k ≡ length (rowOf T n .set) →
-    followFrom book text inner n (nextRows book text c j rest next items) k 0 (failureOf (o .failure)) (rowState (o .state .units) cells T) ≡
+    followFrom book text inner n (nextRows book text c j rest next items) k 0 (failureOf (failureAt o)) (rowState (o .state .units) cells T) ≡
     followsRows book text inner n c j rest next items (given o cells T)
 unfolding followsRows followedRows _>>=_
 follow-all book text inner n c j rest next items k T o cells h ek = rw (goes-on o cells T h, goes-without-failure o h, ek)
@@ -69,7 +68,7 @@ follow-all book text inner n c j rest next items k T o cells h ek = rw (goes-on 
 pub follow-whole : (book : Book) (text : List ℕ) (inner : Option RowRunner) (n c j : ℕ) (rest : List (Todo ℕ)) (next : Next) (items k : ℕ)
     (T : List Row) (o : Outcome) (st st1 : List ℕ) (U : List Row) (r : Outcome) → goesOn o ≡ true → k ≡ length (rowOf T n .set) →
     (Held text st (o .state .cells) → Ran text st1 U r
-    (followFrom book text inner n (nextRows book text c j rest next items) k 0 (failureOf (o .failure)) (rowState (o .state .units) (cellsOf st (o .state .cells)) T))) →
+    (followFrom book text inner n (nextRows book text c j rest next items) k 0 (failureOf (failureAt o)) (rowState (o .state .units) (cellsOf st (o .state .cells)) T))) →
     Runs text st (o .state .cells) st1 U r (λ cells. followsRows book text inner n c j rest next items (given o cells T))
 follow-whole book text inner n c j rest next items k T o st st1 U r h ek run held =
     let q = run held in
@@ -92,7 +91,7 @@ follow-turn book text n next k i failure s h =
 module _ (book : Book) (text : List ℕ) (n c j : ℕ) (rest : List (Todo ℕ)) (next : Next) (items k i : ℕ) (st0 : List ℕ) (c0 : ℕ) (z : Result model.Outcome)
     (st : List ℕ) (T : List Row) (o : Outcome)
     (inv : Held text st0 c0 → Going text st (o .state .cells)
-    (followFrom book text (runnerRows book text n) n (nextRows book text c j rest next items) (k - i) i (failureOf (o .failure))
+    (followFrom book text (runnerRows book text n) n (nextRows book text c j rest next items) (k - i) i (failureOf (failureAt o))
     (rowState (o .state .units) (cellsOf st (o .state .cells)) T)) z) where
   pub follow-end : k ≤ i → o .limit ≡ 0 → Held text st0 c0 → Ran text st T o z
   unfolding followFrom
@@ -100,7 +99,7 @@ module _ (book : Book) (text : List ℕ) (n c j : ℕ) (rest : List (Todo ℕ)) 
       let g = inv held in
       record { is = given-ok o (cellsOf st (o .state .cells)) T e ∙ (rw (sub-end k i h) at (g .is)); held = g .held }
 
-  pub follow-deep : (r : Outcome) → r ≡ record { limit = 21; failure = Failure.Nothing; state = o .state } → i < k → n ≡ 0 → Held text st0 c0 → Ran text st T r z
+  pub follow-deep : (r : Outcome) → r ≡ limitOf 21 (o .state) → i < k → n ≡ 0 → Held text st0 c0 → Ran text st T r z
   unfolding followFrom nestedRows runnerRows _>>=_ given
   follow-deep r er l e held = let g = inv held in rw er (record { is = rw (sub-turn k i l, e) at (g .is); held = g .held })
 
@@ -127,16 +126,16 @@ module _ (book : Book) (text : List ℕ) (n c j : ℕ) (rest : List (Todo ℕ)) 
         let mid : Result model.Outcome = given a (cellsOf st2 (a .state .cells)) U in
         ap (λ (x : Result model.Outcome). x >>= on)
         (ap (λ k. given all (cellsOf st2 k) U) (J .cells) ∙ J .is (cellsOf st2 (a .state .cells)) U)
-        ∙ bind-map mid (λ y. outcome (together i (failureOf (o .failure)) (y .failure)) (y .state)) on
-        ∙ ap (λ (x : Result model.Outcome). x >>= (λ y. on (outcome (together i (failureOf (o .failure)) (y .failure)) (y .state))))
+        ∙ bind-map mid (λ y. outcome (together i (failureOf (failureAt o)) (y .failure)) (y .state)) on
+        ∙ ap (λ (x : Result model.Outcome). x >>= (λ y. on (outcome (together i (failureOf (failureAt o)) (y .failure)) (y .state))))
         (run .is ∙ d .is (runnerRows book text (n - 1)) (n - 1) c rest T ∙ ap (λ (p : Parse ℕ). nextRows book text c j rest next items p s (within book text n)) eq)
-        ∙ (rw a1 at (sym (follow-turn book text n (nextRows book text c j rest next items) (k - (i + 1)) i (failureOf (o .failure)) s positive)))
+        ∙ (rw a1 at (sym (follow-turn book text n (nextRows book text c j rest next items) (k - (i + 1)) i (failureOf (failureAt o)) s positive)))
         ∙ (rw (sub-turn k i l) at (f .is))
 
     pub follow-stop : (all .limit ≡ 0 → ⊥) → Held text st0 c0 → Ran text st2 U all z
     follow-stop f held = record { is = limit-ends all (cellsOf st2 (all .state .cells)) U _ f ∙ turned held; held = kept-on held }
 
     pub follow-again : all .limit ≡ 0 → Held text st0 c0 → Going text st2 (all .state .cells)
-        (followFrom book text (runnerRows book text n) n (nextRows book text c j rest next items) (k - (i + 1)) (i + 1) (failureOf (all .failure))
+        (followFrom book text (runnerRows book text n) n (nextRows book text c j rest next items) (k - (i + 1)) (i + 1) (failureOf (failureAt all))
         (rowState (all .state .units) (cellsOf st2 (all .state .cells)) U)) z
     follow-again f held = record { is = sym (goes-to all (cellsOf st2 (all .state .cells)) U _ f) ∙ turned held; held = kept-on held }

@@ -26,7 +26,7 @@ use Rattle.progress.specs.declared.steps.List as list
 use Rattle.progress.specs.declared.steps.Next.{Next}
 use Rattle.progress.specs.declared.steps.Reached.{Reached}
 use Rattle.progress.specs.declared.steps.Stage.{Stage}
-use Rattle.progress.specs.Outcomes.{cellsOf, Held, given, goesOn, Ran, Runs}
+use Rattle.progress.specs.Outcomes.{cellsOf, Held, given, goesOn, Ran, Runs, failureAt}
 use Rattle.progress.specs.Steps.{todoFrom, nextRows, descendsRows, choosesRows, doesRows, resumes, sideRows, Stages, Reaches, Chosen}
 use Rattle.run.specs.Cycle.{sidesRows, rankOf}
 use Rattle.run.specs.ResultLaws.{Going, bind-assoc, bind-assoc-in, limit-ends, goes-to, goes-on, ended}
@@ -76,15 +76,15 @@ module _ (book : Book) (text : List ℕ) (inner : Option RowRunner) (n c j : ℕ
     choice-both held =
         let g = G (F held .held) in
         let d = D (g .held) in
-        let y : model.Outcome = outcome (failureOf (a .failure)) (rowState (a .state .units) (cellsOf st2 (a .state .cells)) U) in
+        let y : model.Outcome = outcome (failureOf (failureAt a)) (rowState (a .state .units) (cellsOf st2 (a .state .cells)) U) in
         record {
           is =
               ap (λ k. given r (cellsOf st3 k) U1) (C .cells)
               ∙ C .is book inner n (cellsOf st3 (b .state .cells))
-              ∙ ap (λ (z : Result model.Outcome). z >>= (λ o. ok (chosenRows book text inner n c (skipFrom text x) (failureOf (a .failure)) o))) (d .is)
+              ∙ ap (λ (z : Result model.Outcome). z >>= (λ o. ok (chosenRows book text inner n c (skipFrom text x) (failureOf (failureAt a)) o))) (d .is)
               ∙ bind-assoc (enterChildRows book text inner n c M x (rowState (a .state .units) (cellsOf st2 (a .state .cells)) U))
               (λ o. followedRows book text inner n (nextRows book text c j rest next items) o)
-              (λ o. ok (chosenRows book text inner n c (skipFrom text x) (failureOf (a .failure)) o))
+              (λ o. ok (chosenRows book text inner n c (skipFrom text x) (failureOf (failureAt a)) o))
               ∙ sym (goes-to a (cellsOf st2 (a .state .cells)) U (λ y. orChild book text inner n c M (nextRows book text c j rest next items) x y) h)
               ∙ first-side held;
           held = subst (λ k. Held text st3 k) (sym (C .cells)) (d .held);

@@ -17,7 +17,7 @@ use Rattle.rows.specs.Model.{RowState, rowState, outcome}
 use Rattle.tokens.specs.Maps.{failureOf}
 use Rattle.tokens.specs.declared.errors.Failure.{Failure}
 use Rattle.progress.specs.declared.outcomes.Outcome.{Outcome}
-use Rattle.progress.specs.Outcomes.{Held, given, nothing, goesOn}
+use Rattle.progress.specs.Outcomes.{Held, given, goesOn, failureAt}
 use Rattle.progress.specs.OutcomeLaws.{given-ok, given-met}
 
 -- a loop has gone on: the store holds its cells, and the model from here is the model of the whole
@@ -61,7 +61,7 @@ module _ (o : Outcome) (cells : List Cell) (T : List Row) where
   unfolding _>>=_
   limit-ends K h = rw (given-met o cells T h)
 
-  pub goes-to : (K : model.Outcome → Result model.Outcome) → o .limit ≡ 0 → (given o cells T >>= K) ≡ K (outcome (failureOf (o .failure)) (rowState (o .state .units) cells T))
+  pub goes-to : (K : model.Outcome → Result model.Outcome) → o .limit ≡ 0 → (given o cells T >>= K) ≡ K (outcome (failureOf (failureAt o)) (rowState (o .state .units) cells T))
   unfolding _>>=_
   goes-to K e = rw (given-ok o cells T e)
 
@@ -75,18 +75,14 @@ and-right true b e = e
 and-right false true e = refl
 and-right false false e = e
 
-no-failure : (f : Failure) → nothing f ≡ true → failureOf f ≡ none
-no-failure Failure.Nothing e = refl
-no-failure (Failure.At x) e = let z : _≡_ {A = ℕ} 0 1 = cc in absurd (omega arith)
-
 module _ (o : Outcome) (e : goesOn o ≡ true) where
   pub goes-without-limit : o .limit ≡ 0
   unfolding goesOn
-  goes-without-limit = eqb-true (o .limit) 0 (and-left (eqb (o .limit) 0) (nothing (o .failure)) e)
+  goes-without-limit = eqb-true (o .limit) 0 (and-left (eqb (o .limit) 0) (eqb (o .failed) 0) e)
 
-  pub goes-without-failure : failureOf (o .failure) ≡ none
+  pub goes-without-failure : failureOf (failureAt o) ≡ none
   unfolding goesOn
-  goes-without-failure = no-failure (o .failure) (and-right (eqb (o .limit) 0) (nothing (o .failure)) e)
+  goes-without-failure = rw (and-right (eqb (o .limit) 0) (eqb (o .failed) 0) e)
 
 module _ (o : Outcome) (cells : List Cell) (T : List Row) where
   pub goes-on : goesOn o ≡ true → given o cells T ≡ ok (outcome none (rowState (o .state .units) cells T))
@@ -98,11 +94,10 @@ module _ (o : Outcome) (cells : List Cell) (T : List Row) where
   unfolding goesOn _>>=_
   ended K k h =
       by-test (eqb (o .limit) 0)
-      (λ t. by-failure (o .failure) refl (rw t at h) (given-ok o cells T (eqb-true (o .limit) 0 t)))
+      (λ t.
+      let f : failureAt o ≡ Failure.At (o .error) = rw (and-false (eqb (o .failed) 0) (rw t at h)) in
+      rw (given-ok o cells T (eqb-true (o .limit) 0 t) ∙ ap (λ (x : Failure). ok (outcome (failureOf x) (rowState (o .state .units) cells T))) f) (sym (k _ _)))
       (λ t. limit-ends o cells T K (eqb-false (o .limit) 0 t))
     where
-      by-failure : (f : Failure) → o .failure ≡ f → nothing (o .failure) ≡ false →
-          given o cells T ≡ ok (outcome (failureOf (o .failure)) (rowState (o .state .units) cells T)) →
-          given o cells T ≡ (given o cells T >>= K)
-      by-failure Failure.Nothing q n g = let y : true ≡ false = rw q at n in let z : _≡_ {A = ℕ} 0 1 = cc in absurd (omega arith)
-      by-failure (Failure.At x) q n g = rw (g ∙ ap (λ f. ok (outcome (failureOf f) (rowState (o .state .units) cells T))) q) (sym (k _ _))
+      and-false : (b : Bool) → (true && b) ≡ false → b ≡ false
+      and-false b e = e

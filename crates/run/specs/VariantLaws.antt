@@ -26,7 +26,7 @@ use Rattle.progress.specs.declared.outcomes.Outcome.{Outcome}
 use Rattle.progress.specs.declared.outcomes.State.{State}
 use Rattle.progress.specs.declared.steps.Doing.{Doing}
 use Rattle.progress.specs.declared.steps.Reached.{Reached}
-use Rattle.progress.specs.Outcomes.{cellsOf, Held, given, Ran, Runs}
+use Rattle.progress.specs.Outcomes.{cellsOf, Held, given, Ran, Runs, failureAt, doneWith}
 use Rattle.progress.specs.Fit.{Fit}
 use Rattle.progress.specs.Steps.{todoFrom, resumes}
 use Rattle.progress.specs.Entering.{within, Begins, Counted}
@@ -50,7 +50,7 @@ variants-turn book text run c m k j e s =
 module _ (book : Book) (text : List ℕ) (run : RowRunner) (n m k first i : ℕ) (st0 : List ℕ) (c0 : ℕ) (z : Result model.Outcome)
     (st : List ℕ) (T : List Row) (o : Outcome)
     (inv : Held text st0 c0 → Going text st (o .state .cells)
-    (variantsRows book text run n m (k - i) (first + i) (failureOf (o .failure)) (rowState (o .state .units) (cellsOf st (o .state .cells)) T)) z) where
+    (variantsRows book text run n m (k - i) (first + i) (failureOf (failureAt o)) (rowState (o .state .units) (cellsOf st (o .state .cells)) T)) z) where
   pub variants-end : k ≤ i → o .limit ≡ 0 → Held text st0 c0 → Ran text st T o z
   unfolding variantsRows
   variants-end h e held =
@@ -59,14 +59,14 @@ module _ (book : Book) (text : List ℕ) (run : RowRunner) (n m k first i : ℕ)
 
   module _ (l : i < k) (j : ℕ) (ej : j ≡ first + i) (st1 : List ℕ) (U : List Row) (next : Outcome)
       (r : Runs text st (o .state .cells) st1 U next (λ cells.
-      variantRows book text run n m j (failureOf (o .failure)) (rowState (o .state .units) cells T))) where
+      variantRows book text run n m j (failureOf (failureAt o)) (rowState (o .state .units) cells T))) where
     variant-turn : Held text st0 c0 →
         (given next (cellsOf st1 (next .state .cells)) U >>= (λ y. variantsRows book text run n m (k - (i + 1)) (first + (i + 1)) (y .failure) (y .state))) ≡ z
     variant-turn held =
         let g = inv held in
         let a : suc j ≡ first + (i + 1) = omega (arith, ej) in
         rw (r (g .held) .is, ← a)
-        (sym (variants-turn book text run n m (k - (i + 1)) j (failureOf (o .failure)) (rowState (o .state .units) (cellsOf st (o .state .cells)) T))
+        (sym (variants-turn book text run n m (k - (i + 1)) j (failureOf (failureAt o)) (rowState (o .state .units) (cellsOf st (o .state .cells)) T))
         ∙ (rw (sub-turn k i l, ← ej) at (g .is)))
 
     pub variants-stop : (next .limit ≡ 0 → ⊥) → Held text st0 c0 → Ran text st1 U next z
@@ -75,7 +75,7 @@ module _ (book : Book) (text : List ℕ) (run : RowRunner) (n m k first i : ℕ)
         record { is = limit-ends next (cellsOf st1 (next .state .cells)) U _ h ∙ variant-turn held; held = q .held }
 
     pub variants-again : next .limit ≡ 0 → Held text st0 c0 → Going text st1 (next .state .cells)
-        (variantsRows book text run n m (k - (i + 1)) (first + (i + 1)) (failureOf (next .failure))
+        (variantsRows book text run n m (k - (i + 1)) (first + (i + 1)) (failureOf (failureAt next))
         (rowState (next .state .units) (cellsOf st1 (next .state .cells)) U)) z
     variants-again h held =
         let q = r (inv held .held) in
@@ -84,8 +84,8 @@ module _ (book : Book) (text : List ℕ) (run : RowRunner) (n m k first i : ℕ)
 -- the variants of a call are one run of it
 one-run-is : (book : Book) (text : List ℕ) (run : RowRunner) (n m N : ℕ) (called : Nonterminal) (s : State) (o : Outcome) (T T1 : List Row) (cells : List Cell) →
     N ≡ rowOf T n .nonterminal → T1 ≡ onRow T n (withRun []) → called ≡ nonterminalNumber book N →
-    o ≡ record { limit = 0; failure = Failure.Nothing; state = s } →
-    variantsRows book text run n m (called .number) (called .first) (failureOf (o .failure)) (rowState (o .state .units) cells T1) ≡
+    o ≡ doneWith Failure.Nothing s →
+    variantsRows book text run n m (called .number) (called .first) (failureOf (failureAt o)) (rowState (o .state .units) cells T1) ≡
     oneRunRows book text run n m (rowState (s .units) cells T)
 unfolding oneRunRows
 one-run-is book text run n m N called s o T T1 cells eN eT ec eo = rw (eo, ec, eT, eN)
@@ -93,9 +93,9 @@ one-run-is book text run n m N called s o T T1 cells eN eT ec eo = rw (eo, ec, e
 pub one-run-whole : (book : Book) (text : List ℕ) (run : RowRunner) (n m N : ℕ) (called : Nonterminal) (s : State) (o : Outcome) (T T1 : List Row)
     (st st1 : List ℕ) (U : List Row) (r : Outcome) →
     N ≡ rowOf T n .nonterminal → T1 ≡ onRow T n (withRun []) → called ≡ nonterminalNumber book N →
-    o ≡ record { limit = 0; failure = Failure.Nothing; state = s } →
+    o ≡ doneWith Failure.Nothing s →
     (Held text st (o .state .cells) → Ran text st1 U r
-    (variantsRows book text run n m (called .number) (called .first) (failureOf (o .failure)) (rowState (o .state .units) (cellsOf st (o .state .cells)) T1))) →
+    (variantsRows book text run n m (called .number) (called .first) (failureOf (failureAt o)) (rowState (o .state .units) (cellsOf st (o .state .cells)) T1))) →
     Runs text st (s .cells) st1 U r (λ cells. oneRunRows book text run n m (rowState (s .units) cells T))
 one-run-whole book text run n m N called s o T T1 st st1 U r eN eT ec eo k held =
     let same : o .state .cells ≡ s .cells = ap (λ (x : Outcome). x .state .cells) eo in
@@ -112,10 +112,10 @@ one-run-whole book text run n m N called s o T T1 st st1 U r eN eT ec eo k held 
 -- what a variant's failure counts for
 variantCounts : Book → List ℕ → ℕ → ℕ → Outcome → List Row → model.Outcome → Result model.Outcome
 variantCounts book text n j before T y =
-    ok (outcome (joinWith (failureOf (before .failure)) (counted book text (bareCall (rowOf T n .nonterminal) (rowOf T n .start)) j (y .failure))) (y .state))
+    ok (outcome (joinWith (failureOf (failureAt before)) (counted book text (bareCall (rowOf T n .nonterminal) (rowOf T n .start)) j (y .failure))) (y .state))
 
 variant-level : (book : Book) (text : List ℕ) (n m j : ℕ) (before : Outcome) (T : List Row) (cells : List Cell) → leb m (variantNumber book j .level) ≡ true →
-    variantRows book text (within book text n) n m j (failureOf (before .failure)) (rowState (before .state .units) cells T) ≡
+    variantRows book text (within book text n) n m j (failureOf (failureAt before)) (rowState (before .state .units) cells T) ≡
     (makes (begin book text j) (rowState (before .state .units) cells T) >>= (λ b.
     within book text n n j (todoOf book (variantNumber book j)) (rowOf T n .start) (b .cell) (atRow n (takeVariant book text j) (b .state))
     >>= variantCounts book text n j before T))
@@ -125,7 +125,7 @@ variant-level book text n m j before T cells t = rw t
 module _ (book : Book) (text : List ℕ) (n m j : ℕ) (before : Outcome) (w : Variant) (ew : w ≡ variantNumber book j) (T : List Row) (st0 : List ℕ) where
   pub variant-skipped : w .level < m → before .limit ≡ 0 →
       Runs text st0 (before .state .cells) st0 T before (λ cells.
-      variantRows book text (within book text n) n m j (failureOf (before .failure)) (rowState (before .state .units) cells T))
+      variantRows book text (within book text n) n m j (failureOf (failureAt before)) (rowState (before .state .units) cells T))
   unfolding variantRows
   variant-skipped l e held =
       let t : leb m (variantNumber book j .level) ≡ false = lt-leb m (variantNumber book j .level) (rw ew at l) in
@@ -137,7 +137,7 @@ module _ (book : Book) (text : List ℕ) (n m j : ℕ) (before : Outcome) (w : V
       resumes book text (runnerRows book text (n - 1)) (n - 1) n j (todoFrom book (w .first) (w .number)) Doing.Steps (b .at) (b .items) (given (b .outcome) cells U)))
       (C : Counted book j (b .at) before o r) where
     pub variant-ran : Runs text st0 (before .state .cells) st2 U1 r (λ cells.
-        variantRows book text (within book text n) n m j (failureOf (before .failure)) (rowState (before .state .units) cells T))
+        variantRows book text (within book text n) n m j (failureOf (failureAt before)) (rowState (before .state .units) cells T))
     unfolding variantCounts
     variant-ran held =
         let d = B held in

@@ -10,7 +10,7 @@ ghost use lib.ListN.{length};
 ghost use Rattle.book.specs.Index.{bookIn};
 ghost use Rattle.rows.specs.Model.{rowState, runnerRows, oneRunRows, stepsRows};
 ghost use Rattle.calls.specs.Table.{table};
-ghost use Rattle.progress.specs.Outcomes.{given, Runs};
+ghost use Rattle.progress.specs.Outcomes.{given, Runs, failureAt};
 ghost use Rattle.progress.specs.Fit.{Fit};
 ghost use Rattle.progress.specs.Entering.{within};
 ghost use Rattle.tokens.specs.Maps.{failureOf};
@@ -55,7 +55,7 @@ pub fn variant(
 ) -> Outcome
     requires { ⌜ (left ≤ 200) × (104922 ≤ length (now rows)) × Fit (bookIn (now book) (now index)) (now text) × (0 < left) × (before .limit ≡ 0) ⌝ }
     ensures { λ r. ⌜ Runs (now (text .entry)) (now (store .entry)) (before .state .cells) (now (store .exit)) (table (now (rows .exit))) r
-        (λ cells. variantRows (bookIn (now (book .entry)) (now (index .entry))) (now (text .entry)) (within (bookIn (now (book .entry)) (now (index .entry))) (now (text .entry)) left) left minimum j (failureOf (before .failure))
+        (λ cells. variantRows (bookIn (now (book .entry)) (now (index .entry))) (now (text .entry)) (within (bookIn (now (book .entry)) (now (index .entry))) (now (text .entry)) left) left minimum j (failureOf (failureAt before))
         (rowState (before .state .units) cells (table (now (rows .entry))))) ⌝ }
 {
     let w = book::variant(book, index, j as usize);

@@ -10,7 +10,7 @@ use Rattle.run.specs.ResultLaws.{Going, goes-without-limit}
 use Rattle.run.specs.Cycle.{InRange, todoAt, rankOf}
 use Rattle.progress.specs.Entering.{within}
 use Rattle.progress.specs.Steps.{nextRows, resumes}
-use Rattle.progress.specs.Outcomes.{cellsOf, Held, given}
+use Rattle.progress.specs.Outcomes.{cellsOf, Held, given, failureAt}
 use Rattle.rows.specs.Model.{rowState, roundsRows, variantsRows, followFrom, runnerRows}
 use Rattle.calls.specs.Table.{table}
 use Rattle.tokens.specs.Maps.{failureOf}
@@ -939,7 +939,7 @@ parser·descend-returns t c =
     descended _ _ _ _ _ _ _ _ _ _ _ _ _ _ _ _ _ _ _ _ _ _ (begin-child .ensures) (enter .ensures) (follow .ensures)
 
 abbrev parser·follow-Inv-loop : parser·follow-lts.InvT-loop
-parser·follow-Inv-loop book index text store₀ rows₀ left here next parses all₀ i₀ store rows all i = (i ≤ parses) × (length store ≡ length store₀) × (length rows ≡ length rows₀) × (all .limit ≡ 0) × (Held text store₀ (all₀ .state .cells) → Going text store (all .state .cells) (followFrom (bookIn book index) text (runnerRows (bookIn book index) text left) left (nextRows (bookIn book index) text (here .call) (here .variant) (todoAt (bookIn book index) here) next (here .items)) (parses - i) i (failureOf (all .failure)) (rowState (all .state .units) (cellsOf store (all .state .cells)) (table rows))) (followFrom (bookIn book index) text (runnerRows (bookIn book index) text left) left (nextRows (bookIn book index) text (here .call) (here .variant) (todoAt (bookIn book index) here) next (here .items)) parses 0 (failureOf (all₀ .failure)) (rowState (all₀ .state .units) (cellsOf store₀ (all₀ .state .cells)) (table rows₀))))
+parser·follow-Inv-loop book index text store₀ rows₀ left here next parses all₀ i₀ store rows all i = (i ≤ parses) × (length store ≡ length store₀) × (length rows ≡ length rows₀) × (all .limit ≡ 0) × (Held text store₀ (all₀ .state .cells) → Going text store (all .state .cells) (followFrom (bookIn book index) text (runnerRows (bookIn book index) text left) left (nextRows (bookIn book index) text (here .call) (here .variant) (todoAt (bookIn book index) here) next (here .items)) (parses - i) i (failureOf (failureAt all)) (rowState (all .state .units) (cellsOf store (all .state .cells)) (table rows))) (followFrom (bookIn book index) text (runnerRows (bookIn book index) text left) left (nextRows (bookIn book index) text (here .call) (here .variant) (todoAt (bookIn book index) here) next (here .items)) parses 0 (failureOf (failureAt all₀)) (rowState (all₀ .state .units) (cellsOf store₀ (all₀ .state .cells)) (table rows₀))))
 
 abbrev parser·follow-μ-loop : parser·follow-lts.MeasureT-loop
 parser·follow-μ-loop book index text store₀ rows₀ left here next parses all₀ i₀ store rows all i = parses - i
@@ -1406,7 +1406,7 @@ parser·follow-returns-4 t c =
     follow-whole _ _ _ _ _ _ _ _ _ _ _ _ _ _ _ _ (sym (goes-on .ensures) ∙ not-false _ (if1 .left)) (found .ensures) (follow-end _ _ _ _ _ _ _ _ _ _ _ _ _ _ (table (loop .rows)) (loop .all) (loop .inv .4) (loop-test .left) (loop .inv .3))
 
 abbrev parser·one-run-Inv-loop : parser·one-run-lts.InvT-loop
-parser·one-run-Inv-loop book index text store₀ rows₀ left minimum nonterminal called o₀ k₀ store rows o k = (k ≤ called .number) × (length store ≡ length store₀) × (length rows ≡ length rows₀) × (o .limit ≡ 0) × (Held text store₀ (o₀ .state .cells) → Going text store (o .state .cells) (variantsRows (bookIn book index) text (within (bookIn book index) text left) left minimum (called .number - k) (called .first + k) (failureOf (o .failure)) (rowState (o .state .units) (cellsOf store (o .state .cells)) (table rows))) (variantsRows (bookIn book index) text (within (bookIn book index) text left) left minimum (called .number) (called .first) (failureOf (o₀ .failure)) (rowState (o₀ .state .units) (cellsOf store₀ (o₀ .state .cells)) (table rows₀))))
+parser·one-run-Inv-loop book index text store₀ rows₀ left minimum nonterminal called o₀ k₀ store rows o k = (k ≤ called .number) × (length store ≡ length store₀) × (length rows ≡ length rows₀) × (o .limit ≡ 0) × (Held text store₀ (o₀ .state .cells) → Going text store (o .state .cells) (variantsRows (bookIn book index) text (within (bookIn book index) text left) left minimum (called .number - k) (called .first + k) (failureOf (failureAt o)) (rowState (o .state .units) (cellsOf store (o .state .cells)) (table rows))) (variantsRows (bookIn book index) text (within (bookIn book index) text left) left minimum (called .number) (called .first) (failureOf (failureAt o₀)) (rowState (o₀ .state .units) (cellsOf store₀ (o₀ .state .cells)) (table rows₀))))
 
 abbrev parser·one-run-μ-loop : parser·one-run-lts.MeasureT-loop
 parser·one-run-μ-loop book index text store₀ rows₀ left minimum nonterminal called o₀ k₀ store rows o k = called .number - k

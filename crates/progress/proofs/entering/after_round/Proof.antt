@@ -1,7 +1,7 @@
 -- `progress::after_round` meets its contract.
-use borrow.Author.Needs.{needs}
 use Rattle.calls.specs.Table.{table}
 use Rattle.progress.specs.EndingLaws.{round-limit, round-settled}
+use borrow.Author.Needs.{needs}
 use Rattle.progress.proofs.entering.after_round.Statement.{statement}
 use Rattle.progress.proofs.entering.after_round.Tie as tie
 
@@ -17,6 +17,9 @@ returns c =
 settle-requires : tie.Need-settle-requires
 settle-requires c κs = search needs
 
+failure-of-requires : tie.Need-failure-of-requires
+failure-of-requires c κs = search needs
+
 ended-by-requires : tie.Need-ended-by-requires
 ended-by-requires c κs = search needs
 
@@ -25,12 +28,20 @@ same-length c = search needs
 
 returns-2 : tie.Need-returns-2
 returns-2 c =
-    let args = c .before .before .before .before .before .before .before .before .before .args in
-    let if1 = c .before .before .before .before .before .before .if1 in
-    let settle = c .before .before .before .before .settle in
-    round-settled (table (args .rows .now)) (args .n) (args .o) _ _ _ (if1 .left) (settle .ensures) (c .ended-by .ensures)
+    let args = c .before .before .before .before .before .before .before .before .before .before .args in
+    let if1 = c .before .before .before .before .before .before .before .if1 in
+    let settle = c .before .before .before .before .before .settle in
+    let failure-of = c .before .before .failure-of in
+    round-settled (table (args .rows .now)) (args .n) (args .o) _ _ _ (if1 .left) (settle .ensures) (failure-of .result) (failure-of .ensures) (c .ended-by .ensures)
 
 pub after-round-spec : {M : Type 1} → statement M
 after-round-spec =
     tie.close
-    (tie.spec over-requires returns settle-requires ended-by-requires same-length returns-2)
+    (tie.spec
+    over-requires
+    returns
+    settle-requires
+    failure-of-requires
+    ended-by-requires
+    same-length
+    returns-2)

@@ -40,7 +40,7 @@ returns c =
     let no-parse = c .before .no-parse in
     identifier-claimed (bookIn (args .book .now) (args .index .now)) (args .text .now) (args .store .now) (table (args .rows .now)) _ _ (args .n)
     (args .nonterminal) (args .u) (args .state) _ (table-below (args .rows .now) (args .n) (pre .0)) (clear-set .ensures) (end-call .ensures)
-    (claimed .ensures) _ _ (if1 .taken) (no-parse .ensures) (c .done .ensures)
+    (claimed .ensures) (no-parse .result) _ (if1 .taken) (no-parse .ensures) (c .done .ensures)
 
 free-end-requires : tie.Need-free-end-requires
 free-end-requires c κs = search needs
@@ -73,7 +73,7 @@ returns-2 c =
     let no-parse2 = c .before .no-parse2 in
     identifier-nothing (bookIn (args .book .now) (args .index .now)) (args .text .now) (args .store .now) (table (args .rows .now)) _ _ (args .n)
     (args .nonterminal) (args .u) (args .state) _ (table-below (args .rows .now) (args .n) (pre .0)) (clear-set .ensures) (end-call .ensures)
-    (claimed .ensures) _ _ _ (if1 .left) (free-end .ensures) (enum-told .given .1) (no-parse2 .ensures) (c .done2 .ensures)
+    (claimed .ensures) _ (no-parse2 .result) _ (if1 .left) (free-end .ensures) (enum-told .given .1) (no-parse2 .ensures) (c .done2 .ensures)
 
 length-requires : tie.Need-length-requires
 length-requires c κs = search needs

@@ -30,8 +30,8 @@ returns c =
     let found = c .before .before .before .found in
     let if1 = c .before .before .if1 in
     let no-parse = c .before .no-parse in
-    stored-none (table (args .rows .now)) _ (args .governor) (args .n) (args .nonterminal) (args .u) _ _ (answer .ensures) (found .ensures) _ _
-    (if1 .taken) (no-parse .ensures) (c .done .ensures)
+    stored-none (table (args .rows .now)) _ (args .governor) (args .n) (args .nonterminal) (args .u) _ _ (answer .ensures) (found .ensures)
+    (no-parse .result) _ (if1 .taken) (no-parse .ensures) (c .done .ensures)
 
 same-length-2 : tie.Need-same-length-2
 same-length-2 c = search needs

@@ -1,7 +1,7 @@
 -- `progress::both` meets its contract.
-use borrow.Author.Needs.{needs}
 use Rattle.calls.specs.Table.{table}
 use Rattle.progress.specs.NextLaws.{both-limit, both-chosen}
+use borrow.Author.Needs.{needs}
 use Rattle.progress.proofs.steps.both.Statement.{statement}
 use Rattle.progress.proofs.steps.both.Tie as tie
 
@@ -12,6 +12,12 @@ returns c =
     let rows = table (args .rows .now) in
     let here = args .here in
     both-limit text rows (here .call) (here .at) (args .a) (args .b) (c .if1 .taken)
+
+failure-of-requires : tie.Need-failure-of-requires
+failure-of-requires c κs = search needs
+
+failure-of-requires-2 : tie.Need-failure-of-requires-2
+failure-of-requires-2 c κs = search needs
 
 nonterminal-of-requires : tie.Need-nonterminal-of-requires
 nonterminal-of-requires c κs = search needs
@@ -33,22 +39,26 @@ done-requires c κs = search needs
 
 returns-2 : tie.Need-returns-2
 returns-2 c =
-    let args = c .before .before .before .before .before .before .before .before .before .args in
+    let args = c .before .before .before .before .before .before .before .before .before .before .before .args in
     let text = args .text .now in
     let rows = table (args .rows .now) in
     let here = args .here in
-    let if1 = c .before .before .before .before .before .if1 in
+    let if1 = c .before .before .before .before .before .before .before .if1 in
+    let first = c .before .before .before .before .before .before .failure-of in
+    let second = c .before .before .before .before .before .failure-of2 in
     let nonterminal-of = c .before .before .before .before .nonterminal-of in
     let skip = c .before .before .skip in
     let chosen = c .before .chosen in
-    both-chosen text rows (here .call) (here .at) _ _ (args .a) (args .b) _ _ (if1 .left) (nonterminal-of .ensures) (skip .ensures)
-    (chosen .ensures) (c .done .ensures)
+    both-chosen text rows (here .call) (here .at) _ _ (args .a) (args .b) _ (first .result) (second .result) (chosen .result) (if1 .left) (nonterminal-of .ensures) (skip .ensures)
+    (first .ensures) (second .ensures) (chosen .ensures) (c .done .ensures)
 
 pub both-spec : {M : Type 1} → statement M
 both-spec =
     tie.close
     (tie.spec
     returns
+    failure-of-requires
+    failure-of-requires-2
     nonterminal-of-requires
     cast-nonterminal
     cast-skip
