@@ -1,5 +1,5 @@
 #!/usr/bin/env python3
-"""Runs the definitions of `crates/rules/specs` on vectors.
+"""Runs the definitions of `crates/rules/specs` and `crates/printing/specs` on vectors.
 
 The definitions are read as they stand and translated word by word into Python functions; nothing of what they say is
 written again here. What is written here by hand is only what the definitions take from libraries: booleans, numbers,
@@ -8,7 +8,7 @@ not understood stops the program with the file and the line.
 
     python3 tools/definitions.py VECTORS.jsonl ...
 
-compares, for each vector, every number of the answer and of both lists. Values are represented so:
+compares, for each vector, every number of the answer and of both lists, and the printed line where the vector has it. Values are represented so:
 numbers and booleans as Python's; a list as (head, tail, length), the empty one as NIL; a constructor as a tuple of its
 name and its arguments; a record as a named tuple; a pair as a pair; a function as a Python function.
 """
@@ -22,6 +22,8 @@ import sys
 import threading
 
 ENTRY = ("rules", "Answer", "answerOf")
+CHECK = ("book", "Check", "checkBook")
+LINE = ("printing", "Printing", "lineBytes")
 CELLS, PARSES = 12288, 256      # how much of each list the answer writes
 BEYOND = 3                      # how many numbers more are lent, to see that they stay
 FILL = 7                        # what the lent lists hold
@@ -215,11 +217,10 @@ class Program:
         self.enums[crate, module] = types
         return types
 
-    def load(self):
-        crate, module, name = ENTRY
-        function = self.scope(crate, module)[name]
+    def load(self, *entries):
+        functions = [self.scope(crate, module)[name] for crate, module, name in entries]
         exec(compile("\n".join(self.lines), "definitions", "exec"), self.namespace)
-        return self.namespace[function.python]
+        return [self.namespace[function.python] for function in functions]
 
 
 def field_name(field):
@@ -233,6 +234,7 @@ class File:
         self.program, self.path, self.crate = program, path, crate
         self.scope = {name: Builtin(name) for name in ALWAYS}
         self.sections = []          # the parameters of the sections around, outermost first
+        self.held = None            # in a `mutual` block: what is left to write
         self.block(words_of(path))
 
     def stop(self, word, why):
@@ -253,8 +255,8 @@ class File:
                 self.use(item)
             elif texts[0] in ("infixl", "infixr"):
                 self.fixity(item)
-            elif texts[0] == "mutual":
-                self.block(item[1:])
+            elif texts[head] == "mutual":
+                self.together(item[head + 1:])
             elif texts[:2] == ["module", "_"]:
                 self.section(item)
             elif texts[head] == "data":
@@ -370,6 +372,14 @@ class File:
             fields.append(line[1].text)
         self.program.record_class(fields)
 
+    def together(self, words):
+        """Items that name each other: the functions are known before the first is written."""
+        self.held = []
+        self.block(words)
+        held, self.held = self.held, None
+        for write in held:
+            write()
+
     def definition(self, name, kind, clauses):
         if not clauses:
             self.stop(name, "no clauses")
@@ -384,7 +394,13 @@ class File:
         if [w.text for clause in clauses for w in clause[1:]] == WAITING:
             self.program.waiting.append(function)
         writer = Writer(self, {p.name: Variable(p.python) for p in self.sections})
-        self.program.lines += writer.function(name, function, parsed, writer.scope, "")
+
+        def write():
+            self.program.lines += writer.function(name, function, parsed, writer.scope, "")
+        if self.held is None:
+            write()
+        else:
+            self.held.append(write)
 
 
 class Parser:
@@ -836,7 +852,14 @@ def expected_list(numbers, size, length):
     return numbers + [0] * (size - len(numbers)) + [FILL] * (length - size)
 
 
-def compare(answer_of, vector):
+def line(check_book, line_bytes, vector, result):
+    """The line that the definitions print for an answer. Of a book that isn't accepted no name is printed."""
+    outcome = check_book(from_python(bytes.fromhex(vector["book"])))
+    names = outcome[1].f_names if outcome[0] == "Outcome.book" else NIL
+    return bytes(to_python(line_bytes(names, from_python(bytes.fromhex(vector["text"])), result.f_cells, result.f_answer))).decode()
+
+
+def compare(answer_of, check_book, line_bytes, vector):
     """What differs between the definitions' answer and the vector's."""
     cells_length = vector.get("cells_len", CELLS + BEYOND)
     parses_length = vector.get("parses_len", PARSES + BEYOND)
@@ -855,6 +878,10 @@ def compare(answer_of, vector):
         if made != wanted:
             at = next((i for i, (a, b) in enumerate(zip(made, wanted)) if a != b), min(len(made), len(wanted)))
             differing.append("%s differ at %d: got %s .., expected %s .. (answer %s)" % (name, at, made[at:at + 3], wanted[at:at + 3], got))
+    if "printed" in vector:
+        made = line(check_book, line_bytes, vector, result)
+        if made != vector["printed"] + "\n":
+            differing.append("printed: got %r, expected %r" % (made, vector["printed"]))
     return differing
 
 
@@ -879,11 +906,11 @@ def with_deep_stack(work):
 
 def judge(task):
     place, vector = task
-    return place, with_deep_stack(lambda: compare(ANSWER_OF, vector))
+    return place, with_deep_stack(lambda: compare(*DEFINITIONS, vector))
 
 
 def main():
-    global ANSWER_OF
+    global DEFINITIONS
     options = argparse.ArgumentParser(description="Runs the definitions on vectors and compares every number.")
     options.add_argument("--root", default=".", help="the repository, with crates/*/specs")
     options.add_argument("--limit-work", type=int, help="skip vectors whose expected work is more")
@@ -893,7 +920,7 @@ def main():
     options = options.parse_args()
     program = Program(options.root)
     try:
-        ANSWER_OF = program.load()
+        DEFINITIONS = program.load(ENTRY, CHECK, LINE)
     except NotUnderstood as error:
         sys.exit(str(error))
     if options.python:

@@ -1,0 +1,23 @@
+-- `printing::store` meets its contract.
+use mathlib.Core.Path.{sym}
+use lib.Seq.{set-out}
+use borrow.Author.Needs.{needs}
+use Rattle.printing.proofs.laying.store.Statement.{statement}
+use Rattle.printing.proofs.laying.store.Tie as tie
+
+slice-write-out : tie.Need-slice-write-out
+slice-write-out c = search needs
+
+same-length : tie.Need-same-length
+same-length c = search needs
+
+returns : tie.Need-returns
+returns c = search needs
+
+returns-2 : tie.Need-returns-2
+returns-2 c =
+    let args = c .before .args in
+    sym (set-out (args .out .now) (args .i) (args .byte) (c .if1 .left))
+
+pub store-spec : {M : Type 1} → statement M
+store-spec = tie.close (tie.spec slice-write-out same-length returns returns-2)

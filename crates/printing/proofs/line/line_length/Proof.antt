@@ -1,0 +1,34 @@
+-- `printing::line_length` meets its contract.
+use borrow.Author.Needs.{needs}
+use Rattle.book.specs.Index.{bookIn}
+use Rattle.printing.specs.Lines.{answerIn}
+use Rattle.printing.specs.Printing.{lineBytes}
+use Rattle.printing.specs.LineLaws.{length-in, length-out}
+use Rattle.printing.specs.LayingLaws.{within-limit, beyond-limit}
+use Rattle.printing.proofs.line.line_length.Statement.{statement}
+use Rattle.printing.proofs.line.line_length.Tie as tie
+
+slice-aggregate-line : tie.Need-slice-aggregate-line
+slice-aggregate-line c = search needs
+
+line-requires : tie.Need-line-requires
+line-requires c κs = search needs
+
+returns : tie.Need-returns
+returns c =
+    let args = c .before .before .before .before .before .before .before .before .args in
+    let line = c .before .before .line in
+    let names = bookIn (args .book .now) (args .index .now) .names in
+    let bytes = lineBytes names (args .text .now) (args .cells .now) (answerIn (args .answer)) in
+    length-in _ _ bytes (within-limit _ bytes _ (line .ensures) (c .if1 .taken)) (c .if1 .taken)
+
+returns-2 : tie.Need-returns-2
+returns-2 c =
+    let args = c .before .before .before .before .before .before .before .before .args in
+    let line = c .before .before .line in
+    let names = bookIn (args .book .now) (args .index .now) .names in
+    let bytes = lineBytes names (args .text .now) (args .cells .now) (answerIn (args .answer)) in
+    length-out _ bytes (beyond-limit _ bytes _ (line .ensures) (c .if1 .left))
+
+pub line-length-spec : {M : Type 1} → statement M
+line-length-spec = tie.close (tie.spec slice-aggregate-line line-requires returns returns-2)

@@ -1,0 +1,124 @@
+-- `printing::refused` meets its contract.
+use mathlib.Core.Path.{_∙_}
+use borrow.Author.Needs.{needs}
+use Rattle.printing.specs.LayingLaws.{lays-then, lays-as}
+use Rattle.printing.specs.LineLaws.{refused-fields}
+use Rattle.printing.specs.Lines.{answerIn}
+use Rattle.printing.proofs.line.refused.Statement.{statement}
+use Rattle.printing.proofs.line.refused.Tie as tie
+
+line-of-requires : tie.Need-line-of-requires
+line-of-requires c κs = search needs
+
+column-of-requires : tie.Need-column-of-requires
+column-of-requires c κs = search needs
+
+slice-aggregate-field : tie.Need-slice-aggregate-field
+slice-aggregate-field c = search needs
+
+cast-field : tie.Need-cast-field
+cast-field c = search needs
+
+field-requires : tie.Need-field-requires
+field-requires c κs = search needs
+
+slice-aggregate-field-2 : tie.Need-slice-aggregate-field-2
+slice-aggregate-field-2 c = search needs
+
+cast-field-2 : tie.Need-cast-field-2
+cast-field-2 c = search needs
+
+field-requires-2 : tie.Need-field-requires-2
+field-requires-2 c κs = c .before .before .before .before .before .field .ensures .room
+
+slice-aggregate-field-3 : tie.Need-slice-aggregate-field-3
+slice-aggregate-field-3 c = search needs
+
+cast-field-3 : tie.Need-cast-field-3
+cast-field-3 c = search needs
+
+field-requires-3 : tie.Need-field-requires-3
+field-requires-3 c κs = c .before .before .before .before .before .field2 .ensures .room
+
+slice-aggregate-field-4 : tie.Need-slice-aggregate-field-4
+slice-aggregate-field-4 c = search needs
+
+cast-field-4 : tie.Need-cast-field-4
+cast-field-4 c = search needs
+
+field-requires-4 : tie.Need-field-requires-4
+field-requires-4 c κs = c .before .before .before .before .before .field3 .ensures .room
+
+slice-aggregate-field-5 : tie.Need-slice-aggregate-field-5
+slice-aggregate-field-5 c = search needs
+
+field-requires-5 : tie.Need-field-requires-5
+field-requires-5 c κs = c .before .before .before .before .field4 .ensures .room
+
+slice-aggregate-field-6 : tie.Need-slice-aggregate-field-6
+slice-aggregate-field-6 c = search needs
+
+field-requires-6 : tie.Need-field-requires-6
+field-requires-6 c κs = c .before .before .before .before .field5 .ensures .room
+
+byte-requires : tie.Need-byte-requires
+byte-requires c κs = c .before .before .before .field6 .ensures .room
+
+same-length : tie.Need-same-length
+same-length c =
+    let byte = c .before .before .byte in
+    let field6 = c .before .before .before .before .before .before .field6 in
+    let field5 = c .before .before .before .before .before .before .before .before .before .before .before .field5 in
+    let at-field5 = c .before .before .before .before .before .before .before .before .before .before .before in
+    let field4 = at-field5 .before .before .before .before .before .field4 in
+    let field3 = at-field5 .before .before .before .before .before .before .before .before .before .before .before .field3 in
+    let at-field3 = at-field5 .before .before .before .before .before .before .before .before .before .before .before in
+    let field2 = at-field3 .before .before .before .before .before .before .field2 in
+    let field = at-field3 .before .before .before .before .before .before .before .before .before .before .before .before .field in
+    byte .kept .0 ∙ field6 .kept .0 ∙ field5 .kept .0 ∙ field4 .kept .0 ∙ field3 .kept .0 ∙ field2 .kept .0 ∙ field .kept .0
+
+returns : tie.Need-returns
+returns c =
+    let byte = c .before .before .byte in
+    let field6 = c .before .before .before .before .before .before .field6 in
+    let field5 = c .before .before .before .before .before .before .before .before .before .before .before .field5 in
+    let at-field5 = c .before .before .before .before .before .before .before .before .before .before .before in
+    let field4 = at-field5 .before .before .before .before .before .field4 in
+    let field3 = at-field5 .before .before .before .before .before .before .before .before .before .before .before .field3 in
+    let at-field3 = at-field5 .before .before .before .before .before .before .before .before .before .before .before in
+    let field2 = at-field3 .before .before .before .before .before .before .field2 in
+    let field = at-field3 .before .before .before .before .before .before .before .before .before .before .before .before .field in
+    let at-field = at-field3 .before .before .before .before .before .before .before .before .before .before .before .before in
+    let column-of = at-field .before .before .before .before .column-of in
+    let line-of = at-field .before .before .before .before .before .line-of in
+    let args = at-field .before .before .before .before .before .before .before .before .args in
+    let parts =
+    lays-then (field .ensures) (lays-then (field2 .ensures) (lays-then (field3 .ensures)
+    (lays-then (field4 .ensures) (lays-then (field5 .ensures) (lays-then (field6 .ensures) (byte .ensures)))))) in
+    lays-as parts (refused-fields (args .text .now) (answerIn (args .answer)) _ _ (line-of .ensures) (column-of .ensures))
+
+pub refused-spec : {M : Type 1} → statement M
+refused-spec =
+    tie.close
+    (tie.spec
+    line-of-requires
+    column-of-requires
+    slice-aggregate-field
+    cast-field
+    field-requires
+    slice-aggregate-field-2
+    cast-field-2
+    field-requires-2
+    slice-aggregate-field-3
+    cast-field-3
+    field-requires-3
+    slice-aggregate-field-4
+    cast-field-4
+    field-requires-4
+    slice-aggregate-field-5
+    field-requires-5
+    slice-aggregate-field-6
+    field-requires-6
+    byte-requires
+    same-length
+    returns)

@@ -1,0 +1,324 @@
+-- `printing::item` and `printing::items` meet their contracts. Each return is one law of specs/CellLaws.antt, applied to what the calls before it laid. The measure is the cell's number: a
+-- cell refers to older ones.
+use mathlib.Core.Path.{sym, _∙_}
+use Prim.Native.Nat.{ℕ, _<_}
+use native.Mathlib.Omega.{arith}
+use borrow.Author.Tests.{ltb-true}
+use borrow.Author.Needs.{needs}
+use borrow.Fn.Kinds.{In}
+use borrow.Fn.PlainCycle.{Measures, is, falls, and}
+use Rattle.book.specs.Index.{bookIn}
+use Rattle.printing.specs.LayingLaws.{lays-none, lays-full, lays-then, lays-as}
+use Rattle.printing.specs.CellLaws.{older-less, item-variant, item-list, item-plain, items-none, items-chain}
+use Rattle.printing.proofs.value.+item+items.{statement}
+use Rattle.printing.proofs.value.+item+items.Tie.{close}
+use Rattle.printing.proofs.value.item.Reads as item
+use Rattle.printing.proofs.value.item.Kinds as item-kinds
+use Rattle.printing.proofs.value.+item+items.Lts-item as item-lts
+use Rattle.printing.proofs.value.items.Reads as items
+use Rattle.printing.proofs.value.items.Kinds as items-kinds
+use Rattle.printing.proofs.value.+item+items.Lts-items as items-lts
+use Rattle.printing.proofs.cell.cell_at.Reads as cell-at-reads
+use Rattle.printing.proofs.cell.older.Reads as older-reads
+use Rattle.printing.proofs.laying.byte.Reads as byte-reads
+use Rattle.printing.proofs.laying.is_full.Reads as is-full-reads
+use Rattle.printing.proofs.laying.number.Reads as number-reads
+use Rattle.printing.proofs.value.gap.Reads as gap-reads
+use Rattle.printing.proofs.value.plain.Reads as plain-reads
+
+abbrev μ-item : Measures 4 item-kinds.ps ℕ
+μ-item κs a = a .1 .1 .1 .1 .1 .1 .1 .0
+
+abbrev μ-items : Measures 4 items-kinds.ps ℕ
+μ-items κs a = a .1 .1 .1 .1 .1 .1 .1 .0
+
+abbrev item-at : ℕ → In 4 item-kinds.ps
+item-at t = and 4 item-kinds.ps (is 4 item-kinds.ps μ-item t) item.Pre
+
+abbrev item-below : ℕ → In 4 item-kinds.ps
+item-below t = and 4 item-kinds.ps (falls 4 item-kinds.ps _<_ μ-item t) item.Pre
+
+abbrev items-at : ℕ → In 4 items-kinds.ps
+items-at t = and 4 items-kinds.ps (is 4 items-kinds.ps μ-items t) items.Pre
+
+abbrev items-below : ℕ → In 4 items-kinds.ps
+items-below t = and 4 items-kinds.ps (falls 4 items-kinds.ps _<_ μ-items t) items.Pre
+
+abbrev item-claims : ℕ → item-lts.Claims
+item-claims t = (
+  is-full-reads.Asked,
+  is-full-reads.Learnt,
+  cell-at-reads.Asked,
+  cell-at-reads.Learnt,
+  byte-reads.Asked,
+  byte-reads.Learnt,
+  number-reads.Asked,
+  number-reads.Learnt,
+  older-reads.Asked,
+  older-reads.Learnt,
+  items-below t,
+  items.Post,
+  plain-reads.Asked,
+  plain-reads.Learnt,
+)
+
+item-is-full-requires : (t : ℕ) → item-lts.Need-is-full-requires (item-claims t) (item-at t) item.Post
+item-is-full-requires t c κs = c .before .before .before .before .before .before .pre .1 .low
+
+item-same-length : (t : ℕ) → item-lts.Need-same-length (item-claims t) (item-at t) item.Post
+item-same-length t c = search needs
+
+item-returns : (t : ℕ) → item-lts.Need-returns (item-claims t) (item-at t) item.Post
+item-returns t c =
+    let pre = c .before .before .before .before .before .before .before .before .pre in
+    let is-full = c .before .is-full in
+    lays-full (pre .1) _ (ltb-true _ _ (sym (is-full .ensures) ∙ c .if1 .taken))
+
+item-cell-at-requires : (t : ℕ) → item-lts.Need-cell-at-requires (item-claims t) (item-at t) item.Post
+item-cell-at-requires t c κs = search needs
+
+item-byte-requires : (t : ℕ) → item-lts.Need-byte-requires (item-claims t) (item-at t) item.Post
+item-byte-requires t c κs = c .before .before .before .before .before .before .before .before .before .before .before .before .pre .1
+
+item-cast-number : (t : ℕ) → item-lts.Need-cast-number (item-claims t) (item-at t) item.Post
+item-cast-number t c = search needs
+
+item-number-requires : (t : ℕ) → item-lts.Need-number-requires (item-claims t) (item-at t) item.Post
+item-number-requires t c κs = c .before .before .before .before .byte .ensures .room
+
+item-older-requires : (t : ℕ) → item-lts.Need-older-requires (item-claims t) (item-at t) item.Post
+item-older-requires t c κs = search needs
+
+item-items-requires : (t : ℕ) → item-lts.Need-items-requires (item-claims t) (item-at t) item.Post
+item-items-requires t c κs =
+    let older = c .before .older in
+    let number = c .before .before .before .before .number in
+    let if2 = c .before .before .before .before .before .before .before .before .before .before .before .if2 in
+    let at-if2 = c .before .before .before .before .before .before .before .before .before .before .before in
+    let cell-at = at-if2 .before .before .cell-at in
+    let start = at-if2 .before .before .before .before .before .before .before .before .before .before .before in
+    let args = start .args in
+    let pre = start .pre in
+    let form = if2 .taken in
+    let placed = cell-at .ensures .placed (λ z. omega (arith, form, z)) in
+    (omega (arith, older-less (args .n) (cell-at .result .b) placed, older .ensures, pre .0), number .ensures .room)
+
+item-byte-requires-2 : (t : ℕ) → item-lts.Need-byte-requires-2 (item-claims t) (item-at t) item.Post
+item-byte-requires-2 t c κs = c .before .before .before .items .ensures .room
+
+item-same-length-2 : (t : ℕ) → item-lts.Need-same-length-2 (item-claims t) (item-at t) item.Post
+item-same-length-2 t c = search needs
+
+item-returns-2 : (t : ℕ) → item-lts.Need-returns-2 (item-claims t) (item-at t) item.Post
+item-returns-2 t c =
+    let byte2 = c .before .before .byte2 in
+    let items = c .before .before .before .before .before .before .items in
+    let older = c .before .before .before .before .before .before .before .before .older in
+    let number = c .before .before .before .before .before .before .before .before .before .before .before .number in
+    let at-number = c .before .before .before .before .before .before .before .before .before .before .before in
+    let byte = at-number .before .before .before .before .before .byte in
+    let if2 = at-number .before .before .before .before .before .before .before .if2 in
+    let cell-at = at-number .before .before .before .before .before .before .before .before .before .cell-at in
+    let at-cell-at = at-number .before .before .before .before .before .before .before .before .before in
+    let args = at-cell-at .before .before .before .before .before .before .before .before .before .args in
+    let names = bookIn (args .book .now) (args .index .now) .names in
+    let parts = lays-then (byte .ensures) (lays-then (number .ensures) (lays-then (items .ensures) (byte2 .ensures))) in
+    lays-as parts (item-variant names (args .text .now) (args .cells .now) (args .n) _ _ _ (cell-at .ensures .is) _ (older .ensures) (if2 .taken))
+
+item-byte-requires-3 : (t : ℕ) → item-lts.Need-byte-requires-3 (item-claims t) (item-at t) item.Post
+item-byte-requires-3 t c κs = c .before .before .before .before .before .before .before .before .before .before .before .before .before .before .pre .1
+
+item-older-requires-2 : (t : ℕ) → item-lts.Need-older-requires-2 (item-claims t) (item-at t) item.Post
+item-older-requires-2 t c κs = search needs
+
+item-items-requires-2 : (t : ℕ) → item-lts.Need-items-requires-2 (item-claims t) (item-at t) item.Post
+item-items-requires-2 t c κs =
+    let older2 = c .before .older2 in
+    let byte3 = c .before .before .before .before .byte3 in
+    let if3 = c .before .before .before .before .before .before .if3 in
+    let cell-at = c .before .before .before .before .before .before .before .before .before .before .cell-at in
+    let at-cell-at = c .before .before .before .before .before .before .before .before .before .before in
+    let start = at-cell-at .before .before .before .before .before .before .before .before .before in
+    let args = start .args in
+    let pre = start .pre in
+    let form = if3 .taken in
+    let placed = cell-at .ensures .placed (λ z. omega (arith, form, z)) in
+    (omega (arith, older-less (args .n) (cell-at .result .a) placed, older2 .ensures, pre .0), byte3 .ensures .room)
+
+item-byte-requires-4 : (t : ℕ) → item-lts.Need-byte-requires-4 (item-claims t) (item-at t) item.Post
+item-byte-requires-4 t c κs = c .before .before .before .items2 .ensures .room
+
+item-same-length-3 : (t : ℕ) → item-lts.Need-same-length-3 (item-claims t) (item-at t) item.Post
+item-same-length-3 t c = search needs
+
+item-returns-3 : (t : ℕ) → item-lts.Need-returns-3 (item-claims t) (item-at t) item.Post
+item-returns-3 t c =
+    let byte4 = c .before .before .byte4 in
+    let items2 = c .before .before .before .before .before .before .items2 in
+    let older2 = c .before .before .before .before .before .before .before .before .older2 in
+    let byte3 = c .before .before .before .before .before .before .before .before .before .before .before .byte3 in
+    let at-byte3 = c .before .before .before .before .before .before .before .before .before .before .before in
+    let if3 = at-byte3 .before .before .if3 in
+    let cell-at = at-byte3 .before .before .before .before .before .before .cell-at in
+    let at-cell-at = at-byte3 .before .before .before .before .before .before in
+    let args = at-cell-at .before .before .before .before .before .before .before .before .before .args in
+    let names = bookIn (args .book .now) (args .index .now) .names in
+    let parts = lays-then (byte3 .ensures) (lays-then (items2 .ensures) (byte4 .ensures)) in
+    lays-as parts (item-list names (args .text .now) (args .cells .now) (args .n) _ _ _ (cell-at .ensures .is) _ (older2 .ensures) (if3 .taken))
+
+item-plain-requires : (t : ℕ) → item-lts.Need-plain-requires (item-claims t) (item-at t) item.Post
+item-plain-requires t c κs = c .before .before .before .before .before .before .before .before .before .before .before .before .before .before .pre .1
+
+item-same-length-4 : (t : ℕ) → item-lts.Need-same-length-4 (item-claims t) (item-at t) item.Post
+item-same-length-4 t c = search needs
+
+item-returns-4 : (t : ℕ) → item-lts.Need-returns-4 (item-claims t) (item-at t) item.Post
+item-returns-4 t c =
+    let plain = c .before .before .plain in
+    let if3 = c .before .before .before .before .if3 in
+    let if2 = c .before .before .before .before .before .before .if2 in
+    let cell-at = c .before .before .before .before .before .before .before .before .cell-at in
+    let at-cell-at = c .before .before .before .before .before .before .before .before in
+    let args = at-cell-at .before .before .before .before .before .before .before .before .before .args in
+    let names = bookIn (args .book .now) (args .index .now) .names in
+    lays-as (plain .ensures) (item-plain names (args .text .now) (args .cells .now) (args .n) _ _ _ (cell-at .ensures .is) (if2 .left) (if3 .left))
+
+abbrev items-claims : ℕ → items-lts.Claims
+items-claims t = (
+  is-full-reads.Asked,
+  is-full-reads.Learnt,
+  cell-at-reads.Asked,
+  cell-at-reads.Learnt,
+  older-reads.Asked,
+  older-reads.Learnt,
+  items-below t,
+  items.Post,
+  gap-reads.Asked,
+  gap-reads.Learnt,
+  item-below t,
+  item.Post,
+)
+
+items-is-full-requires : (t : ℕ) → items-lts.Need-is-full-requires (items-claims t) (items-at t) items.Post
+items-is-full-requires t c κs = c .before .before .before .before .before .before .pre .1 .low
+
+items-same-length : (t : ℕ) → items-lts.Need-same-length (items-claims t) (items-at t) items.Post
+items-same-length t c = search needs
+
+items-returns : (t : ℕ) → items-lts.Need-returns (items-claims t) (items-at t) items.Post
+items-returns t c =
+    let pre = c .before .before .before .before .before .before .before .before .pre in
+    let is-full = c .before .is-full in
+    lays-full (pre .1) _ (ltb-true _ _ (sym (is-full .ensures) ∙ c .if1 .taken))
+
+items-cell-at-requires : (t : ℕ) → items-lts.Need-cell-at-requires (items-claims t) (items-at t) items.Post
+items-cell-at-requires t c κs = search needs
+
+items-same-length-2 : (t : ℕ) → items-lts.Need-same-length-2 (items-claims t) (items-at t) items.Post
+items-same-length-2 t c = search needs
+
+items-returns-2 : (t : ℕ) → items-lts.Need-returns-2 (items-claims t) (items-at t) items.Post
+items-returns-2 t c =
+    let args = c .before .before .before .before .before .before .before .before .before .before .before .args in
+    let pre = c .before .before .before .before .before .before .before .before .before .before .before .pre in
+    let cell-at = c .before .before .cell-at in
+    let names = bookIn (args .book .now) (args .index .now) .names in
+    lays-as (lays-none (pre .1)) (items-none names (args .text .now) (args .cells .now) (args .n) _ _ _ (cell-at .ensures .is) (args .in-list) (c .if2 .taken))
+
+items-older-requires : (t : ℕ) → items-lts.Need-older-requires (items-claims t) (items-at t) items.Post
+items-older-requires t c κs = search needs
+
+items-items-requires : (t : ℕ) → items-lts.Need-items-requires (items-claims t) (items-at t) items.Post
+items-items-requires t c κs =
+    let older = c .before .older in
+    let if2 = c .before .before .if2 in
+    let cell-at = c .before .before .before .before .cell-at in
+    let at-cell-at = c .before .before .before .before in
+    let start = at-cell-at .before .before .before .before .before .before .before .before .before in
+    let args = start .args in
+    let pre = start .pre in
+    let form = if2 .left in
+    let placed = cell-at .ensures .placed (λ z. omega (arith, form, z)) in
+    (omega (arith, older-less (args .n) (cell-at .result .a) placed, older .ensures, pre .0), pre .1)
+
+items-gap-requires : (t : ℕ) → items-lts.Need-gap-requires (items-claims t) (items-at t) items.Post
+items-gap-requires t c κs = c .before .before .before .items .ensures .room
+
+items-older-requires-2 : (t : ℕ) → items-lts.Need-older-requires-2 (items-claims t) (items-at t) items.Post
+items-older-requires-2 t c κs = search needs
+
+items-item-requires : (t : ℕ) → items-lts.Need-item-requires (items-claims t) (items-at t) items.Post
+items-item-requires t c κs =
+    let older2 = c .before .older2 in
+    let gap = c .before .before .before .before .gap in
+    let if2 = c .before .before .before .before .before .before .before .before .before .before .before .if2 in
+    let at-if2 = c .before .before .before .before .before .before .before .before .before .before .before in
+    let cell-at = at-if2 .before .before .cell-at in
+    let start = at-if2 .before .before .before .before .before .before .before .before .before .before .before in
+    let args = start .args in
+    let pre = start .pre in
+    let form = if2 .left in
+    let placed = cell-at .ensures .placed (λ z. omega (arith, form, z)) in
+    (omega (arith, older-less (args .n) (cell-at .result .b) placed, older2 .ensures, pre .0), gap .ensures .room)
+
+items-same-length-3 : (t : ℕ) → items-lts.Need-same-length-3 (items-claims t) (items-at t) items.Post
+items-same-length-3 t c = search needs
+
+items-returns-3 : (t : ℕ) → items-lts.Need-returns-3 (items-claims t) (items-at t) items.Post
+items-returns-3 t c =
+    let item = c .before .before .item in
+    let older2 = c .before .before .before .before .older2 in
+    let gap = c .before .before .before .before .before .before .before .gap in
+    let items = c .before .before .before .before .before .before .before .before .before .before .before .items in
+    let at-items = c .before .before .before .before .before .before .before .before .before .before .before in
+    let older = at-items .before .before .older in
+    let if2 = at-items .before .before .before .if2 in
+    let cell-at = at-items .before .before .before .before .before .cell-at in
+    let at-cell-at = at-items .before .before .before .before .before in
+    let args = at-cell-at .before .before .before .before .before .before .before .before .before .args in
+    let names = bookIn (args .book .now) (args .index .now) .names in
+    let parts = lays-then (items .ensures) (lays-then (gap .ensures) (item .ensures)) in
+    lays-as parts (items-chain names (args .text .now) (args .cells .now) (args .n) _ _ _ (cell-at .ensures .is) (args .in-list) _ _ (older .ensures)
+    (older2 .ensures) (if2 .left))
+
+pub +item+items-spec : {M : Type 1} → statement M
++item+items-spec = close μ-item μ-items (λ t. item-lts.spec (item-claims t)
+    (item-at t)
+    item.Post
+    (item-is-full-requires t)
+    (item-same-length t)
+    (item-returns t)
+    (item-cell-at-requires t)
+    (item-byte-requires t)
+    (item-cast-number t)
+    (item-number-requires t)
+    (item-older-requires t)
+    (item-items-requires t)
+    (item-byte-requires-2 t)
+    (item-same-length-2 t)
+    (item-returns-2 t)
+    (item-byte-requires-3 t)
+    (item-older-requires-2 t)
+    (item-items-requires-2 t)
+    (item-byte-requires-4 t)
+    (item-same-length-3 t)
+    (item-returns-3 t)
+    (item-plain-requires t)
+    (item-same-length-4 t)
+    (item-returns-4 t))
+    λ t. items-lts.spec (items-claims t)
+    (items-at t)
+    items.Post
+    (items-is-full-requires t)
+    (items-same-length t)
+    (items-returns t)
+    (items-cell-at-requires t)
+    (items-same-length-2 t)
+    (items-returns-2 t)
+    (items-older-requires t)
+    (items-items-requires t)
+    (items-gap-requires t)
+    (items-older-requires-2 t)
+    (items-item-requires t)
+    (items-same-length-3 t)
+    (items-returns-3 t)

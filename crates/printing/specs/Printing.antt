@@ -1,0 +1,102 @@
+-- Document 01, "Printing": the line for an answer, as a list of bytes.
+use mathlib.Core.Bool.{Bool, true, false, cond, _||_}
+use mathlib.Core.List.{List, [], _∷_, _++_}
+use Prim.Native.Nat.{ℕ, zero, suc, _+_, _/_, _%_}
+use lib.Dec.{ltb, eqb}
+use lib.ListN.{take, drop}
+use Rattle.book.specs.Book.{Entry, entryNumber}
+use Rattle.rules.specs.Values.{Tree, Trees, none′, _▸_}
+use Rattle.rules.specs.Cells.{cellsIn, treeAt}
+use Rattle.rules.specs.Answer.{Answer}
+
+-- ---- "numbers without leading zeros"
+-- the digits of a tenth of the number, if that is not 0, and then its last digit. As many turns as the number are more than enough
+unfoldable pub digits : ℕ → ℕ → List ℕ
+digits zero n = (48 + n) ∷ []
+digits (suc turns) n = elim (ltb n 10) [ true ↦ (48 + n) ∷ [] | false ↦ digits turns (n / 10) ++ ((48 + n % 10) ∷ []) ]
+
+abbrev pub decimal : ℕ → List ℕ
+decimal n = digits n n
+
+-- ---- A value
+unfoldable mutual
+  -- "variant as `(number items)`, list `[items]`, one space before each item but a list's first, .. absent `-`, variable `$` and spelling"
+  pub printed : List Entry → Tree → List ℕ
+  printed names (Tree.variant j items) = 40 ∷ (decimal j ++ (spaced names items ++ (41 ∷ [])))
+  printed names (Tree.name spelling) = spelling
+  printed names (Tree.number n) = decimal n
+  printed names (Tree.variable i kind) = 36 ∷ entryNumber names i .spelling
+  printed names Tree.absent = 45 ∷ []
+  printed names (Tree.list items) = 91 ∷ (drop 1 (spaced names items) ++ (93 ∷ []))
+
+  -- trees in order, a space before each
+  pub spaced : List Entry → Trees → List ℕ
+  spaced names none′ = []
+  spaced names (items ▸ item) = spaced names items ++ (32 ∷ printed names item)
+
+-- the value of a cell; a run has at most 4,096 cells, so what stands past their numbers is none. Every list of numbers has a value: what is no cell is absent
+abbrev pub valueBytes : List Entry → List ℕ → List ℕ → ℕ → List ℕ
+valueBytes names text numbers n = printed names (treeAt text (cellsIn (take 12288 numbers)) n)
+
+-- ---- "For 11 and 30, L is 1 plus line feeds before the place, C is 1 plus bytes since the last; else both 0"
+unfoldable pub lineFeeds : List ℕ → ℕ
+lineFeeds [] = 0
+lineFeeds (b ∷ bs) = cond (eqb b 10) (suc (lineFeeds bs)) (lineFeeds bs)
+
+-- bytes since the last line feed, or since the start, n of them before these bytes
+unfoldable pub sinceLineFeed : ℕ → List ℕ → ℕ
+sinceLineFeed n [] = n
+sinceLineFeed n (b ∷ bs) = sinceLineFeed (cond (eqb b 10) 0 (suc n)) bs
+
+abbrev pub hasLine : Answer → Bool
+hasLine a = eqb (a .refusal) 11 || eqb (a .refusal) 30
+
+abbrev pub lineOf : List ℕ → Answer → ℕ
+lineOf text a = cond (hasLine a) (suc (lineFeeds (take (a .place) text))) 0
+
+abbrev pub columnOf : List ℕ → Answer → ℕ
+columnOf text a = cond (hasLine a) (suc (sinceLineFeed 0 (take (a .place) text))) 0
+
+-- ---- The line
+-- `value `
+abbrev pub valueWord : List ℕ
+valueWord = 118 ∷ 97 ∷ 108 ∷ 117 ∷ 101 ∷ 32 ∷ []
+
+-- `refused `
+abbrev pub refusedWord : List ℕ
+refusedWord = 114 ∷ 101 ∷ 102 ∷ 117 ∷ 115 ∷ 101 ∷ 100 ∷ 32 ∷ []
+
+-- ` place `
+abbrev pub placeWord : List ℕ
+placeWord = 32 ∷ 112 ∷ 108 ∷ 97 ∷ 99 ∷ 101 ∷ 32 ∷ []
+
+-- ` kind `
+abbrev pub kindWord : List ℕ
+kindWord = 32 ∷ 107 ∷ 105 ∷ 110 ∷ 100 ∷ 32 ∷ []
+
+-- ` argument `
+abbrev pub argumentWord : List ℕ
+argumentWord = 32 ∷ 97 ∷ 114 ∷ 103 ∷ 117 ∷ 109 ∷ 101 ∷ 110 ∷ 116 ∷ 32 ∷ []
+
+-- ` line `
+abbrev pub lineWord : List ℕ
+lineWord = 32 ∷ 108 ∷ 105 ∷ 110 ∷ 101 ∷ 32 ∷ []
+
+-- ` column `
+abbrev pub columnWord : List ℕ
+columnWord = 32 ∷ 99 ∷ 111 ∷ 108 ∷ 117 ∷ 109 ∷ 110 ∷ 32 ∷ []
+
+-- "`refused N place P kind K argument A line L column C`"
+unfoldable pub refusedLine : List ℕ → Answer → List ℕ
+refusedLine text a =
+    refusedWord ++ (decimal (a .refusal)
+    ++ (placeWord ++ (decimal (a .place)
+    ++ (kindWord ++ (decimal (a .kind)
+    ++ (argumentWord ++ (decimal (a .argument)
+    ++ (lineWord ++ (decimal (lineOf text a)
+    ++ (columnWord ++ (decimal (columnOf text a) ++ (10 ∷ []))))))))))))
+
+-- "Success: `value ` and the value"; "One line feed ends each"
+unfoldable pub lineBytes : List Entry → List ℕ → List ℕ → Answer → List ℕ
+lineBytes names text numbers a =
+    elim (eqb (a .refusal) 0) [ true ↦ valueWord ++ (valueBytes names text numbers (a .value) ++ (10 ∷ [])) | false ↦ refusedLine text a ]

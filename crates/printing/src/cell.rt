@@ -1,0 +1,58 @@
+// Cells by their numbers, and the spelling that a cell names.
+ghost use mathlib.Core.Path.{_≡_};
+ghost use Rattle.rules.specs.Cells.{cellOf};
+ghost use Rattle.printing.specs.Cells.{namesIn, Read, olderThan, spellingOf};
+use book::name;
+use cells::Numbers;
+use cells::absent;
+use characters::part;
+
+pub const CHAIN: u32 = 2;
+
+pub const VARIANT: u32 = 3;
+
+pub const NAME: u32 = 4;
+
+pub const NUMBER: u32 = 5;
+
+pub const VARIABLE: u32 = 6;
+
+pub const LIST: u32 = 8;
+
+// Cell n, and absent where there is none.
+pub fn cell_at(cells: &[u32], n: u32) -> Numbers
+    ensures { λ r. ⌜ Read (now (cells .entry)) n r ⌝ }
+{
+    if n == 0 {
+        return absent();
+    }
+    let at = n as usize * 3 - 3;
+    if cells.len() < at + 3 {
+        return absent();
+    }
+    Numbers {
+        form: cells[at],
+        a: cells[at + 1],
+        b: cells[at + 2],
+    }
+}
+
+// A cell refers to older ones; any other number is none.
+pub fn older(n: u32, cell: u32) -> u32
+    ensures { λ r. ⌜ r ≡ olderThan n cell ⌝ }
+{
+    if cell < n { cell } else { 0 }
+}
+
+// The part of the text, or of the book, that a name or a variable is spelled by; of any other cell, nothing.
+pub fn spelling<'a>(text: &'a [u8], book: &'a [u8], index: &[usize], cell: Numbers) -> &'a [u8]
+    ensures { λ r. ⌜ now r ≡ spellingOf (namesIn (now (book .entry)) (now (index .entry))) (now (text .entry)) (cellOf (cell .form) (cell .a) (cell .b)) ⌝ }
+{
+    if cell.form == NAME {
+        return part(text, cell.a as usize, cell.b as usize);
+    }
+    if cell.form == VARIABLE {
+        return name(book, index, cell.a as usize);
+    }
+    part(text, 0, 0)
+}

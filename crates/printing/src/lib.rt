@@ -1,0 +1,28 @@
+// The line for an answer: `value ` and the value, or `refused N place P kind K argument A line L column C`, and one line feed. Document 01, "Printing".
+//
+// The line is `lineBytes` of specs/Printing.antt, for every book, index, text, list of cells and answer, also for cells and answers that no run gives: what is
+// no cell counts as absent. A value can be far longer than its cells, since a cell is printed wherever it is used. So nothing here counts past
+// the room that the caller gives:
+//
+// - `line_length` tells how long the line is, or that it is longer than a limit;
+// - `print` writes the whole line into a lent slice, or tells that it does not fit and writes nothing;
+// - `print_part` writes the part of the line from a place on, as much as there is and fits: called with one place after the other it gives a line of any length.
+//
+// `line_length` and `print_part` ask that their limit and place are below 2^63; nothing else is required. `spelling` is the part of the text or of the book that
+// a cell names. What no theorem says: a call takes time in proportion to the room, with the place where the part begins, and to the text and the cells, whatever
+// the value's length; and its calls nest at most 4,096 deep, a cell each.
+//
+// The crate relies on the promises of `characters`, `book` and `cells` and on the definitions of `rules`, and assumes nothing. specs/ has the line (Printing, with
+// worked examples in Worked), what the public functions answer (Lines), the window on the line (Laying), what is printed of a cell (Cells), and laws.
+mod cell;
+mod laying;
+mod line;
+mod place;
+mod value;
+
+pub use cell::spelling;
+pub use line::Answer;
+pub use line::Length;
+pub use line::line_length;
+pub use line::print;
+pub use line::print_part;

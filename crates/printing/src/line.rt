@@ -1,0 +1,187 @@
+// The line for an answer.
+ghost use mathlib.Core.Path.{_≡_};
+ghost use Prim.Native.Nat.{_^_, _<_};
+ghost use mathlib.Core.List.{_++_};
+ghost use lib.ListN.{length, take};
+ghost use Rattle.printing.specs.Printing.{decimal, lineOf, columnOf, hasLine, refusedLine};
+ghost use Rattle.printing.specs.Laying.{Room, Lays};
+ghost use Rattle.printing.specs.Lines.{answerIn, lineIn, lengthWithin, Prints, Window};
+use crate::laying::byte;
+use crate::laying::bytes;
+use crate::laying::number;
+use crate::place;
+use crate::value::item;
+
+const CELL_NUMBERS: usize = 12288;
+
+const BAD_BYTE: u32 = 11;
+
+const NO_PARSE: u32 = 30;
+
+// The numbers of an answer, in document 01's order.
+pub struct Answer {
+    pub refusal: u32,
+    pub place: u32,
+    pub kind: u32,
+    pub argument: u32,
+    pub work: u32,
+    pub parses: u32,
+    pub value: u32,
+}
+
+// How many bytes the line has, or that there are more than asked for.
+pub enum Length {
+    Bytes(usize),
+    Longer,
+}
+
+// The numbers of the cells that a run can make.
+fn cell_numbers(cells: &[u32]) -> &[u32]
+    ensures { λ r. ⌜ now r ≡ take 12288 (now (cells .entry)) ⌝ }
+{
+    if cells.len() < CELL_NUMBERS {
+        &cells[..]
+    } else {
+        &cells[..CELL_NUMBERS]
+    }
+}
+
+// Whether the place of an answer is one of the text, for which the line has its line and column.
+fn in_text(answer: Answer) -> bool
+    ensures { λ r. ⌜ r ≡ hasLine (answerIn answer) ⌝ }
+{
+    if answer.refusal == BAD_BYTE {
+        return true;
+    }
+    answer.refusal == NO_PARSE
+}
+
+fn line_of(text: &[u8], answer: Answer) -> usize
+    ensures { λ r. ⌜ r ≡ lineOf (now (text .entry)) (answerIn answer) ⌝ }
+{
+    if in_text(answer) {
+        place::line(text, answer.place)
+    } else {
+        0
+    }
+}
+
+fn column_of(text: &[u8], answer: Answer) -> usize
+    ensures { λ r. ⌜ r ≡ columnOf (now (text .entry)) (answerIn answer) ⌝ }
+{
+    if in_text(answer) {
+        place::column(text, answer.place)
+    } else {
+        0
+    }
+}
+
+// A word and a number.
+fn field(out: &mut [u8], from: usize, at: usize, word: &[u8], n: u64) -> usize
+    requires { ⌜ Room from (now out) at ⌝ }
+    ensures { λ r. ⌜ Lays from (now (out .entry)) at (now (word .entry) ++ decimal n) (now (out .exit)) r ⌝ }
+{
+    let next = bytes(out, from, at, word);
+    number(out, from, next, n)
+}
+
+fn refused(text: &[u8], answer: Answer, out: &mut [u8], from: usize) -> usize
+    requires { ⌜ from < 2 ^ 63 ⌝ }
+    ensures { λ r. ⌜ Lays from (now (out .entry)) 0 (refusedLine (now (text .entry)) (answerIn answer)) (now (out .exit)) r ⌝ }
+{
+    let line = line_of(text, answer);
+    let column = column_of(text, answer);
+    let refusal = field(out, from, 0, b"refused ", answer.refusal as u64);
+    let place = field(out, from, refusal, b" place ", answer.place as u64);
+    let kind = field(out, from, place, b" kind ", answer.kind as u64);
+    let argument = field(out, from, kind, b" argument ", answer.argument as u64);
+    let lined = field(out, from, argument, b" line ", line as u64);
+    let columned = field(out, from, lined, b" column ", column as u64);
+    byte(out, from, columned, b'\n')
+}
+
+// The line, as much of it as lies in the window, and how long it is, or one past the window.
+fn line<'a>(
+    text: &'a [u8],
+    book: &'a [u8],
+    index: &[usize],
+    cells: &[u32],
+    answer: Answer,
+    out: &mut [u8],
+    from: usize,
+) -> usize
+    requires { ⌜ from < 2 ^ 63 ⌝ }
+    ensures { λ r. ⌜ Lays from (now (out .entry)) 0 (lineIn (now (text .entry)) (now (book .entry)) (now (index .entry)) (now (cells .entry)) answer) (now (out .exit)) r ⌝ }
+{
+    if answer.refusal != 0 {
+        return refused(text, answer, out, from);
+    }
+    let begun = bytes(out, from, 0, b"value ");
+    let numbers = cell_numbers(cells);
+    let value = item(text, book, index, numbers, out, from, begun, answer.value);
+    byte(out, from, value, b'\n')
+}
+
+// How long the line is, if it has at most `limit` bytes.
+pub fn line_length<'a>(
+    text: &'a [u8],
+    book: &'a [u8],
+    index: &[usize],
+    cells: &[u32],
+    answer: Answer,
+    limit: usize,
+) -> Length
+    requires { ⌜ limit < 2 ^ 63 ⌝ }
+    ensures { λ r. ⌜ r ≡ lengthWithin limit (lineIn (now (text .entry)) (now (book .entry)) (now (index .entry)) (now (cells .entry)) answer) ⌝ }
+{
+    let mut past = [0u8; 1];
+    let end = line(text, book, index, cells, answer, &mut past, limit);
+    if end <= limit {
+        Length::Bytes(end)
+    } else {
+        Length::Longer
+    }
+}
+
+// The part of the line from byte number `from` on, as much of it as there is and `out` holds; and how many bytes that is.
+pub fn print_part<'a>(
+    text: &'a [u8],
+    book: &'a [u8],
+    index: &[usize],
+    cells: &[u32],
+    answer: Answer,
+    from: usize,
+    out: &mut [u8],
+) -> usize
+    requires { ⌜ from < 2 ^ 63 ⌝ }
+    ensures { λ r. ⌜ Window from (lineIn (now (text .entry)) (now (book .entry)) (now (index .entry)) (now (cells .entry)) answer) (now (out .entry)) (now (out .exit)) r ⌝ }
+{
+    let end = line(text, book, index, cells, answer, out, from);
+    if end < from {
+        return 0;
+    }
+    if end - from < out.len() {
+        end - from
+    } else {
+        out.len()
+    }
+}
+
+// The line, if `out` has room for all of it; else `out` stays as it is.
+pub fn print<'a>(
+    text: &'a [u8],
+    book: &'a [u8],
+    index: &[usize],
+    cells: &[u32],
+    answer: Answer,
+    out: &mut [u8],
+) -> Length
+    ensures { λ r. ⌜ Prints (lineIn (now (text .entry)) (now (book .entry)) (now (index .entry)) (now (cells .entry)) answer) (now (out .entry)) (now (out .exit)) r ⌝ }
+{
+    let size = out.len();
+    let length = line_length(text, book, index, cells, answer, size);
+    if let Length::Bytes(_) = length {
+        print_part(text, book, index, cells, answer, 0, out);
+    }
+    length
+}
