@@ -16,8 +16,8 @@ after ten million steps, so it gets only up to three vectors of little work for 
 
 times calls at -O3, by tools/replay_speed.c.
 
-The crate run exports no call. The one in tools/replay/parse.rt is for this test alone and is not proved. It is compiled as a module of a copy
-of the crate, in a temporary folder; the other crates are compiled as they stand. Nothing is proved here.
+The crates are compiled as they stand, without their proofs. Only for the timing a copy of the crate run gets one module more, tools/replay/exported.rt,
+which gives its call a name that C can link.
 """
 import argparse
 import glob
@@ -78,12 +78,12 @@ def all_equal(vectors):
 
 # ---- Compiling
 def copied(folder):
-    """The copy of the crate run with the call, and the program. They stand apart, because a folder may hold only files that its crate names."""
+    """The copy of the crate run with the export, and the program. They stand apart, because a folder may hold only files that its crate names."""
     shutil.copytree(f"{ROOT}/crates/run/src", f"{folder}/run")
-    shutil.copy(f"{ROOT}/tools/replay/parse.rt", f"{folder}/run")
+    shutil.copy(f"{ROOT}/tools/replay/exported.rt", f"{folder}/run")
     with open(f"{folder}/run/lib.rt", "a") as lib:
-        lib.write("mod parse;\n\npub use parse::Answer;\npub use parse::ROWS_SIZE;\npub use parse::read_in;\n")
-    shutil.copytree(f"{ROOT}/tools/replay", f"{folder}/replay", ignore=shutil.ignore_patterns("parse.rt"))
+        lib.write("mod exported;\n")
+    shutil.copytree(f"{ROOT}/tools/replay", f"{folder}/replay", ignore=shutil.ignore_patterns("exported.rt"))
 
 
 def dependencies():

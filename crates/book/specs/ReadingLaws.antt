@@ -14,7 +14,7 @@ use Rattle.characters.specs.Cases.{by-test}
 use Rattle.characters.specs.Spelling.{same}
 use Rattle.book.specs.Book.{Entry, markNumber, associativityNumber, entryNumber, nonterminalNumber, variantNumber, stepNumbered, reservedAs, isReserved, lookupFrom, lookupName}
 use Rattle.book.specs.Check.{markOf, associativityOf, stepOf}
-use Rattle.book.specs.Index.{upTo, countIn, placeIn, firstIn, entryFrom, entriesIn, bookIn}
+use Rattle.book.specs.Index.{upTo, countIn, placeIn, firstIn, entryFrom, nonterminalFrom, entriesIn, bookIn}
 use Rattle.book.specs.RowLaws.{upTo-more}
 use Rattle.book.specs.declared.names.Found.{Found}
 use Rattle.book.specs.declared.records.Mark.{Mark}
@@ -124,6 +124,10 @@ module _ (wanted : List ℕ) (words : List Entry) (i : ℕ) where
 pub words-length : (book index : List ℕ) → length (bookIn book index .words) ≡ countIn index 0
 unfolding bookIn
 words-length book index = upTo-length (λ i. entryFrom book (placeIn index 0 i)) (countIn index 0)
+
+pub nonterminals-length : (book index : List ℕ) → length (bookIn book index .nonterminals) ≡ countIn index 258
+unfolding bookIn
+nonterminals-length book index = upTo-length (λ i. nonterminalFrom book (placeIn index 258 i) (firstIn index 258 i)) (countIn index 258)
 
 -- ---- Names
 lookup-snoc : (found : Found) (i : ℕ) (names : List Entry) (n : Entry) (wanted : List ℕ) →

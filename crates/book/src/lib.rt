@@ -27,6 +27,7 @@ pub use names::name_kind;
 pub use names::word;
 pub use names::word_label;
 pub use reading::nonterminal;
+pub use reading::nonterminals;
 pub use reading::step;
 pub use reading::step_number;
 pub use reading::variant;

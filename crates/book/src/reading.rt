@@ -1,7 +1,8 @@
 // Reading an accepted book by its index. A number that the book doesn't have gets a fixed answer.
 ghost use mathlib.Core.Path.{_≡_};
-ghost use Prim.Native.Nat.{_+_, _≤_};
-ghost use lib.ListN.{getD};
+ghost use mathlib.Core.List.{List};
+ghost use Prim.Native.Nat.{ℕ, _+_, _≤_};
+ghost use lib.ListN.{getD, length};
 ghost use Rattle.book.specs.Book.{nonterminalNumber, variantNumber, stepNumbered, stepNumber};
 ghost use Rattle.book.specs.Check.{markOf, associativityOf, stepOf};
 ghost use Rattle.book.specs.Index.{bookIn};
@@ -117,6 +118,13 @@ pub fn number_after(book: &[u8], at: usize, k: usize) -> usize
     ensures { λ r. ⌜ r ≡ getD (now (book .entry)) (at + k) 0 ⌝ }
 {
     byte_after(book, at, k) as usize
+}
+
+// How many nonterminals there are, whatever the bytes are.
+pub fn nonterminals(index: &[usize]) -> usize
+    ensures { λ r. ⌜ ((book : List ℕ) → r ≡ length (bookIn book (now (index .entry)) .nonterminals)) ⌝ }
+{
+    count(index, NONTERMINALS)
 }
 
 pub fn nonterminal(book: &[u8], index: &[usize], i: usize) -> Nonterminal
