@@ -7,6 +7,7 @@ pub mod ChildLaws
 pub mod PathLaws
 pub mod Reading
 pub mod ListLaws
+pub mod Fitting
 pub mod ErrorLaws
 pub mod RefusalLaws
 pub mod ReadingLaws

@@ -39,7 +39,8 @@ use Rattle.run.specs.declared.parse.Answer as parse
 use Rattle.run.specs.declared.parse.Values.{Values}
 use Rattle.run.specs.Reading.{answerIn, answered, short, noRoom, noAllowance, within, withValues, endAnswer, seenOf, FailureFits, RunsText, Reads, answerWith}
 use Rattle.run.specs.ListLaws.{by-values-is}
-use Rattle.run.specs.ErrorLaws.{StepArguments, FailFits, no-error, an-error, Fine, On, result, run-fine}
+use Rattle.run.specs.Fitting.{StepArguments, FailFits, no-error, an-error, Fine, On, result}
+use Rattle.run.specs.ErrorLaws.{run-fine}
 
 -- the three parts of what is answered
 module _ {a : parse.Answer} {b : Answer} {cells cells′ parses parses′ : List ℕ} where

@@ -15,7 +15,7 @@
 //
 // The crate relies on the promises of progress, calls, cells, characters and book, and on the theorems of rules and rows, and assumes nothing. specs/ has what
 // the functions equal (Cycle, Reading) and laws: of the cycle (ResultLaws, CallLaws, VariantLaws, ChildLaws, PathLaws), of the lists (ListLaws), of the call (ReadingLaws), and that the numbers of an error
-// and of a refusal fit into 32 bits (ErrorLaws, RefusalLaws).
+// and of a refusal fit into 32 bits (Fitting, ErrorLaws, RefusalLaws).
 mod left_recursion;
 mod parse;
 mod parser;
