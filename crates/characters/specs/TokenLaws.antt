@@ -17,8 +17,8 @@ use Rattle.characters.specs.Spelling.{partOf}
 use Rattle.characters.specs.Tokens.{identifierAt, decimal, largest, numberOf, numberAt}
 use Rattle.characters.specs.declared.classes.Class.the-variants.{Letter}
 use Rattle.characters.specs.declared.skipping.Span.the-variants.{Word, Digits}
-use Rattle.characters.specs.declared.tokens.Identifier.{Identifier}
-use Rattle.characters.specs.declared.tokens.Number.{Number}
+use Rattle.characters.specs.declared.lexemes.Identifier.{Identifier}
+use Rattle.characters.specs.declared.lexemes.Number.{Number}
 
 -- ---- Identifiers
 module _ (text : List ℕ) (place : ℕ) where

@@ -9,8 +9,8 @@ use Rattle.characters.specs.Skipping.{spanEnd, skipFrom}
 use Rattle.characters.specs.Spelling.{partOf}
 use Rattle.characters.specs.declared.classes.Class.the-variants.{Letter}
 use Rattle.characters.specs.declared.skipping.Span.the-variants.{Word, Digits}
-use Rattle.characters.specs.declared.tokens.Identifier.{Identifier}
-use Rattle.characters.specs.declared.tokens.Number.{Number}
+use Rattle.characters.specs.declared.lexemes.Identifier.{Identifier}
+use Rattle.characters.specs.declared.lexemes.Number.{Number}
 
 -- "Every token skips first; what follows it is unskipped": a token that is wanted at a place is read where skipping leads, and its
 -- end is its own

@@ -5,20 +5,20 @@
 //
 // specs/ has the definitions (Classes, Skipping, Tokens, Spelling) and, in files of their own, the laws that the layers above cite.
 mod classes;
+mod lexemes;
 mod skipping;
 mod spelling;
 mod table;
-mod tokens;
 
 pub use classes::Class;
 pub use classes::byte_at;
 pub use classes::class_of;
 pub use classes::is_of;
+pub use lexemes::Identifier;
+pub use lexemes::Number;
+pub use lexemes::identifier_at;
+pub use lexemes::number_at;
 pub use skipping::skip;
 pub use spelling::part;
 pub use spelling::same_bytes;
 pub use spelling::same_spelling;
-pub use tokens::Identifier;
-pub use tokens::Number;
-pub use tokens::identifier_at;
-pub use tokens::number_at;

@@ -13,8 +13,8 @@ use Rattle.characters.specs.Skipping.{skipFrom}
 use Rattle.characters.specs.SkippingLaws.{skip-within, skip-out}
 use Rattle.characters.specs.Tokens.{identifierAt, numberAt}
 use Rattle.characters.specs.TokenLaws.{identifier-bounds, number-bounds}
-use Rattle.characters.specs.declared.tokens.Identifier.{Identifier}
-use Rattle.characters.specs.declared.tokens.Number.{Number}
+use Rattle.characters.specs.declared.lexemes.Identifier.{Identifier}
+use Rattle.characters.specs.declared.lexemes.Number.{Number}
 use Rattle.characters.specs.Spelling.{same}
 use Rattle.book.specs.Book.{Book, Entry, entryNumber, lookupFrom, lookupName, stepNumbered}
 use Rattle.book.specs.declared.names.Found.{Found}

@@ -6,7 +6,7 @@ use Prim.Native.Nat.{ℕ}
 use lib.Dec.{leb, ltb, eqb}
 use lib.ListN.{length}
 use Rattle.characters.specs.Tokens.{numberAt}
-use Rattle.characters.specs.declared.tokens.Number.{Number}
+use Rattle.characters.specs.declared.lexemes.Number.{Number}
 use Rattle.book.specs.Book.{Book}
 use Rattle.book.specs.declared.records.Step.{Step}
 use Rattle.rules.specs.Tokens.{identifierEnd, reservedAt, variableAt, isSome, when}

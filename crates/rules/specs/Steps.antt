@@ -8,7 +8,7 @@ use lib.ListN.{take, drop}
 use Rattle.characters.specs.Skipping.{skipFrom}
 use Rattle.characters.specs.Spelling.{same}
 use Rattle.characters.specs.Tokens.{numberAt}
-use Rattle.characters.specs.declared.tokens.Number.{Number}
+use Rattle.characters.specs.declared.lexemes.Number.{Number}
 use Rattle.book.specs.Book.{Book, entryNumber}
 use Rattle.book.specs.declared.records.Step.{Step}
 use Rattle.book.specs.declared.records.Variant.{Variant}

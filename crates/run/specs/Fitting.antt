@@ -12,7 +12,7 @@ use Rattle.characters.specs.Skipping.{skipFrom}
 use Rattle.characters.specs.Spelling.{same}
 use Rattle.characters.specs.Tokens.{numberAt}
 use Rattle.characters.specs.TokenLaws.{number-bounds}
-use Rattle.characters.specs.declared.tokens.Number.{Number}
+use Rattle.characters.specs.declared.lexemes.Number.{Number}
 use Rattle.book.specs.Book.{Book, entryNumber, variantNumber, stepNumbered}
 use Rattle.book.specs.declared.records.Step.{Step}
 use Rattle.rules.specs.Values.{Parse}

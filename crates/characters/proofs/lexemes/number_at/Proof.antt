@@ -5,8 +5,8 @@ use borrow.Author.Needs.{needs}
 use Rattle.characters.specs.SkippingLaws.{span-forward}
 use Rattle.characters.specs.TokenLaws.{number-none, number-some}
 use Rattle.characters.specs.declared.skipping.Span.the-variants.{Digits}
-use Rattle.characters.proofs.tokens.number_at.Statement.{statement}
-use Rattle.characters.proofs.tokens.number_at.Tie as tie
+use Rattle.characters.proofs.lexemes.number_at.Statement.{statement}
+use Rattle.characters.proofs.lexemes.number_at.Tie as tie
 
 span-end-requires : tie.Need-span-end-requires
 span-end-requires c κs = search needs

@@ -6,8 +6,8 @@ use lib.ListN.{length, getD, drop}
 use borrow.Author.Needs.{needs}
 use Rattle.characters.specs.TokenLaws.{decimal-large, decimal-on, decimal-end, number-fits, number-large}
 use Rattle.characters.specs.Tokens.{decimal, largest}
-use Rattle.characters.proofs.tokens.number_of.Statement.{statement}
-use Rattle.characters.proofs.tokens.number_of.Tie as tie
+use Rattle.characters.proofs.lexemes.number_of.Statement.{statement}
+use Rattle.characters.proofs.lexemes.number_of.Tie as tie
 
 abbrev Inv-loop : tie.InvT-loop
 Inv-loop digits end value₀ i₀ value i = (value ≤ largest) × (decimal value (drop i digits) ≡ decimal 0 digits)

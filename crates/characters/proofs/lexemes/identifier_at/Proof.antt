@@ -2,9 +2,9 @@
 use mathlib.Core.Path.{sym, ap, _∙_}
 use borrow.Author.Needs.{needs}
 use Rattle.characters.specs.TokenLaws.{identifier-letter, identifier-none, identifier-out}
-use Rattle.characters.specs.declared.tokens.Identifier.{Identifier}
-use Rattle.characters.proofs.tokens.identifier_at.Statement.{statement}
-use Rattle.characters.proofs.tokens.identifier_at.Tie as tie
+use Rattle.characters.specs.declared.lexemes.Identifier.{Identifier}
+use Rattle.characters.proofs.lexemes.identifier_at.Statement.{statement}
+use Rattle.characters.proofs.lexemes.identifier_at.Tie as tie
 
 byte-at-requires : tie.Need-byte-at-requires
 byte-at-requires c κs = search needs
