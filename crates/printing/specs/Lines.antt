@@ -6,15 +6,11 @@ use Prim.Native.Nat.{ℕ}
 use lib.Dec.{leb}
 use lib.ListN.{length, drop}
 use Rattle.characters.specs.Spelling.{partOf}
-use Rattle.rules.specs.Answer as rules
+use Rattle.run.specs.Reading.{answerIn}
 use Rattle.printing.specs.Printing.{lineBytes}
 use Rattle.printing.specs.Cells.{namesIn}
-use Rattle.printing.specs.declared.line.Answer.{Answer}
+use Rattle.run.specs.declared.parse.Answer.{Answer}
 use Rattle.printing.specs.declared.line.Length.{Length}
-
--- the answer of the definitions that the code's numbers are
-abbrev pub answerIn : Answer → rules.Answer
-answerIn a = rules.answer (a .refusal) (a .place) (a .kind) (a .argument) (a .work) (a .parses) (a .value)
 
 -- the line, by the code's parameters
 abbrev pub lineIn : List ℕ → List ℕ → List ℕ → List ℕ → Answer → List ℕ

@@ -5,29 +5,20 @@ ghost use mathlib.Core.List.{_++_};
 ghost use lib.ListN.{length, take};
 ghost use Rattle.printing.specs.Printing.{decimal, lineOf, columnOf, hasLine, refusedLine};
 ghost use Rattle.printing.specs.Laying.{Room, Lays};
-ghost use Rattle.printing.specs.Lines.{answerIn, lineIn, lengthWithin, Prints, Window};
+ghost use Rattle.run.specs.Reading.{answerIn};
+ghost use Rattle.printing.specs.Lines.{lineIn, lengthWithin, Prints, Window};
 use crate::laying::byte;
 use crate::laying::bytes;
 use crate::laying::number;
 use crate::place;
 use crate::value::item;
+use run::Answer;
 
 const CELL_NUMBERS: usize = 12288;
 
 const BAD_BYTE: u32 = 11;
 
 const NO_PARSE: u32 = 30;
-
-// The numbers of an answer, in document 01's order.
-pub struct Answer {
-    pub refusal: u32,
-    pub place: u32,
-    pub kind: u32,
-    pub argument: u32,
-    pub work: u32,
-    pub parses: u32,
-    pub value: u32,
-}
 
 // How many bytes the line has, or that there are more than asked for.
 pub enum Length {
