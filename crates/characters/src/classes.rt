@@ -1,8 +1,9 @@
-// The class of each byte, read from one table. A class is known outside this file through `class_of` and `is_of` alone, so that
+// The class of each byte, by one table. A class is known outside this file through `class_of` and `is_of` alone, so that
 // the table may be stored in another way.
 ghost use mathlib.Core.Path.{_≡_};
 ghost use lib.ListN.{getD};
-ghost use Rattle.characters.specs.Classes.{classOf, classNumber, isOf};
+ghost use Rattle.characters.specs.Classes.{between, classOf, classNumber, isOf};
+ghost use Rattle.characters.specs.declared.classes.Class.{Class};
 use crate::table::CLASSES;
 
 pub enum Class {
@@ -45,10 +46,44 @@ fn number_of(class: Class) -> u8
     }
 }
 
+// Whether a byte is one from `low` to `high`.
+fn between(low: u8, high: u8, byte: u8) -> bool
+    ensures { λ r. ⌜ r ≡ between low high byte ⌝ }
+{
+    if low <= byte { byte <= high } else { false }
+}
+
+fn is_whitespace(byte: u8) -> bool
+    ensures { λ r. ⌜ r ≡ isOf Class.Whitespace byte ⌝ }
+{
+    if byte == 32 {
+        return true;
+    }
+    between(9, 13, byte)
+}
+
+fn is_letter(byte: u8) -> bool
+    ensures { λ r. ⌜ r ≡ isOf Class.Letter byte ⌝ }
+{
+    if byte == 95 {
+        return true;
+    }
+    if between(97, 122, byte) {
+        return true;
+    }
+    between(65, 90, byte)
+}
+
+// The classes that are asked for at each byte of a text are told by their ranges: compiled code lays the table out anew at each reading.
 pub fn is_of(byte: u8, class: Class) -> bool
     ensures { λ r. ⌜ r ≡ isOf class byte ⌝ }
 {
-    class_number(byte) == number_of(class)
+    match class {
+        Class::Whitespace => is_whitespace(byte),
+        Class::Digit => between(48, 57, byte),
+        Class::Letter => is_letter(byte),
+        _ => class_number(byte) == number_of(class),
+    }
 }
 
 // The byte at a place, and 0 where the text has none: 0 is of class other, so nothing begins there.

@@ -48,8 +48,14 @@ pub fn at_limit(limit: u32, state: State) -> Outcome
 pub fn done(failure: Failure, state: State) -> Outcome
     ensures { λ r. ⌜ r ≡ doneWith failure state ⌝ }
 {
-    let Failure::At(error) = failure else {
+    let Failure::At(found) = failure else {
         return at_limit(0, state);
+    };
+    // Number by number: a copy of the whole is read in larger parts than it was written in, and waits for them.
+    let error = Error {
+        place: found.place,
+        kind: found.kind,
+        argument: found.argument,
     };
     Outcome {
         limit: 0,

@@ -278,7 +278,15 @@ pub fn steps(
         (runnerRows (bookIn (now (book .entry)) (now (index .entry))) (now (text .entry)) left) left (from .call) (from .variant)
         (todoAt (bookIn (now (book .entry)) (now (index .entry))) from) first (from .at) (from .items) (given begun cells (table (now (rows .entry))))) ⌝ }
 {
-    let mut here = from;
+    // Number by number: a copy of the whole is read in larger parts than it was written in, and waits for them.
+    let mut here = Progress {
+        call: from.call,
+        variant: from.variant,
+        step: from.step,
+        left: from.left,
+        at: from.at,
+        items: from.items,
+    };
     let mut doing = first;
     let mut o = begun;
     while goes_on(o) {
