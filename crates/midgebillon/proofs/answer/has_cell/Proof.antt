@@ -1,0 +1,20 @@
+-- `midgebillon::has_cell` meets its contract.
+use mathlib.Core.Path.{sym, _∙_}
+use borrow.Author.Needs.{needs}
+use Rattle.midgebillon.proofs.answer.has_cell.Statement.{statement}
+use Rattle.midgebillon.proofs.answer.has_cell.Tie as tie
+
+is-between-requires : tie.Need-is-between-requires
+is-between-requires c κs = search needs
+
+mul-result : tie.Need-mul-result
+mul-result c = search needs
+
+returns : tie.Need-returns
+returns c = rw (sym (c .before .is-between .ensures) ∙ c .if1 .taken) (search needs)
+
+returns-2 : tie.Need-returns-2
+returns-2 c = rw (sym (c .before .is-between .ensures) ∙ c .if1 .left) (search needs)
+
+pub has-cell-spec : {M : Type 1} → statement M
+has-cell-spec = tie.close (tie.spec is-between-requires mul-result returns returns-2)

@@ -1,0 +1,73 @@
+-- `midgebillon::midgebillon_print` meets its contract.
+use native.Mathlib.Omega.{arith}
+use borrow.Author.Needs.{needs}
+use Rattle.midgebillon.specs.LibraryLaws.{few-numbers, no-answer, line-printed}
+use Rattle.midgebillon.proofs.midgebillon_print.Statement.{statement}
+use Rattle.midgebillon.proofs.midgebillon_print.Tie as tie
+
+returns : tie.Need-returns
+returns c =
+    let args = c .before .before .before .before .before .before .args in
+    few-numbers (args .book .now) (args .text .now) (args .cells .now) (args .answer .now) (args .out .now) (omega arith)
+
+answer-in-requires : tie.Need-answer-in-requires
+answer-in-requires c κs = search needs
+
+slice-aggregate-check-into : tie.Need-slice-aggregate-check-into
+slice-aggregate-check-into c = search needs
+
+check-into-requires : tie.Need-check-into-requires
+check-into-requires c κs = search needs
+
+is-answer-requires : tie.Need-is-answer-requires
+is-answer-requires c κs = search needs
+
+slice-aggregate-print : tie.Need-slice-aggregate-print
+slice-aggregate-print c = search needs
+
+print-requires : tie.Need-print-requires
+print-requires c κs = search needs
+
+length-of-requires : tie.Need-length-of-requires
+length-of-requires c κs = search needs
+
+same-length : tie.Need-same-length
+same-length c = search needs
+
+returns-2 : tie.Need-returns-2
+returns-2 c =
+    let args = c .before .before .before .before .before .before .before .before .before .before .before .before .before .before .before .before .before .before .args in
+    let if1 = c .before .before .before .before .before .before .before .before .before .before .before .before .if1 in
+    let answer-in = c .before .before .before .before .before .before .before .before .before .before .before .answer-in in
+    let check-into = c .before .before .before .before .before .before .before .before .before .check-into in
+    let is-answer = c .before .before .before .before .before .before .before .is-answer in
+    let if2 = c .before .before .before .before .before .before .if2 in
+    let print = c .before .before .before .print in
+    rw (c .length-of .ensures)
+    (line-printed (args .book .now) (args .text .now) (args .cells .now) (args .answer .now) (args .out .now) _ _ _ (answer-in .result) _ (omega (arith, if1 .left)) (answer-in .ensures)
+    (check-into .ensures) (omega arith) (is-answer .ensures) _ _ (if2 .taken) (print .ensures))
+
+returns-3 : tie.Need-returns-3
+returns-3 c =
+    let args = c .before .before .before .before .before .before .before .before .before .before .before .before .args in
+    let answer-in = c .before .before .before .before .before .answer-in in
+    let check-into = c .before .before .before .check-into in
+    let is-answer = c .before .is-answer in
+    no-answer (args .book .now) (args .text .now) (args .cells .now) (args .answer .now) (args .out .now) _ _ _ (answer-in .result) _ (omega arith) (answer-in .ensures)
+    (check-into .ensures) (omega arith) (is-answer .ensures) (c .if2 .left)
+
+pub midgebillon-print-spec : {M : Type 1} → statement M
+midgebillon-print-spec =
+    tie.close
+    (tie.spec
+    returns
+    answer-in-requires
+    slice-aggregate-check-into
+    check-into-requires
+    is-answer-requires
+    slice-aggregate-print
+    print-requires
+    length-of-requires
+    same-length
+    returns-2
+    returns-3)

@@ -1,0 +1,3 @@
+-- What the library promises, and the laws by which it does.
+pub mod Library
+pub mod LibraryLaws

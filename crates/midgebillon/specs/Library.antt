@@ -1,0 +1,78 @@
+-- What the two functions for other languages promise, in the terms of the call and of the line.
+use mathlib.Core.Path.{_≡_}
+use mathlib.Core.Bool.{Bool, true, false, cond, _&&_, _||_}
+use mathlib.Core.List.{List, [], _++_}
+use Prim.Native.Nat.{ℕ, _*_, _≤_, _<_}
+use lib.Dec.{leb, eqb}
+use lib.ListN.{length, getD, set, drop}
+use Rattle.characters.specs.Classes.{between}
+use Rattle.book.specs.Book.{Entry}
+use Rattle.book.specs.Check.{checkBook, Outcome}
+use Rattle.book.specs.Index.{verdict}
+use Rattle.book.specs.declared.checking.Verdict.{Verdict}
+use Rattle.rules.specs.Answer.{Answer, answer, answerOf}
+use Rattle.run.specs.Reading.{Reads}
+use Rattle.run.specs.declared.parse.Answer as code
+use Rattle.printing.specs.Printing.{lineBytes}
+use Rattle.printing.specs.declared.line.Length.{Length}
+
+-- ---- The seven numbers
+-- the answer that the first seven numbers of a list are
+abbrev pub answerAt : List ℕ → Answer
+answerAt l = answer (getD l 0 0) (getD l 1 0) (getD l 2 0) (getD l 3 0) (getD l 4 0) (getD l 5 0) (getD l 6 0)
+
+-- the list with an answer's numbers at its front
+abbrev pub storing : code.Answer → List ℕ → List ℕ
+storing a l = set (set (set (set (set (set (set l 0 (a .refusal)) 1 (a .place)) 2 (a .kind)) 3 (a .argument)) 4 (a .work)) 5 (a .parses)) 6 (a .value)
+
+-- ---- Reading
+-- Fewer than seven places: nothing at all is touched. Else the first seven numbers with both lists are what the call promises, and the numbers behind stay
+pub record ReadInto (bytes text : List ℕ) (start allowance : ℕ) (cells cells′ parses parses′ numbers numbers′ : List ℕ) : Type 0 where
+  pub few : length numbers < 7 → (cells′ ≡ cells) × (parses′ ≡ parses) × (numbers′ ≡ numbers)
+  pub reads : 7 ≤ length numbers →
+      Reads bytes text start (answerOf cells parses bytes text start allowance) (record { answer = answerAt numbers′; cells = cells′; parses = parses′ })
+  pub behind : drop 7 numbers′ ≡ drop 7 numbers
+
+-- ---- Numbers that are an answer
+-- a refusal of the table of "The answer"
+abbrev pub isRefusal : ℕ → Bool
+isRefusal n = between 1 11 n || (between 20 23 n || between 30 32 n)
+
+-- "from cell 1", and "a 4,097th cell" is refused: a cell that a run can make and the list holds
+abbrev pub hasCell : List ℕ → ℕ → Bool
+hasCell cells n = between 1 4096 n && leb (3 * n) (length cells)
+
+abbrev pub isAccepted : Verdict → Bool
+isAccepted Verdict.Accepted = true
+isAccepted (Verdict.Refused number place) = false
+
+-- A value's book is accepted, and its cell is there; a refusal is one of the table. More is not asked: whether the numbers are the answer to this book and
+-- this text only another call can tell, and the line is defined for any others
+abbrev pub isAnswer : Verdict → List ℕ → Answer → Bool
+isAnswer v cells a = cond (eqb (a .refusal) 0) (isAccepted v && hasCell cells (a .value)) (isRefusal (a .refusal))
+
+-- ---- Printing
+-- the names that spell variables: those of an accepted book. The line of a refusal has none
+abbrev pub namesOf : Outcome → List Entry
+namesOf (Outcome.book b) = b .names
+namesOf (Outcome.refusal number place) = []
+
+-- the line, or nothing where the numbers are no answer. No line is empty (`some-line` of LibraryLaws)
+abbrev pub lineFor : List ℕ → List ℕ → List ℕ → List ℕ → List ℕ
+lineFor bytes text cells numbers =
+    cond (leb 7 (length numbers) && isAnswer (verdict (checkBook bytes)) cells (answerAt numbers))
+    (lineBytes (namesOf (checkBook bytes)) text cells (answerAt numbers)) []
+
+-- a line, or nothing where a list has no room for all of it
+abbrev pub fitting : List ℕ → List ℕ → List ℕ
+fitting line out = cond (leb (length line) (length out)) line []
+
+-- what fits, in front of what the list held
+pub record PrintsInto (line out out′ : List ℕ) (size : ℕ) : Type 0 where
+  pub size-is : size ≡ length (fitting line out)
+  pub out-is : out′ ≡ fitting line out ++ drop size out
+
+-- how long a line is that fits
+abbrev pub lengthOf : Length → ℕ
+lengthOf (Length.Bytes size) = size
+lengthOf Length.Longer = 0

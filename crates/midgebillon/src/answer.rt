@@ -1,0 +1,102 @@
+// The seven numbers of an answer in a lent list, and whether numbers are an answer.
+ghost use mathlib.Core.Path.{_≡_};
+ghost use Prim.Native.Nat.{_≤_};
+ghost use lib.ListN.{length};
+ghost use Rattle.characters.specs.Classes.{between};
+ghost use Rattle.run.specs.Reading.{answerIn};
+ghost use Rattle.midgebillon.specs.Library.{answerAt, storing, hasCell, isRefusal, isAnswer, lengthOf};
+use book::Verdict;
+use printing::Length;
+use run::Answer;
+
+pub const NUMBERS: usize = 7;
+
+const MOST_CELLS: u32 = 4096;
+
+// The numbers of an answer, at the front of a lent list.
+pub fn put_answer(numbers: &mut [u32], a: Answer)
+    requires { ⌜ 7 ≤ length (now numbers) ⌝ }
+    ensures { λ _. ⌜ now (numbers .exit) ≡ storing a (now (numbers .entry)) ⌝ }
+{
+    numbers[0] = a.refusal;
+    numbers[1] = a.place;
+    numbers[2] = a.kind;
+    numbers[3] = a.argument;
+    numbers[4] = a.work;
+    numbers[5] = a.parses;
+    numbers[6] = a.value;
+}
+
+// The answer that stands at the front of a list.
+pub fn answer_in(numbers: &[u32]) -> Answer
+    requires { ⌜ 7 ≤ length (now numbers) ⌝ }
+    ensures { λ r. ⌜ answerIn r ≡ answerAt (now (numbers .entry)) ⌝ }
+{
+    Answer {
+        refusal: numbers[0],
+        place: numbers[1],
+        kind: numbers[2],
+        argument: numbers[3],
+        work: numbers[4],
+        parses: numbers[5],
+        value: numbers[6],
+    }
+}
+
+fn is_between(low: u32, high: u32, n: u32) -> bool
+    ensures { λ r. ⌜ r ≡ between low high n ⌝ }
+{
+    if n < low {
+        return false;
+    }
+    n <= high
+}
+
+// Whether the list has all three numbers of a cell that a run can make.
+fn has_cell(cells: &[u32], n: u32) -> bool
+    ensures { λ r. ⌜ r ≡ hasCell (now (cells .entry)) n ⌝ }
+{
+    if is_between(1, MOST_CELLS, n) {
+        return 3 * n as usize <= cells.len();
+    }
+    false
+}
+
+// The numbers of document 01's table.
+fn is_refusal(n: u32) -> bool
+    ensures { λ r. ⌜ r ≡ isRefusal n ⌝ }
+{
+    if is_between(1, 11, n) {
+        return true;
+    }
+    if is_between(20, 23, n) {
+        return true;
+    }
+    is_between(30, 32, n)
+}
+
+// A value is one of an accepted book and has its cell; a refusal is one of document 01.
+pub fn is_answer(verdict: Verdict, cells: &[u32], a: Answer) -> bool
+    ensures { λ r. ⌜ r ≡ isAnswer verdict (now (cells .entry)) (answerIn a) ⌝ }
+{
+    if a.refusal != 0 {
+        return is_refusal(a.refusal);
+    }
+    match verdict {
+        Verdict::Accepted => has_cell(cells, a.value),
+        Verdict::Refused {
+            number: _,
+            place: _,
+        } => false,
+    }
+}
+
+// The length of a line that fits, else 0: no line is empty.
+pub fn length_of(length: Length) -> usize
+    ensures { λ r. ⌜ r ≡ lengthOf length ⌝ }
+{
+    match length {
+        Length::Bytes(size) => size,
+        Length::Longer => 0,
+    }
+}

@@ -1,0 +1,32 @@
+//! read BOOK TEXT: reads the rule in the file TEXT by the book in the file BOOK, and prints the line of the answer.
+//! Exit status: 0 a value, 1 a refusal, 2 wrong usage, 3 a line that is too long to print.
+
+mod midgebillon;
+
+use midgebillon::{read, Answer, MOST_WORK};
+use std::io::{self, Write};
+use std::process::ExitCode;
+use std::{env, fs};
+
+const MOST_ROOM: usize = 1 << 24;
+
+fn main() -> io::Result<ExitCode> {
+    let words: Vec<_> = env::args_os().skip(1).collect();
+    let [book, text] = &words[..] else {
+        eprintln!("usage: read BOOK TEXT");
+        return Ok(ExitCode::from(2));
+    };
+    // a missing file counts as empty
+    let book = fs::read(book).unwrap_or_default();
+    let text = fs::read(text).unwrap_or_default();
+    let reading = read(&book, &text, 0, MOST_WORK);
+    let Some(line) = reading.line(MOST_ROOM) else {
+        eprintln!("the line is too long");
+        return Ok(ExitCode::from(3));
+    };
+    io::stdout().write_all(&line)?;
+    Ok(ExitCode::from(match reading.answer() {
+        Answer::Value { .. } => 0,
+        Answer::Refused { .. } => 1,
+    }))
+}

@@ -1,0 +1,237 @@
+//! The margin rule reader, for Rust: a safe wrapper of the static library.
+//!
+//! include/midgebillon.h tells what a caller owes. Here the types pay it: a slice's pointer is never null, a `&mut` overlaps nothing else, and the lists have
+//! the lengths of their types. What is left to whoever calls is a stack of 2 MiB, which every thread of Rust's has unless it was asked for less.
+
+const CELLS: usize = 12288;
+const PARSES: usize = 256;
+const NUMBERS: usize = 7;
+
+/// The greatest allowance: the units of work that a call may take.
+pub const MOST_WORK: u32 = 1_000_000;
+
+mod library {
+    // A slice is a pointer and a number of elements.
+    extern "C" {
+        pub fn midgebillon_read(
+            book: *const u8,
+            book_length: usize,
+            text: *const u8,
+            text_length: usize,
+            start: u32,
+            allowance: u32,
+            cells: *mut u32,
+            cells_length: usize,
+            parses: *mut u32,
+            parses_length: usize,
+            answer: *mut u32,
+            answer_length: usize,
+        );
+
+        pub fn midgebillon_print(
+            book: *const u8,
+            book_length: usize,
+            text: *const u8,
+            text_length: usize,
+            cells: *const u32,
+            cells_length: usize,
+            answer: *const u32,
+            answer_length: usize,
+            out: *mut u8,
+            out_length: usize,
+        ) -> usize;
+    }
+}
+
+/// What a call answers.
+#[derive(Clone, Copy, Debug, PartialEq, Eq)]
+pub enum Answer {
+    /// The text has one value: its cell's number, from 1.
+    Value { cell: u32, parses: u32, work: u32 },
+    /// The text has none. `number` is one of document 01's table; the others are 0 unless the table gives them.
+    Refused {
+        number: u32,
+        place: u32,
+        kind: u32,
+        argument: u32,
+        parses: u32,
+        work: u32,
+    },
+}
+
+/// A parse of the start, from the text's beginning.
+#[derive(Clone, Copy, Debug, PartialEq, Eq)]
+pub struct Parse {
+    pub rest: u32,
+    pub level: u32,
+    /// 0 Left, 1 Right, 2 None, 3 Both.
+    pub associativity: u32,
+    pub cell: u32,
+}
+
+/// A text read by a book: the answer, the parses and the cells. It can only be made by [`read`], so its numbers are an answer.
+pub struct Reading<'a> {
+    book: &'a [u8],
+    text: &'a [u8],
+    cells: Box<[u32; CELLS]>,
+    parses: Box<[u32; PARSES]>,
+    numbers: [u32; NUMBERS],
+}
+
+/// Reads `text` by `book` from the nonterminal `start`, with at most `allowance` units of work.
+pub fn read<'a>(book: &'a [u8], text: &'a [u8], start: u32, allowance: u32) -> Reading<'a> {
+    let mut reading = Reading {
+        book,
+        text,
+        cells: Box::new([0; CELLS]),
+        parses: Box::new([0; PARSES]),
+        numbers: [0; NUMBERS],
+    };
+    // SAFETY: each pointer and length are of one slice or array, and those that are written are `reading`'s own.
+    unsafe {
+        library::midgebillon_read(
+            book.as_ptr(),
+            book.len(),
+            text.as_ptr(),
+            text.len(),
+            start,
+            allowance,
+            reading.cells.as_mut_ptr(),
+            CELLS,
+            reading.parses.as_mut_ptr(),
+            PARSES,
+            reading.numbers.as_mut_ptr(),
+            NUMBERS,
+        );
+    }
+    reading
+}
+
+impl Reading<'_> {
+    pub fn answer(&self) -> Answer {
+        let [number, place, kind, argument, work, parses, cell] = self.numbers;
+        if number == 0 {
+            Answer::Value { cell, parses, work }
+        } else {
+            Answer::Refused {
+                number,
+                place,
+                kind,
+                argument,
+                parses,
+                work,
+            }
+        }
+    }
+
+    /// The parses, in the order in which they were found.
+    pub fn parses(&self) -> Vec<Parse> {
+        let [_, _, _, _, _, count, _] = self.numbers;
+        let listed = self.parses.chunks_exact(4).take(count as usize);
+        listed
+            .map(|p| Parse {
+                rest: p[0],
+                level: p[1],
+                associativity: p[2],
+                cell: p[3],
+            })
+            .collect()
+    }
+
+    /// The three numbers of a cell, if it is one of the 4,096 that there is room for; they are 0 where no cell was made.
+    pub fn cell(&self, n: u32) -> Option<[u32; 3]> {
+        let before = (n as usize).checked_sub(1)?;
+        let cell = self.cells.chunks_exact(3).nth(before)?;
+        Some([cell[0], cell[1], cell[2]])
+    }
+
+    /// The printed line with its line feed, if it has at most `most` bytes. The room grows from small on, since a value can be far longer than its text.
+    pub fn line(&self, most: usize) -> Option<Vec<u8>> {
+        let mut out = vec![0; most.min(256)];
+        loop {
+            let length = self.print(&mut out);
+            if length > 0 {
+                out.truncate(length);
+                return Some(out);
+            }
+            if out.len() == most {
+                return None;
+            }
+            out.resize(most.min(out.len().saturating_mul(2)), 0);
+        }
+    }
+
+    /// The line at the front of `out`, and its length; 0 if it doesn't fit.
+    fn print(&self, out: &mut [u8]) -> usize {
+        // SAFETY: each pointer and length are of one slice or array, and `out` is borrowed for writing.
+        let length = unsafe {
+            library::midgebillon_print(
+                self.book.as_ptr(),
+                self.book.len(),
+                self.text.as_ptr(),
+                self.text.len(),
+                self.cells.as_ptr(),
+                CELLS,
+                self.numbers.as_ptr(),
+                NUMBERS,
+                out.as_mut_ptr(),
+                out.len(),
+            )
+        };
+        debug_assert!(length <= out.len());
+        length
+    }
+}
+
+#[cfg(test)]
+mod tests {
+    use super::*;
+
+    const BOOK: &[u8] = include_bytes!("../rules.book");
+
+    #[test]
+    fn a_value() {
+        let reading = read(BOOK, b"1-2-3", 0, MOST_WORK);
+        assert!(matches!(reading.answer(), Answer::Value { parses: 3, .. }));
+        assert_eq!(reading.line(4096).unwrap(), b"value (1 (1 (0 1) (0 2)) (0 3))\n");
+        let whole: Vec<Parse> = reading.parses().into_iter().filter(|p| p.rest == 5).collect();
+        let [parse] = whole[..] else { panic!("{whole:?}") };
+        assert_eq!(reading.cell(parse.cell).unwrap()[..2], [3, 1]);
+    }
+
+    #[test]
+    fn a_refusal() {
+        let refused = |number, place, kind, argument, work| Answer::Refused {
+            number,
+            place,
+            kind,
+            argument,
+            parses: 0,
+            work,
+        };
+        assert_eq!(read(b"", b"", 0, MOST_WORK).answer(), refused(3, 0, 0, 0, 0));
+        assert_eq!(read(BOOK, b"1", 0, 0).answer(), refused(2, 0, 0, 0, 0));
+        let reading = read(BOOK, b"(1", 0, MOST_WORK);
+        assert!(matches!(reading.answer(), Answer::Refused { number: 30, place: 2, kind: 1, argument: 41, .. }));
+        assert_eq!(reading.line(4096).unwrap(), b"refused 30 place 2 kind 1 argument 41 line 1 column 3\n");
+    }
+
+    #[test]
+    fn the_room() {
+        let text = [b"1-".repeat(40), b"1".to_vec()].concat();
+        let reading = read(BOOK, &text, 0, MOST_WORK);
+        let line = reading.line(4096).unwrap();
+        assert!(line.len() > 256);
+        assert_eq!(reading.line(line.len()).unwrap(), line);
+        assert_eq!(reading.line(line.len() - 1), None);
+        assert_eq!(reading.line(0), None);
+    }
+
+    #[test]
+    fn no_cell() {
+        let reading = read(BOOK, b"1", 0, MOST_WORK);
+        assert_eq!(reading.cell(0), None);
+        assert_eq!(reading.cell(4096), Some([0, 0, 0]));
+        assert_eq!(reading.cell(4097), None);
+    }
+}

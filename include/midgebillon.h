@@ -1,0 +1,99 @@
+/* The margin rule reader, for C: reads a rule's text by a rule book, and prints the answer as a line. "Document 01" is the specification, "The margin rule reader".
+ *
+ * The library is proved: what each function says below holds for every book, text and list (crates/midgebillon/specs/Library.antt has it as definitions).
+ * `rt staticlib midgebillon` proves it and writes target/staticlib/libmidgebillon.a, for x86-64; it needs nothing but the C library's memory functions.
+ *
+ * What the caller owes:
+ * - a list is passed as a pointer and a number of elements. The pointer is never null, also where the number is 0, and is aligned as its type asks;
+ *   so many elements stand behind it and can be read, or written where the pointer is not to const;
+ * - a list that is written (cells, parses, answer of midgebillon_read; out of midgebillon_print) overlaps no other list of the same call;
+ * - stack: 2 MiB are enough for a call (midgebillon_read has half a megabyte of working memory there).
+ * No other value is wrong to pass: the functions refuse what they can't use, and never fail, call back, allocate or loop for ever.
+ *
+ * Neither function keeps anything between calls, so any number of threads can call them at once, each with its own lists. */
+#ifndef MIDGEBILLON_H
+#define MIDGEBILLON_H
+
+#include <stddef.h>
+#include <stdint.h>
+
+#ifdef __cplusplus
+extern "C" {
+#endif
+
+/* how many numbers the lists must have */
+enum {
+    MIDGEBILLON_CELLS = 12288, /* 4,096 cells of three numbers */
+    MIDGEBILLON_PARSES = 256,  /* 64 parses of four numbers */
+    MIDGEBILLON_ANSWER = 7
+};
+
+/* the greatest allowance: the units of work that a call may take */
+enum { MIDGEBILLON_ALLOWANCE = 1000000 };
+
+/* The seven numbers of an answer, by their places in the list. Place, kind and argument are 0 unless the refusal has them. */
+enum {
+    MIDGEBILLON_REFUSAL,  /* 0: the text has a value. Else why it has none, see below */
+    MIDGEBILLON_PLACE,    /* refusals 3 to 8: a place of the book; 10, 11 and 30: of the text. Counted in bytes, from 0 */
+    MIDGEBILLON_KIND,     /* refusal 30: the furthest error, 1 to 12, see below */
+    MIDGEBILLON_ARGUMENT, /* refusal 30: what that error says besides */
+    MIDGEBILLON_WORK,     /* the units of work that the run took; 0 in refusals 1 to 11, the allowance in 20 */
+    MIDGEBILLON_COUNT,    /* how many parses there are: on success, and in refusals 31 and 32 */
+    MIDGEBILLON_VALUE     /* the number of the value's cell, from 1; 0 in a refusal */
+};
+
+/* Refusals, in the order in which they are looked for. 1 to 11 leave both lists as they are.
+ *
+ *  1  cells has under 12,288 numbers, or parses under 256      10  the text has more than 4,096 bytes
+ *  2  the allowance is 0 or above 1,000,000                    11  a byte of the text is 128 or more
+ *  3  the book ends too early                                  20  the allowance is used up
+ *  4  a section's count is out of its limits or not its sum    21  calls are nested beyond 200
+ *  5  a spelling is not 1 to 15 bytes or no identifier         22  a set would have a 65th parse
+ *  6  another field of the book is out of range                23  a 4,097th cell would be made
+ *  7  a passing variant is not one step of kind 8              30  no parse: place, kind and argument say why
+ *  8  bytes are left over behind the book                      31  parses, and none reaches the end of the text
+ *  9  the book has no such start                               32  parses that reach the end have different values
+ *
+ * Kinds of errors in refusal 30, and their arguments:
+ *
+ *  1  a character was wanted (its code)       5  a variable was found           9  digits were wanted
+ *  2  a word was wanted (its number)          6  a reserved word was found     10  a number was too large
+ *  3  an identifier was wanted                7  a name was unknown            11  a nonterminal was wanted (its number)
+ *  4  the text ended before a token           8  another kind of variable      12  more was wanted (the nonterminal whose
+ *                                                was wanted (that kind)            variant it was) */
+
+/* Reads `text` by `book`, from the nonterminal number `start`, with at most `allowance` units of work.
+ *
+ * The first seven numbers of `answer` become the answer; those behind them stay. Where `answer_length` is under seven, nothing at all is touched.
+ *
+ * On success and in refusals 31 and 32 the lists hold the result: in `parses` four numbers for each parse, which are its rest (where it ends in the text),
+ * level, associativity (0 Left, 1 Right, 2 None, 3 Both) and value cell; in `cells` three numbers for each cell, cell n at 3n - 3, whose first says what it
+ * is: 1 empty chain; 2 chain, item; 3 variant, chain; 4 name's place in the text, length; 5 high half, low half of a number; 6 name's number in the book, kind;
+ * 7 absent; 8 list of a chain. A chain, an item and a value are numbers of cells. What is not used of the first 12,288 and 256 numbers is 0; in refusals
+ * 20 to 23 and 30 all of them are. Numbers beyond those are never touched. */
+void midgebillon_read(const uint8_t *book, size_t book_length,
+                      const uint8_t *text, size_t text_length,
+                      uint32_t start, uint32_t allowance,
+                      uint32_t *cells, size_t cells_length,
+                      uint32_t *parses, size_t parses_length,
+                      uint32_t *answer, size_t answer_length);
+
+/* Writes the line of an answer to the front of `out`, with the line feed that ends it and no zero byte behind, and gives its length: "value " and the value, as
+ * `value (1 (0 1) (0 2))`, or `refused N place P kind K argument A line L column C`. `book`, `text`, `cells` and `answer` are those of the call of midgebillon_read.
+ *
+ * 0, with `out` untouched, where the line has more than `out_length` bytes, or the numbers are no answer: fewer than seven; a refusal that is not in the table
+ * above; or a value (refusal 0) whose book is not accepted, or whose cell is 0, above 4,096 or not in `cells`. No line has length 0.
+ *
+ * A refusal's line has less than 128 bytes. A value's can be far longer than its text, since a cell is printed wherever it is used: try with more room
+ * up to a limit of your own. A call that finds too little room takes time in proportion to the room. */
+size_t midgebillon_print(const uint8_t *book, size_t book_length,
+                         const uint8_t *text, size_t text_length,
+                         const uint32_t *cells, size_t cells_length,
+                         const uint32_t *answer, size_t answer_length,
+                         uint8_t *out, size_t out_length);
+
+#ifdef __cplusplus
+}
+#endif
+
+#endif
