@@ -7,7 +7,8 @@
  * - a list is passed as a pointer and a number of elements. The pointer is never null, also where the number is 0, and is aligned as its type asks;
  *   so many elements stand behind it and can be read, or written where the pointer is not to const;
  * - a list that is written (cells, parses, answer of midgebillon_read; out of midgebillon_print) overlaps no other list of the same call;
- * - stack: 2 MiB are enough for a call (midgebillon_read has half a megabyte of working memory there).
+ * - stack: 4 MiB for a call. midgebillon_read has half a megabyte of working memory there, and up to 200 levels of nested calls with up to 16 kilobytes each,
+ *   for a book that is made so; a thread with less stack can crash, without a guard. The size is measured and counted from the compiled code, not proved.
  * No other value is wrong to pass: the functions refuse what they can't use, and never fail, call back, allocate or loop for ever.
  *
  * Neither function keeps anything between calls, so any number of threads can call them at once, each with its own lists. */

@@ -1,8 +1,6 @@
 //! read BOOK TEXT: reads the rule in the file TEXT by the book in the file BOOK, and prints the line of the answer.
 //! Exit status: 0 a value, 1 a refusal, 2 wrong usage, 3 a line that is too long to print.
 
-mod midgebillon;
-
 use midgebillon::{read, Answer, MOST_WORK};
 use std::io::{self, Write};
 use std::process::ExitCode;
@@ -19,8 +17,8 @@ fn main() -> io::Result<ExitCode> {
     // a missing file counts as empty
     let book = fs::read(book).unwrap_or_default();
     let text = fs::read(text).unwrap_or_default();
-    let reading = read(&book, &text, 0, MOST_WORK);
-    let Some(line) = reading.line(MOST_ROOM) else {
+    let reading = read(&book, &text, 0, MOST_WORK)?;
+    let Some(line) = reading.line(MOST_ROOM)? else {
         eprintln!("the line is too long");
         return Ok(ExitCode::from(3));
     };

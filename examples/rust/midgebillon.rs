@@ -1,11 +1,17 @@
 //! The margin rule reader, for Rust: a safe wrapper of the static library.
 //!
 //! include/midgebillon.h tells what a caller owes. Here the types pay it: a slice's pointer is never null, a `&mut` overlaps nothing else, and the lists have
-//! the lengths of their types. What is left to whoever calls is a stack of 2 MiB, which every thread of Rust's has unless it was asked for less.
+//! the lengths of their types. What types can't say is the stack that a call needs, more than a thread of Rust's has: so each call has a thread of its own.
+
+use std::panic::resume_unwind;
+use std::{io, thread};
 
 const CELLS: usize = 12288;
 const PARSES: usize = 256;
 const NUMBERS: usize = 7;
+
+// Twice what a call can need.
+const STACK: usize = 8 << 20;
 
 /// The greatest allowance: the units of work that a call may take.
 pub const MOST_WORK: u32 = 1_000_000;
@@ -78,8 +84,22 @@ pub struct Reading<'a> {
     numbers: [u32; NUMBERS],
 }
 
+/// Makes a call where there is enough stack for it. The error is that of a thread that can't be had.
+fn with_stack<T: Send>(call: impl FnOnce() -> T + Send) -> io::Result<T> {
+    thread::scope(|scope| {
+        let thread = thread::Builder::new().stack_size(STACK);
+        let running = thread.spawn_scoped(scope, call)?;
+        Ok(running.join().unwrap_or_else(|panic| resume_unwind(panic)))
+    })
+}
+
 /// Reads `text` by `book` from the nonterminal `start`, with at most `allowance` units of work.
-pub fn read<'a>(book: &'a [u8], text: &'a [u8], start: u32, allowance: u32) -> Reading<'a> {
+pub fn read<'a>(
+    book: &'a [u8],
+    text: &'a [u8],
+    start: u32,
+    allowance: u32,
+) -> io::Result<Reading<'a>> {
     let mut reading = Reading {
         book,
         text,
@@ -87,27 +107,31 @@ pub fn read<'a>(book: &'a [u8], text: &'a [u8], start: u32, allowance: u32) -> R
         parses: Box::new([0; PARSES]),
         numbers: [0; NUMBERS],
     };
-    // SAFETY: each pointer and length are of one slice or array, and those that are written are `reading`'s own.
-    unsafe {
-        library::midgebillon_read(
-            book.as_ptr(),
-            book.len(),
-            text.as_ptr(),
-            text.len(),
-            start,
-            allowance,
-            reading.cells.as_mut_ptr(),
-            CELLS,
-            reading.parses.as_mut_ptr(),
-            PARSES,
-            reading.numbers.as_mut_ptr(),
-            NUMBERS,
-        );
-    }
-    reading
+    with_stack(|| reading.fill(start, allowance))?;
+    Ok(reading)
 }
 
 impl Reading<'_> {
+    fn fill(&mut self, start: u32, allowance: u32) {
+        // SAFETY: each pointer and length are of one slice or array, those that are written are borrowed for it, and `with_stack` gives the stack.
+        unsafe {
+            library::midgebillon_read(
+                self.book.as_ptr(),
+                self.book.len(),
+                self.text.as_ptr(),
+                self.text.len(),
+                start,
+                allowance,
+                self.cells.as_mut_ptr(),
+                CELLS,
+                self.parses.as_mut_ptr(),
+                PARSES,
+                self.numbers.as_mut_ptr(),
+                NUMBERS,
+            );
+        }
+    }
+
     pub fn answer(&self) -> Answer {
         let [number, place, kind, argument, work, parses, cell] = self.numbers;
         if number == 0 {
@@ -145,8 +169,13 @@ impl Reading<'_> {
         Some([cell[0], cell[1], cell[2]])
     }
 
-    /// The printed line with its line feed, if it has at most `most` bytes. The room grows from small on, since a value can be far longer than its text.
-    pub fn line(&self, most: usize) -> Option<Vec<u8>> {
+    /// The printed line with its line feed, if it has at most `most` bytes.
+    pub fn line(&self, most: usize) -> io::Result<Option<Vec<u8>>> {
+        with_stack(|| self.line_within(most))
+    }
+
+    // The room grows from small on, since a value can be far longer than its text.
+    fn line_within(&self, most: usize) -> Option<Vec<u8>> {
         let mut out = vec![0; most.min(256)];
         loop {
             let length = self.print(&mut out);
@@ -161,9 +190,9 @@ impl Reading<'_> {
         }
     }
 
-    /// The line at the front of `out`, and its length; 0 if it doesn't fit.
+    // The line at the front of `out`, and its length; 0 if it doesn't fit.
     fn print(&self, out: &mut [u8]) -> usize {
-        // SAFETY: each pointer and length are of one slice or array, and `out` is borrowed for writing.
+        // SAFETY: each pointer and length are of one slice or array, `out` is borrowed for writing, and `with_stack` gives the stack.
         let length = unsafe {
             library::midgebillon_print(
                 self.book.as_ptr(),
@@ -189,47 +218,57 @@ mod tests {
 
     const BOOK: &[u8] = include_bytes!("../rules.book");
 
+    fn reading(text: &[u8]) -> Reading<'_> {
+        read(BOOK, text, 0, MOST_WORK).unwrap()
+    }
+
+    fn line(text: &[u8], most: usize) -> Option<Vec<u8>> {
+        reading(text).line(most).unwrap()
+    }
+
     #[test]
     fn a_value() {
-        let reading = read(BOOK, b"1-2-3", 0, MOST_WORK);
+        let reading = reading(b"1-2-3");
         assert!(matches!(reading.answer(), Answer::Value { parses: 3, .. }));
-        assert_eq!(reading.line(4096).unwrap(), b"value (1 (1 (0 1) (0 2)) (0 3))\n");
-        let whole: Vec<Parse> = reading.parses().into_iter().filter(|p| p.rest == 5).collect();
-        let [parse] = whole[..] else { panic!("{whole:?}") };
-        assert_eq!(reading.cell(parse.cell).unwrap()[..2], [3, 1]);
+        let parses = reading.parses();
+        let whole: Vec<_> = parses.iter().filter(|p| p.rest == 5).collect();
+        assert_eq!((parses.len(), whole.len()), (3, 1));
+        assert_eq!(reading.cell(whole[0].cell).unwrap()[..2], [3, 1]);
+        assert_eq!(
+            line(b"1-2-3", 4096).unwrap(),
+            b"value (1 (1 (0 1) (0 2)) (0 3))\n"
+        );
     }
 
     #[test]
     fn a_refusal() {
-        let refused = |number, place, kind, argument, work| Answer::Refused {
-            number,
-            place,
-            kind,
-            argument,
-            parses: 0,
-            work,
+        let Answer::Refused { number, place, .. } = reading(b"(1").answer() else {
+            panic!("a value")
         };
-        assert_eq!(read(b"", b"", 0, MOST_WORK).answer(), refused(3, 0, 0, 0, 0));
-        assert_eq!(read(BOOK, b"1", 0, 0).answer(), refused(2, 0, 0, 0, 0));
-        let reading = read(BOOK, b"(1", 0, MOST_WORK);
-        assert!(matches!(reading.answer(), Answer::Refused { number: 30, place: 2, kind: 1, argument: 41, .. }));
-        assert_eq!(reading.line(4096).unwrap(), b"refused 30 place 2 kind 1 argument 41 line 1 column 3\n");
+        assert_eq!((number, place), (30, 2));
+        assert_eq!(
+            line(b"(1", 4096).unwrap(),
+            b"refused 30 place 2 kind 1 argument 41 line 1 column 3\n"
+        );
+        let no_book = read(b"", b"", 0, MOST_WORK).unwrap().answer();
+        assert!(matches!(no_book, Answer::Refused { number: 3, .. }));
+        let no_allowance = read(BOOK, b"1", 0, 0).unwrap().answer();
+        assert!(matches!(no_allowance, Answer::Refused { number: 2, .. }));
     }
 
     #[test]
     fn the_room() {
         let text = [b"1-".repeat(40), b"1".to_vec()].concat();
-        let reading = read(BOOK, &text, 0, MOST_WORK);
-        let line = reading.line(4096).unwrap();
-        assert!(line.len() > 256);
-        assert_eq!(reading.line(line.len()).unwrap(), line);
-        assert_eq!(reading.line(line.len() - 1), None);
-        assert_eq!(reading.line(0), None);
+        let whole = line(&text, 4096).unwrap();
+        assert!(whole.len() > 256);
+        assert_eq!(line(&text, whole.len()).unwrap(), whole);
+        assert_eq!(line(&text, whole.len() - 1), None);
+        assert_eq!(line(&text, 0), None);
     }
 
     #[test]
     fn no_cell() {
-        let reading = read(BOOK, b"1", 0, MOST_WORK);
+        let reading = reading(b"1");
         assert_eq!(reading.cell(0), None);
         assert_eq!(reading.cell(4096), Some([0, 0, 0]));
         assert_eq!(reading.cell(4097), None);

@@ -1,6 +1,7 @@
 -- `midgebillon::has_cell` meets its contract.
-use mathlib.Core.Path.{sym, _∙_}
+use mathlib.Core.Path.{_≡_, sym, _∙_}
 use borrow.Author.Needs.{needs}
+use Rattle.characters.specs.Classes.{between}
 use Rattle.midgebillon.proofs.answer.has_cell.Statement.{statement}
 use Rattle.midgebillon.proofs.answer.has_cell.Tie as tie
 
@@ -11,10 +12,16 @@ mul-result : tie.Need-mul-result
 mul-result c = search needs
 
 returns : tie.Need-returns
-returns c = rw (sym (c .before .is-between .ensures) ∙ c .if1 .taken) (search needs)
+returns c =
+    let n = c .before .before .before .args .n in
+    let numbered : c .before .is-between .result ≡ between 1 4096 n = search needs in
+    rw (sym numbered ∙ c .if1 .taken) (search needs)
 
 returns-2 : tie.Need-returns-2
-returns-2 c = rw (sym (c .before .is-between .ensures) ∙ c .if1 .left) (search needs)
+returns-2 c =
+    let n = c .before .before .before .args .n in
+    let numbered : c .before .is-between .result ≡ between 1 4096 n = search needs in
+    rw (sym numbered ∙ c .if1 .left) (search needs)
 
 pub has-cell-spec : {M : Type 1} → statement M
 has-cell-spec = tie.close (tie.spec is-between-requires mul-result returns returns-2)

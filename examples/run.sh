@@ -1,0 +1,54 @@
+#!/usr/bin/env bash
+# Builds the examples in C and in Rust on the static library and runs both: on the example rule, and on what else document 01 says of the line.
+# The library is proved and written first, unless it is newer than the crates' files or LIBRARY names another archive.
+# The status is 0 if every line and exit status is as wanted.
+set -euo pipefail
+cd "$(dirname "$0")/.."
+
+library=${LIBRARY:-target/staticlib/libmidgebillon.a}
+built=target/examples
+failed=0
+
+# whether the library is older than a file of the crates
+outdated() {
+    [ ! -f "$library" ] || [ -n "$(find crates crates.txt -type f -newer "$library" -print -quit)" ]
+}
+
+rust() {
+    rustc --edition 2021 -O -D warnings "$@"
+}
+
+build() {
+    if [ -z "${LIBRARY:-}" ] && outdated; then rt staticlib midgebillon; fi
+    mkdir -p "$built"
+    gcc -std=c11 -O2 -Wall -Wextra -Werror -Iinclude -o "$built/read_c" examples/c/read.c "$library"
+    rust --crate-type rlib --crate-name midgebillon -o "$built/libmidgebillon.rlib" examples/rust/midgebillon.rs
+    rust --extern midgebillon="$built/libmidgebillon.rlib" -C link-arg="$library" -o "$built/read_rust" examples/rust/main.rs
+    rust --test -C link-arg="$library" -o "$built/test_rust" examples/rust/midgebillon.rs
+}
+
+# wanted STATUS LINE WORD...: what both programs give for these words
+wanted() {
+    local status=$1 line=$2 program got given
+    shift 2
+    for program in read_c read_rust; do
+        given=0
+        got=$("$built/$program" "$@" 2>/dev/null) || given=$?
+        if [ "$got" = "$line" ] && [ "$given" = "$status" ]; then
+            echo "$program: ${got:-status $given}"
+        else
+            echo "$program $*: status $given, '$got'; wanted $status, '$line'"
+            failed=1
+        fi
+    done
+}
+
+build
+wanted 0 'value (1 (0 1) (2 (0 2) (0 3)))' examples/rules.book examples/rule.txt
+printf '(1' >"$built/open.txt"
+wanted 1 'refused 30 place 2 kind 1 argument 41 line 1 column 3' examples/rules.book "$built/open.txt"
+wanted 1 'refused 30 place 0 kind 11 argument 0 line 1 column 1' examples/rules.book "$built/missing.txt"
+wanted 1 'refused 3 place 0 kind 0 argument 0 line 0 column 0' "$built/missing.book" examples/rule.txt
+wanted 2 '' examples/rules.book
+"$built/test_rust" --quiet || failed=1
+exit $failed
