@@ -27,17 +27,23 @@ build() {
     rust --test -C link-arg="$library" -o "$built/test_rust" examples/rust/midgebillon.rs
 }
 
-# wanted STATUS LINE WORD...: what both programs give for these words
+# repeated N WORD: the word N times
+repeated() {
+    local i
+    for ((i = 0; i < $1; i++)); do printf '%s' "$2"; done
+}
+
+# wanted STATUS LINE WORD...: what both programs give for these words; without a LINE they write nothing
 wanted() {
-    local status=$1 line=$2 program got given
+    local status=$1 line=${2:+$2$'\n'} program given
     shift 2
     for program in read_c read_rust; do
         given=0
-        got=$("$built/$program" "$@" 2>/dev/null) || given=$?
-        if [ "$got" = "$line" ] && [ "$given" = "$status" ]; then
-            echo "$program: ${got:-status $given}"
+        "$built/$program" "$@" >"$built/line" 2>/dev/null || given=$?
+        if [ "$given" = "$status" ] && printf '%s' "$line" | cmp -s - "$built/line"; then
+            printf '%s, status %s: %s\n' "$program" "$given" "${line%$'\n'}"
         else
-            echo "$program $*: status $given, '$got'; wanted $status, '$line'"
+            printf '%s %s: status %s, not %s, or not this line: %s\n' "$program" "$*" "$given" "$status" "$line"
             failed=1
         fi
     done
@@ -49,6 +55,9 @@ printf '(1' >"$built/open.txt"
 wanted 1 'refused 30 place 2 kind 1 argument 41 line 1 column 3' examples/rules.book "$built/open.txt"
 wanted 1 'refused 30 place 0 kind 11 argument 0 line 1 column 1' examples/rules.book "$built/missing.txt"
 wanted 1 'refused 3 place 0 kind 0 argument 0 line 0 column 0' "$built/missing.book" examples/rule.txt
+# longer than the room that either program begins with
+repeated 40 '1-' >"$built/chain.txt" && printf '1' >>"$built/chain.txt"
+wanted 0 "value $(repeated 40 '(1 ')(0 1)$(repeated 40 ' (0 1))')" examples/rules.book "$built/chain.txt"
 wanted 2 '' examples/rules.book
 "$built/test_rust" --quiet || failed=1
 exit $failed

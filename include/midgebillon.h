@@ -7,8 +7,8 @@
  * - a list is passed as a pointer and a number of elements. The pointer is never null, also where the number is 0, and is aligned as its type asks;
  *   so many elements stand behind it and can be read, or written where the pointer is not to const;
  * - a list that is written (cells, parses, answer of midgebillon_read; out of midgebillon_print) overlaps no other list of the same call;
- * - stack: 4 MiB for a call. midgebillon_read has half a megabyte of working memory there, and up to 200 levels of nested calls with up to 16 kilobytes each,
- *   for a book that is made so; a thread with less stack can crash, without a guard. The size is measured and counted from the compiled code, not proved.
+ * - stack: 4 MiB for a call. midgebillon_read has half a megabyte of working memory there, and a book can be made whose calls nest 200 levels deep with up to
+ *   16 kilobytes each; a thread with less stack can crash. This size is counted from the compiled code and measured, not proved.
  * No other value is wrong to pass: the functions refuse what they can't use, and never fail, call back, allocate or loop for ever.
  *
  * Neither function keeps anything between calls, so any number of threads can call them at once, each with its own lists. */
@@ -86,7 +86,8 @@ void midgebillon_read(const uint8_t *book, size_t book_length,
  * above; or a value (refusal 0) whose book is not accepted, or whose cell is 0, above 4,096 or not in `cells`. No line has length 0.
  *
  * A refusal's line has less than 128 bytes. A value's can be far longer than its text, since a cell is printed wherever it is used: try with more room
- * up to a limit of your own. A call that finds too little room takes time in proportion to the room. */
+ * up to a limit of your own. A call takes time in proportion to the room, the text and the cells, however
+ * long the line. */
 size_t midgebillon_print(const uint8_t *book, size_t book_length,
                          const uint8_t *text, size_t text_length,
                          const uint32_t *cells, size_t cells_length,
