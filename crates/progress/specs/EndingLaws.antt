@@ -27,7 +27,7 @@ use Rattle.progress.specs.declared.outcomes.Outcome as outcomes
 use Rattle.progress.specs.declared.outcomes.State.{State}
 use Rattle.progress.specs.declared.items.Made.{Made}
 use Rattle.progress.specs.declared.entering.Ended.{Ended}
-use Rattle.progress.specs.declared.steps.Reached.{Reached}
+use Rattle.progress.specs.declared.stages.Reached.{Reached}
 use Rattle.progress.specs.Outcomes.{cellsOf, given, Runs, MadeBy, limitOf, doneWith, failureAt}
 use Rattle.progress.specs.Steps.{resumes, doesRows}
 use Rattle.progress.specs.Entering.{goesAgain, EndedBy, FirstEnded, RoundEnded, Begins, Counted}

@@ -22,8 +22,8 @@ use Rattle.progress.specs.declared.outcomes.Outcome as code
 use Rattle.progress.specs.declared.outcomes.State.{State}
 use Rattle.progress.specs.declared.entering.Entered.{Entered}
 use Rattle.progress.specs.declared.entering.Ended.{Ended}
-use Rattle.progress.specs.declared.steps.Doing.{Doing}
-use Rattle.progress.specs.declared.steps.Reached.{Reached}
+use Rattle.progress.specs.declared.stages.Doing.{Doing}
+use Rattle.progress.specs.declared.stages.Reached.{Reached}
 use Rattle.progress.specs.Outcomes.{cellsOf, Held, given, failureAt}
 use Rattle.progress.specs.Steps.{resumes}
 

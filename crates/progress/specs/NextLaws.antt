@@ -22,11 +22,11 @@ use Rattle.tokens.specs.declared.steps.After.{After}
 use Rattle.progress.specs.declared.outcomes.State.{State}
 use Rattle.progress.specs.declared.outcomes.Outcome.{Outcome}
 use Rattle.progress.specs.declared.items.Made.{Made}
-use Rattle.progress.specs.declared.steps.Doing.{Doing}
-use Rattle.progress.specs.declared.steps.List as lists
-use Rattle.progress.specs.declared.steps.Next.{Next}
-use Rattle.progress.specs.declared.steps.Reached.{Reached}
-use Rattle.progress.specs.declared.steps.Stage.{Stage}
+use Rattle.progress.specs.declared.stages.Doing.{Doing}
+use Rattle.progress.specs.declared.stages.List as lists
+use Rattle.progress.specs.declared.stages.Next.{Next}
+use Rattle.progress.specs.declared.stages.Reached.{Reached}
+use Rattle.progress.specs.declared.stages.Stage.{Stage}
 use Rattle.progress.specs.Outcomes.{cellsOf, Spent, MadeBy, limitOf, doneWith, failureAt}
 use Rattle.progress.specs.OutcomeLaws.{given-ok, given-met, failure-done}
 use Rattle.progress.specs.Steps.{nextRows, choosesRows, doesRows, sideRows, Part, Stages, Reaches, Chosen, Joined}

@@ -22,9 +22,9 @@ use Rattle.tokens.specs.declared.errors.Failure.{Failure}
 use Rattle.progress.specs.declared.outcomes.State.{State}
 use Rattle.progress.specs.declared.outcomes.Outcome.{Outcome}
 use Rattle.progress.specs.declared.items.Made.{Made}
-use Rattle.progress.specs.declared.steps.Doing.{Doing}
-use Rattle.progress.specs.declared.steps.Reached.{Reached}
-use Rattle.progress.specs.declared.steps.Stage.{Stage}
+use Rattle.progress.specs.declared.stages.Doing.{Doing}
+use Rattle.progress.specs.declared.stages.Reached.{Reached}
+use Rattle.progress.specs.declared.stages.Stage.{Stage}
 use Rattle.progress.specs.Outcomes.{cellsOf, bare, limitOf, doneWith, given, MadeIn}
 use Rattle.progress.specs.OutcomeLaws.{given-ok, given-met, cell-ok, cell-met}
 use Rattle.progress.specs.Steps.{doesRows, resumes}

@@ -21,10 +21,10 @@ use Rattle.rows.specs.Model.{plainNextRows, listNextRows, stopsRows, enterChild
 use Rattle.tokens.specs.Maps.{failureOf, endOf}
 use Rattle.progress.specs.declared.outcomes.Outcome as code
 use Rattle.progress.specs.declared.outcomes.State.{State}
-use Rattle.progress.specs.declared.steps.Doing.{Doing}
-use Rattle.progress.specs.declared.steps.Next.{Next}
-use Rattle.progress.specs.declared.steps.Reached.{Reached}
-use Rattle.progress.specs.declared.steps.Stage.{Stage}
+use Rattle.progress.specs.declared.stages.Doing.{Doing}
+use Rattle.progress.specs.declared.stages.Next.{Next}
+use Rattle.progress.specs.declared.stages.Reached.{Reached}
+use Rattle.progress.specs.declared.stages.Stage.{Stage}
 use Rattle.progress.specs.Outcomes.{cellsOf, Held, given, failureAt}
 
 -- so many steps of a book from one on

@@ -36,9 +36,9 @@ use Rattle.tokens.specs.declared.tokens.End.{End}
 use Rattle.progress.specs.declared.outcomes.State.{State}
 use Rattle.progress.specs.declared.outcomes.Outcome.{Outcome}
 use Rattle.progress.specs.declared.items.Made.{Made}
-use Rattle.progress.specs.declared.steps.Doing.{Doing}
-use Rattle.progress.specs.declared.steps.Reached.{Reached}
-use Rattle.progress.specs.declared.steps.Stage.{Stage}
+use Rattle.progress.specs.declared.stages.Doing.{Doing}
+use Rattle.progress.specs.declared.stages.Reached.{Reached}
+use Rattle.progress.specs.declared.stages.Stage.{Stage}
 use Rattle.progress.specs.Fit.{Fit}
 use Rattle.progress.specs.Outcomes.{cellsOf, Held, bare, given, Runs, Spent, MadeIn, MadeBy, limitOf, doneWith, failureAt}
 use Rattle.progress.specs.OutcomeLaws.{given-ok, given-met}

@@ -6,11 +6,15 @@
 // have their 104,922 numbers, that row numbers are at most 200, and that the numbers of the book and the text fit into 32 bits (`Fit` of specs/Fit.antt).
 //
 // The crate relies on the promises of calls, cells, tokens, book and characters, and assumes nothing.
+mod choices;
 mod entering;
 mod items;
 mod outcomes;
+mod stages;
 mod steps;
 
+pub use choices::both;
+pub use choices::first_side;
 pub use entering::Ended;
 pub use entering::Entered;
 pub use entering::after_first;
@@ -25,15 +29,13 @@ pub use outcomes::at_limit;
 pub use outcomes::done;
 pub use outcomes::failure_of;
 pub use outcomes::goes_on;
-pub use steps::Doing;
-pub use steps::List;
-pub use steps::Next;
-pub use steps::Progress;
-pub use steps::Reached;
-pub use steps::Stage;
-pub use steps::both;
+pub use stages::Doing;
+pub use stages::List;
+pub use stages::Next;
+pub use stages::Progress;
+pub use stages::Reached;
+pub use stages::Stage;
 pub use steps::finish;
-pub use steps::first_side;
 pub use steps::joined;
 pub use steps::next_of;
 pub use steps::take_step;

@@ -12,10 +12,9 @@ ghost use Rattle.calls.specs.Table.{table};
 ghost use Rattle.tokens.specs.Maps.{endOf, itemOf};
 ghost use Rattle.progress.specs.Outcomes.{limitOf, Runs};
 ghost use Rattle.progress.specs.Fit.{Fit, ItemFits};
-ghost use Rattle.progress.specs.Steps.{Stages, Reaches, StepSpent, Chosen, Joined, nextRows, sideRows, unopenedRows, tokenRows};
-ghost use Rattle.progress.specs.declared.steps.Doing.{Doing};
-ghost use Rattle.progress.specs.declared.steps.Next.{Next};
-use crate::items::Made;
+ghost use Rattle.progress.specs.Steps.{Stages, Reaches, StepSpent, Joined, nextRows, unopenedRows, tokenRows};
+ghost use Rattle.progress.specs.declared.stages.Doing.{Doing};
+ghost use Rattle.progress.specs.declared.stages.Next.{Next};
 use crate::items::make;
 use crate::items::value;
 use crate::items::with_cell;
@@ -27,6 +26,15 @@ use crate::outcomes::at_limit;
 use crate::outcomes::done;
 use crate::outcomes::failure_of;
 use crate::outcomes::spend;
+use crate::stages::Doing;
+use crate::stages::List;
+use crate::stages::Next;
+use crate::stages::Progress;
+use crate::stages::Reached;
+use crate::stages::Stage;
+use crate::stages::ended;
+use crate::stages::reached_with;
+use crate::stages::then_steps;
 use book::Step;
 use book::Variant;
 use characters::skip;
@@ -36,90 +44,6 @@ use tokens::End;
 use tokens::Failure;
 use tokens::Item;
 use tokens::Taken;
-
-// How far a path through a variant is: the row of its call, the variant's number, its next step and how many are left, the place reached, and
-// the chain of the items so far (of a passing variant, its value).
-pub struct Progress {
-    pub call: usize,
-    pub variant: u32,
-    pub step: u32,
-    pub left: u32,
-    pub at: u32,
-    pub items: u32,
-}
-
-// A list that is being read: with commas or not, of a nonterminal, the chain of the elements already read, and the closing.
-pub struct List {
-    pub comma: bool,
-    pub nonterminal: u32,
-    pub values: u32,
-    pub closing: End,
-}
-
-// What a path does next: the steps that are left, a child, perhaps a child, or the elements of a list.
-pub enum Doing {
-    Steps,
-    Child(u32),
-    Optional(u32),
-    Elements(List),
-}
-
-// What follows each parse of a child: the steps that are left, or the list.
-pub enum Next {
-    Steps,
-    Elements(List),
-}
-
-// How a part ended and, where neither a limit nor a failure ended it, the place reached and the items so far.
-pub struct Reached {
-    pub outcome: Outcome,
-    pub at: u32,
-    pub items: u32,
-}
-
-// The same, and what the path does next.
-pub struct Stage {
-    pub outcome: Outcome,
-    pub at: u32,
-    pub items: u32,
-    pub doing: Doing,
-}
-
-// A limit or a failure ends the path.
-fn ended(outcome: Outcome) -> Reached
-    ensures { λ r. ⌜ r ≡ record { outcome = outcome; at = 0; items = 0 } ⌝ }
-{
-    Reached {
-        outcome,
-        at: 0,
-        items: 0,
-    }
-}
-
-// At a place, with the items that were made; or at a limit.
-pub fn reached_with(m: Made, at: u32) -> Reached
-    ensures { λ r. ⌜ r ≡ record { outcome = limitOf (m .limit) (m .state); at = at; items = m .cell } ⌝ }
-{
-    let outcome = at_limit(m.limit, m.state);
-    Reached {
-        outcome,
-        at,
-        items: m.cell,
-    }
-}
-
-// The steps that are left come next.
-fn then_steps(r: Reached) -> Stage
-    ensures { λ g. ⌜ g ≡ record { outcome = r .outcome; at = r .at; items = r .items; doing = Doing.Steps } ⌝ }
-{
-    let outcome = r.outcome;
-    Stage {
-        outcome,
-        at: r.at,
-        items: r.items,
-        doing: Doing::Steps,
-    }
-}
 
 // ---- The end of a variant
 fn parse_of(w: Variant, rest: u32, value: u32) -> Parse
@@ -165,7 +89,7 @@ pub fn finish(
 
 // ---- A list stops
 // Its cell, then its closing, then its chain cell.
-fn stop(
+pub fn stop(
     book: &[u8],
     index: &[usize],
     text: &[u8],
@@ -488,110 +412,4 @@ pub fn joined(i: usize, before: Outcome, o: Outcome) -> Outcome
     let first = failure_of(before);
     let second = failure_of(o);
     done(tokens::either(first, second), o.state)
-}
-
-// ---- Choices
-// An optional child is absent: the cell, then its chain cell.
-fn absent(
-    book: &[u8],
-    index: &[usize],
-    text: &[u8],
-    store: &mut [u32],
-    here: Progress,
-    state: State,
-) -> Reached
-    ensures { λ r. ⌜ Reaches (bookIn (now (book .entry)) (now (index .entry))) (now (text .entry)) (now (store .entry)) state (now (store .exit)) (here .variant) r
-        (λ inner n c rest s. sideRows (bookIn (now (book .entry)) (now (index .entry))) (now (text .entry)) inner n c (here .variant) rest Next.Steps
-        (here .at) (here .items) s) ⌝ }
-{
-    let m = make(text, store, cells::absent(), state);
-    if m.limit != 0 {
-        return reached_with(m, 0);
-    }
-    let s = m.state;
-    reached_with(
-        with_cell(
-            book,
-            index,
-            text,
-            store,
-            here.variant,
-            here.items,
-            m.cell,
-            s,
-        ),
-        here.at,
-    )
-}
-
-// "stop comes before one more"; one unit for both.
-fn first_stop(
-    book: &[u8],
-    index: &[usize],
-    text: &[u8],
-    store: &mut [u32],
-    here: Progress,
-    list: List,
-    state: State,
-) -> Reached
-    requires { ⌜ Fit (bookIn (now book) (now index)) (now text) ⌝ }
-    ensures { λ r. ⌜ Reaches (bookIn (now (book .entry)) (now (index .entry))) (now (text .entry)) (now (store .entry)) state (now (store .exit)) (here .variant) r
-        (λ inner n c rest s. sideRows (bookIn (now (book .entry)) (now (index .entry))) (now (text .entry)) inner n c (here .variant) rest (Next.Elements list)
-        (here .at) (here .items) s) ⌝ }
-{
-    let spent = spend(state);
-    if spent.limit != 0 {
-        return ended(spent);
-    }
-    let s = spent.state;
-    let closing = list.closing;
-    stop(
-        book,
-        index,
-        text,
-        store,
-        here,
-        list.values,
-        closing,
-        here.at,
-        s,
-    )
-}
-
-// The first side of a choice.
-pub fn first_side(
-    book: &[u8],
-    index: &[usize],
-    text: &[u8],
-    store: &mut [u32],
-    here: Progress,
-    next: Next,
-    state: State,
-) -> Reached
-    requires { ⌜ Fit (bookIn (now book) (now index)) (now text) ⌝ }
-    ensures { λ r. ⌜ Reaches (bookIn (now (book .entry)) (now (index .entry))) (now (text .entry)) (now (store .entry)) state (now (store .exit)) (here .variant) r
-        (λ inner n c rest s. sideRows (bookIn (now (book .entry)) (now (index .entry))) (now (text .entry)) inner n c (here .variant) rest next
-        (here .at) (here .items) s) ⌝ }
-{
-    match next {
-        Next::Steps => absent(book, index, text, store, here, state),
-        Next::Elements(list) => first_stop(book, index, text, store, here, list, state),
-    }
-}
-
-// Both sides of a choice.
-pub fn both(text: &[u8], rows: &[u32], here: Progress, a: Outcome, b: Outcome) -> Outcome
-    requires { ⌜ (here .call ≤ 200) × (104922 ≤ length (now rows)) ⌝ }
-    ensures { λ r. ⌜ Chosen (now (text .entry)) (table (now (rows .entry))) (here .call) (here .at) a b r ⌝ }
-{
-    if b.limit != 0 {
-        return b;
-    }
-    let first = failure_of(a);
-    let second = failure_of(b);
-    let nonterminal = calls::nonterminal_of(rows, here.call) as usize;
-    done(
-        tokens::chosen(skip(text, here.at as usize), nonterminal, first, second),
-        b.state,
-    )
 }

@@ -20,8 +20,8 @@ use Rattle.rows.specs.Model.{enterRows, runnerRows, stepsRows, nestedRows, ente
 use Rattle.tokens.specs.Maps.{failureOf}
 use Rattle.progress.specs.declared.outcomes.Outcome.{Outcome}
 use Rattle.progress.specs.declared.outcomes.State.{State}
-use Rattle.progress.specs.declared.steps.Next.{Next}
-use Rattle.progress.specs.declared.steps.Stage.{Stage}
+use Rattle.progress.specs.declared.stages.Next.{Next}
+use Rattle.progress.specs.declared.stages.Stage.{Stage}
 use Rattle.progress.specs.Outcomes.{cellsOf, Held, given, goesOn, Ran, Runs, failureAt, limitOf}
 use Rattle.progress.specs.Steps.{nextRows, descendsRows, resumes, Stages, Joined}
 use Rattle.progress.specs.Entering.{within}

@@ -11,9 +11,9 @@ use Rattle.rules.specs.Errors.{Error, joinWith}
 use Rattle.rules.specs.Run.{Result, ok, _>>=_, begin, counted}
 use Rattle.rows.specs.Rows.{rowOf}
 use Rattle.rows.specs.Model.{RowState, Outcome, outcome, RowRunner, makes, atRow, bareCall, takeVariant, followedRows, orChild}
-use Rattle.progress.specs.declared.steps.Doing.{Doing}
-use Rattle.progress.specs.declared.steps.Next.{Next}
-use Rattle.progress.specs.declared.steps.Progress.{Progress}
+use Rattle.progress.specs.declared.stages.Doing.{Doing}
+use Rattle.progress.specs.declared.stages.Next.{Next}
+use Rattle.progress.specs.declared.stages.Progress.{Progress}
 use Rattle.progress.specs.Steps.{todoFrom, nextRows, sideRows}
 
 -- a path's row is one of the table, and its steps are some of the book's, no more than a byte can say

@@ -21,7 +21,7 @@ use Rattle.sets.specs.PlaceLaws.{set-le}
 use Rattle.rows.specs.Rows.{rowOf}
 use Rattle.calls.specs.Table.{table}
 use Rattle.calls.specs.TableLaws.{read-set}
-use Rattle.run.specs.declared.parse.Values.{Values}
+use Rattle.run.specs.declared.whole.Values.{Values}
 use Rattle.run.specs.Reading.{within, withValue, withValues, withParse, endAnswer}
 
 -- ---- Zeros

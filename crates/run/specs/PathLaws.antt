@@ -21,11 +21,11 @@ use Rattle.rows.specs.Model.{completeRows, stepsRows, enterChildRows, followedR
 use Rattle.tokens.specs.Maps.{failureOf, endOf}
 use Rattle.progress.specs.declared.outcomes.Outcome.{Outcome}
 use Rattle.progress.specs.declared.outcomes.State.{State}
-use Rattle.progress.specs.declared.steps.Doing.{Doing}
-use Rattle.progress.specs.declared.steps.List as list
-use Rattle.progress.specs.declared.steps.Next.{Next}
-use Rattle.progress.specs.declared.steps.Reached.{Reached}
-use Rattle.progress.specs.declared.steps.Stage.{Stage}
+use Rattle.progress.specs.declared.stages.Doing.{Doing}
+use Rattle.progress.specs.declared.stages.List as list
+use Rattle.progress.specs.declared.stages.Next.{Next}
+use Rattle.progress.specs.declared.stages.Reached.{Reached}
+use Rattle.progress.specs.declared.stages.Stage.{Stage}
 use Rattle.progress.specs.Outcomes.{cellsOf, Held, given, goesOn, Ran, Runs, failureAt}
 use Rattle.progress.specs.Steps.{todoFrom, nextRows, descendsRows, choosesRows, doesRows, resumes, sideRows, Stages, Reaches, Chosen}
 use Rattle.run.specs.Cycle.{sidesRows, rankOf}

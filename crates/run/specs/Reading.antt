@@ -23,7 +23,7 @@ use Rattle.progress.specs.declared.outcomes.Outcome.{Outcome}
 use Rattle.progress.specs.Outcomes.{cellsOf, Held, given, failureAt}
 use Rattle.progress.specs.Fit.{Fits}
 use Rattle.run.specs.declared.parse.Answer as code
-use Rattle.run.specs.declared.parse.Values.{Values}
+use Rattle.run.specs.declared.whole.Values.{Values}
 
 -- ---- Answers
 -- the code's answer, as document 01 has it

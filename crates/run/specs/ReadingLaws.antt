@@ -36,7 +36,7 @@ use Rattle.progress.specs.declared.outcomes.Outcome as code
 use Rattle.progress.specs.Outcomes.{cellsOf, Held, given, Ran, Runs, failureAt}
 use Rattle.progress.specs.Fit.{Fits, Fit}
 use Rattle.run.specs.declared.parse.Answer as parse
-use Rattle.run.specs.declared.parse.Values.{Values}
+use Rattle.run.specs.declared.whole.Values.{Values}
 use Rattle.run.specs.Reading.{answerIn, answered, short, noRoom, noAllowance, within, withValues, endAnswer, seenOf, FailureFits, RunsText, Reads, answerWith}
 use Rattle.run.specs.ListLaws.{by-values-is}
 use Rattle.run.specs.Fitting.{StepArguments, FailFits, no-error, an-error, Fine, On, result}

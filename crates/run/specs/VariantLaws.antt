@@ -24,8 +24,8 @@ use Rattle.tokens.specs.Maps.{failureOf}
 use Rattle.tokens.specs.declared.errors.Failure.{Failure}
 use Rattle.progress.specs.declared.outcomes.Outcome.{Outcome}
 use Rattle.progress.specs.declared.outcomes.State.{State}
-use Rattle.progress.specs.declared.steps.Doing.{Doing}
-use Rattle.progress.specs.declared.steps.Reached.{Reached}
+use Rattle.progress.specs.declared.stages.Doing.{Doing}
+use Rattle.progress.specs.declared.stages.Reached.{Reached}
 use Rattle.progress.specs.Outcomes.{cellsOf, Held, given, Ran, Runs, failureAt, doneWith}
 use Rattle.progress.specs.Fit.{Fit}
 use Rattle.progress.specs.Steps.{todoFrom, resumes}

@@ -17,8 +17,10 @@
 // the functions equal (Cycle, Reading) and laws: of the cycle (ResultLaws, CallLaws, VariantLaws, ChildLaws, PathLaws), of the lists (ListLaws), of the call (ReadingLaws), and that the numbers of an error
 // and of a refusal fit into 32 bits (Fitting, ErrorLaws, RefusalLaws).
 mod left_recursion;
+mod lists;
 mod parse;
 mod parser;
+mod whole;
 
 pub use parse::Answer;
 pub use parse::ROWS_SIZE;

@@ -3,48 +3,40 @@
 // `read` keeps working memory of its own, 498,048 bytes; `read_in` is lent it, whatever it holds. The definition of crates/rules/specs/Answer.antt that a
 // function equals is named in its contract.
 ghost use mathlib.Core.Path.{_≡_};
-ghost use mathlib.Core.List.{[]};
-ghost use Prim.Native.Nat.{_+_, _-_, _*_, _≤_, _<_};
-ghost use lib.ListN.{length, take};
+ghost use Prim.Native.Nat.{_+_, _-_, _≤_, _<_};
+ghost use lib.ListN.{length};
 ghost use Rattle.book.specs.Index.{bookIn};
 ghost use Rattle.book.specs.Check.{checkBook};
 ghost use Rattle.book.specs.Check as check;
 ghost use Rattle.rules.specs.Answer as answers;
-ghost use Rattle.rules.specs.Answer.{answer, parseNumbers, wholeValues, firstHigh, answerOf};
-ghost use Rattle.rules.specs.Values.{whole as wholeIn};
-ghost use Rattle.rows.specs.Rows.{rowOf};
-ghost use Rattle.sets.specs.Sets as sets;
-ghost use Rattle.sets.specs.Sets.{parseOf};
-ghost use Rattle.calls.specs.Table.{table};
+ghost use Rattle.rules.specs.Answer.{answer, firstHigh, answerOf};
 ghost use Rattle.progress.specs.Fit.{Fit, Fits};
 ghost use Rattle.progress.specs.Outcomes.{failureAt, Held};
-ghost use Rattle.run.specs.Reading.{answerIn, answered, short, noRoom, noAllowance, within, withValue, withValues, withParse, endAnswer, seenOf, FailureFits, RunsText, Reads, answerWith};
-ghost use Rattle.run.specs.declared.parse.Values as values;
+ghost use Rattle.run.specs.Reading.{answerIn, answered, short, noRoom, noAllowance, within, endAnswer, seenOf, FailureFits, RunsText, Reads, answerWith};
 use crate::left_recursion::enter;
+use crate::lists::CELL_NUMBERS;
+use crate::lists::PARSE_NUMBERS;
+use crate::lists::cleared;
+use crate::lists::filled;
+use crate::whole::Values;
+use crate::whole::whole_values;
 use book::INDEX_SIZE;
 use book::Verdict;
 use book::check_into;
 use calls::found;
-use calls::item;
 use cells::STORE_SIZE;
 use characters::skip;
 use progress::Outcome;
 use progress::State;
 use progress::failure_of;
-use sets::Parse;
-use sets::associativity_number;
 use tokens::Error;
 use tokens::Failure;
 
 // "nesting beyond 200" is a limit; also the outermost call's row
-const LEVELS: usize = 200;
+pub const LEVELS: usize = 200;
 
 // the numbers of the rows: 201 of 522 numbers
 pub const ROWS_SIZE: usize = 104922;
-
-const CELL_NUMBERS: usize = 12288;
-
-const PARSE_NUMBERS: usize = 256;
 
 const MOST_WORK: u32 = 1000000;
 
@@ -59,135 +51,6 @@ pub struct Answer {
     pub work: u32,
     pub parses: u32,
     pub value: u32,
-}
-
-// The values of the whole parses: none, one, or different ones.
-pub enum Values {
-    Nothing,
-    One(u32),
-    Different,
-}
-
-// ---- Lists
-// The first `size` numbers of a lent list become zeros.
-fn clear(lent: &mut [u32], size: usize)
-    requires { ⌜ size ≤ length (now lent) ⌝ }
-    ensures { λ _. ⌜ now (lent .exit) ≡ answers.written size [] (now (lent .entry)) ⌝ }
-{
-    let mut i = 0;
-    while i < size {
-        lent[i] = 0;
-        i += 1;
-    }
-}
-
-// The first `size` numbers of a lent list become the first `used` of another, and zeros.
-fn written(lent: &mut [u32], size: usize, source: &[u32], used: usize)
-    requires { ⌜ (size ≤ length (now lent)) × (used ≤ size) × (used ≤ length (now source)) ⌝ }
-    ensures { λ _. ⌜ now (lent .exit) ≡ answers.written size (take used (now (source .entry))) (now (lent .entry)) ⌝ }
-{
-    clear(lent, size);
-    let mut i = 0;
-    while i < used {
-        lent[i] = source[i];
-        i += 1;
-    }
-}
-
-// "Parses hold rest, level, associativity, cell"
-fn put_parse(parses: &mut [u32], at: usize, p: Parse)
-    requires { ⌜ at + 4 ≤ length (now parses) ⌝ }
-    ensures { λ _. ⌜ now (parses .exit) ≡ sets.written (now (parses .entry)) at (parseOf p) ⌝ }
-{
-    let associativity = p.associativity;
-    parses[at] = p.rest;
-    parses[at + 1] = p.level;
-    parses[at + 2] = associativity_number(associativity);
-    parses[at + 3] = p.value;
-}
-
-// The first 256 numbers of a lent list become the parses that the outermost row found, and zeros.
-fn parses_written(parses: &mut [u32], rows: &[u32])
-    requires { ⌜ (256 ≤ length (now parses)) × (104922 ≤ length (now rows)) ⌝ }
-    ensures { λ _. ⌜ now (parses .exit) ≡ answers.written 256 (parseNumbers (rowOf (table (now (rows .entry))) 200 .set)) (now (parses .entry)) ⌝ }
-{
-    clear(parses, PARSE_NUMBERS);
-    let count = found(rows, LEVELS);
-    let mut i = 0;
-    while i < count {
-        put_parse(parses, 4 * i, item(rows, LEVELS, i));
-        i += 1;
-    }
-}
-
-// 20 to 23 and 30.
-fn cleared(cells: &mut [u32], parses: &mut [u32])
-    requires { ⌜ (12288 ≤ length (now cells)) × (256 ≤ length (now parses)) ⌝ }
-    ensures { λ _. ⌜ (now (cells .exit) ≡ answers.written 12288 [] (now (cells .entry))) × (now (parses .exit) ≡ answers.written 256 [] (now (parses .entry))) ⌝ }
-{
-    clear(cells, CELL_NUMBERS);
-    clear(parses, PARSE_NUMBERS);
-}
-
-// The cells of the store, and what the outermost row found.
-fn filled(cells: &mut [u32], parses: &mut [u32], store: &[u32], rows: &[u32], count: u32)
-    requires { ⌜ (12288 ≤ length (now cells)) × (256 ≤ length (now parses)) × (17408 ≤ length (now store)) × (104922 ≤ length (now rows)) × (count ≤ 4096) ⌝ }
-    ensures { λ _. ⌜ (now (cells .exit) ≡ answers.written 12288 (take (3 * count) (now (store .entry))) (now (cells .entry))) ×
-        (now (parses .exit) ≡ answers.written 256 (parseNumbers (rowOf (table (now (rows .entry))) 200 .set)) (now (parses .entry))) ⌝ }
-{
-    written(cells, CELL_NUMBERS, store, 3 * count as usize);
-    parses_written(parses, rows);
-}
-
-// ---- Whole parses
-// One value more.
-fn with_value(values: Values, value: u32) -> Values
-    ensures { λ r. ⌜ r ≡ withValue values value ⌝ }
-{
-    match values {
-        Values::Nothing => Values::One(value),
-        Values::One(first) => {
-            if first == value {
-                values
-            } else {
-                Values::Different
-            }
-        }
-        Values::Different => Values::Different,
-    }
-}
-
-// "A parse is whole .. when skipping from its rest gives the text's length"
-fn whole(text: &[u8], p: Parse) -> bool
-    ensures { λ r. ⌜ r ≡ wholeIn (now (text .entry)) (parseOf p) ⌝ }
-{
-    skip(text, p.rest as usize) == text.len()
-}
-
-// The value of a parse counts if it is whole.
-fn with_parse(text: &[u8], values: Values, p: Parse) -> Values
-    ensures { λ r. ⌜ r ≡ withParse (now (text .entry)) values (parseOf p) ⌝ }
-{
-    if whole(text, p) {
-        with_value(values, p.value)
-    } else {
-        values
-    }
-}
-
-// Over what the outermost row found.
-fn whole_values(text: &[u8], rows: &[u32]) -> Values
-    requires { ⌜ 104922 ≤ length (now rows) ⌝ }
-    ensures { λ r. ⌜ r ≡ withValues values.Values.Nothing (wholeValues (now (text .entry)) (rowOf (table (now (rows .entry))) 200 .set)) ⌝ }
-{
-    let count = found(rows, LEVELS);
-    let mut values = Values::Nothing;
-    let mut i = 0;
-    while i < count {
-        values = with_parse(text, values, item(rows, LEVELS, i));
-        i += 1;
-    }
-    values
 }
 
 // ---- Answers

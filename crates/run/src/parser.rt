@@ -16,7 +16,7 @@ ghost use Rattle.progress.specs.Entering.{within};
 ghost use Rattle.tokens.specs.Maps.{failureOf};
 ghost use Rattle.progress.specs.Steps.{descendsRows, resumes};
 ghost use Rattle.run.specs.Cycle.{InRange, todoAt, variantRows, followsRows, sidesRows};
-ghost use Rattle.progress.specs.declared.steps.Doing.{Doing};
+ghost use Rattle.progress.specs.declared.stages.Doing.{Doing};
 use crate::left_recursion::enter;
 use progress::Doing;
 use progress::Next;

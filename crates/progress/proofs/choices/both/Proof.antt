@@ -2,8 +2,8 @@
 use Rattle.calls.specs.Table.{table}
 use Rattle.progress.specs.NextLaws.{both-limit, both-chosen}
 use borrow.Author.Needs.{needs}
-use Rattle.progress.proofs.steps.both.Statement.{statement}
-use Rattle.progress.proofs.steps.both.Tie as tie
+use Rattle.progress.proofs.choices.both.Statement.{statement}
+use Rattle.progress.proofs.choices.both.Tie as tie
 
 returns : tie.Need-returns
 returns c =

@@ -10,9 +10,9 @@ use Rattle.sets.specs.Sets.{parseOf}
 use Rattle.calls.specs.Table.{table}
 use Rattle.run.specs.ListLaws.{values-again, values-end}
 use Rattle.run.specs.Reading.{withValues}
-use Rattle.run.specs.declared.parse.Values.{Values}
-use Rattle.run.proofs.parse.whole_values.Statement.{statement}
-use Rattle.run.proofs.parse.whole_values.Tie as tie
+use Rattle.run.specs.declared.whole.Values.{Values}
+use Rattle.run.proofs.whole.whole_values.Statement.{statement}
+use Rattle.run.proofs.whole.whole_values.Tie as tie
 
 abbrev Inv-loop : tie.InvT-loop
 Inv-loop text rows count values₀ i₀ values i = withValues values (wholeValues text (drop i (rowOf (table rows) 200 .set))) ≡ withValues Values.Nothing (wholeValues text (rowOf (table rows) 200 .set))

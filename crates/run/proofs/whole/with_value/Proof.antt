@@ -2,8 +2,8 @@
 use borrow.Author.Tests.{eq-eqb, ne-eqb}
 use borrow.Author.Needs.{needs}
 use Rattle.run.specs.Reading.{withValue}
-use Rattle.run.proofs.parse.with_value.Statement.{statement}
-use Rattle.run.proofs.parse.with_value.Tie as tie
+use Rattle.run.proofs.whole.with_value.Statement.{statement}
+use Rattle.run.proofs.whole.with_value.Tie as tie
 
 enum-told : tie.Need-enum-told
 enum-told c = search needs

@@ -3,8 +3,8 @@ use borrow.Author.Needs.{needs}
 use Rattle.book.specs.Index.{bookIn}
 use Rattle.rules.specs.Cells.{Cell}
 use Rattle.progress.specs.NextLaws.{absent-limit, absent-goes}
-use Rattle.progress.proofs.steps.absent.Statement.{statement}
-use Rattle.progress.proofs.steps.absent.Tie as tie
+use Rattle.progress.proofs.choices.absent.Statement.{statement}
+use Rattle.progress.proofs.choices.absent.Tie as tie
 
 absent-requires : tie.Need-absent-requires
 absent-requires c κs = search needs

@@ -1,7 +1,7 @@
 -- `progress::reached_with` meets its contract.
 use borrow.Author.Needs.{needs}
-use Rattle.progress.proofs.steps.reached_with.Statement.{statement}
-use Rattle.progress.proofs.steps.reached_with.Tie as tie
+use Rattle.progress.proofs.stages.reached_with.Statement.{statement}
+use Rattle.progress.proofs.stages.reached_with.Tie as tie
 
 at-limit-requires : tie.Need-at-limit-requires
 at-limit-requires c κs = search needs

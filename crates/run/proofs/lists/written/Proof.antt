@@ -7,8 +7,8 @@ use lib.ListN.{length, getD, set, take, length-set}
 use borrow.Author.Needs.{needs}
 use Rattle.rules.specs.Answer as answers
 use Rattle.run.specs.ListLaws.{copy-again}
-use Rattle.run.proofs.parse.written.Statement.{statement}
-use Rattle.run.proofs.parse.written.Tie as tie
+use Rattle.run.proofs.lists.written.Statement.{statement}
+use Rattle.run.proofs.lists.written.Tie as tie
 
 abbrev Inv-loop : tie.InvT-loop
 Inv-loop lent₀ size source used i₀ lent i = (i ≤ used) × (length lent ≡ length lent₀) × ((l : List ℕ) → lent₀ ≡ answers.written size [] l → lent ≡ answers.written size (take i source) l)

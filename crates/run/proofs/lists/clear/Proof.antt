@@ -7,8 +7,8 @@ use lib.ListN.{length, set, length-set}
 use borrow.Author.Needs.{needs}
 use Rattle.rules.specs.Answer.{written}
 use Rattle.run.specs.ListLaws.{clear-first, clear-again}
-use Rattle.run.proofs.parse.clear.Statement.{statement}
-use Rattle.run.proofs.parse.clear.Tie as tie
+use Rattle.run.proofs.lists.clear.Statement.{statement}
+use Rattle.run.proofs.lists.clear.Tie as tie
 
 abbrev Inv-loop : tie.InvT-loop
 Inv-loop lent₀ size i₀ lent i = (i ≤ size) × (length lent ≡ length lent₀) × (lent ≡ written i [] lent₀)

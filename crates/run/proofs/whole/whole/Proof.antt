@@ -1,7 +1,7 @@
 -- `run::whole` meets its contract.
 use borrow.Author.Needs.{needs}
-use Rattle.run.proofs.parse.whole.Statement.{statement}
-use Rattle.run.proofs.parse.whole.Tie as tie
+use Rattle.run.proofs.whole.whole.Statement.{statement}
+use Rattle.run.proofs.whole.whole.Tie as tie
 
 cast-skip : tie.Need-cast-skip
 cast-skip c = search needs

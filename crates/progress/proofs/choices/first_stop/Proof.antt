@@ -2,8 +2,8 @@
 use borrow.Author.Needs.{needs}
 use Rattle.book.specs.Index.{bookIn}
 use Rattle.progress.specs.NextLaws.{side-limit, side-stops}
-use Rattle.progress.proofs.steps.first_stop.Statement.{statement}
-use Rattle.progress.proofs.steps.first_stop.Tie as tie
+use Rattle.progress.proofs.choices.first_stop.Statement.{statement}
+use Rattle.progress.proofs.choices.first_stop.Tie as tie
 
 spend-requires : tie.Need-spend-requires
 spend-requires c κs = search needs

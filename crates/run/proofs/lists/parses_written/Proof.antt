@@ -11,8 +11,8 @@ use Rattle.sets.specs.Sets.{parseOf}
 use Rattle.sets.specs.Sets as sets
 use Rattle.calls.specs.Table.{table}
 use Rattle.run.specs.ListLaws.{parses-first, parses-again, parses-end, found-few}
-use Rattle.run.proofs.parse.parses_written.Statement.{statement}
-use Rattle.run.proofs.parse.parses_written.Tie as tie
+use Rattle.run.proofs.lists.parses_written.Statement.{statement}
+use Rattle.run.proofs.lists.parses_written.Tie as tie
 
 abbrev Inv-loop : tie.InvT-loop
 Inv-loop parses₀ rows count i₀ parses i = (length parses ≡ length parses₀) × ((l : List ℕ) → parses₀ ≡ answers.written 256 [] l → parses ≡ answers.written 256 (parseNumbers (take i (rowOf (table rows) 200 .set))) l)

@@ -2,8 +2,8 @@
 use native.Mathlib.Omega.{arith}
 use lib.ListN.{length-set}
 use borrow.Author.Needs.{needs}
-use Rattle.run.proofs.parse.put_parse.Statement.{statement}
-use Rattle.run.proofs.parse.put_parse.Tie as tie
+use Rattle.run.proofs.lists.put_parse.Statement.{statement}
+use Rattle.run.proofs.lists.put_parse.Tie as tie
 
 mul-parses : tie.Need-mul-parses
 mul-parses c = search needs

@@ -1,8 +1,8 @@
 -- `run::with_parse` meets its contract.
 use mathlib.Core.Path.{sym, _∙_}
 use borrow.Author.Needs.{needs}
-use Rattle.run.proofs.parse.with_parse.Statement.{statement}
-use Rattle.run.proofs.parse.with_parse.Tie as tie
+use Rattle.run.proofs.whole.with_parse.Statement.{statement}
+use Rattle.run.proofs.whole.with_parse.Tie as tie
 
 whole-requires : tie.Need-whole-requires
 whole-requires c κs = search needs

@@ -2,8 +2,8 @@
 use borrow.Author.Needs.{needs}
 use Rattle.book.specs.Index.{bookIn}
 use Rattle.progress.specs.NextLaws.{first-next}
-use Rattle.progress.proofs.steps.first_side.Statement.{statement}
-use Rattle.progress.proofs.steps.first_side.Tie as tie
+use Rattle.progress.proofs.choices.first_side.Statement.{statement}
+use Rattle.progress.proofs.choices.first_side.Tie as tie
 
 enum-told : tie.Need-enum-told
 enum-told c = search needs

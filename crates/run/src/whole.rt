@@ -1,0 +1,73 @@
+// The values of the whole parses.
+ghost use mathlib.Core.Path.{_≡_};
+ghost use Prim.Native.Nat.{_+_, _-_, _≤_, _<_};
+ghost use lib.ListN.{length};
+ghost use Rattle.rules.specs.Answer.{wholeValues};
+ghost use Rattle.rules.specs.Values.{whole as wholeIn};
+ghost use Rattle.rows.specs.Rows.{rowOf};
+ghost use Rattle.sets.specs.Sets.{parseOf};
+ghost use Rattle.calls.specs.Table.{table};
+ghost use Rattle.run.specs.Reading.{withValue, withValues, withParse};
+ghost use Rattle.run.specs.declared.whole.Values as values;
+use crate::parse::LEVELS;
+use calls::found;
+use calls::item;
+use characters::skip;
+use sets::Parse;
+
+// The values of the whole parses: none, one, or different ones.
+pub enum Values {
+    Nothing,
+    One(u32),
+    Different,
+}
+
+// One value more.
+fn with_value(values: Values, value: u32) -> Values
+    ensures { λ r. ⌜ r ≡ withValue values value ⌝ }
+{
+    match values {
+        Values::Nothing => Values::One(value),
+        Values::One(first) => {
+            if first == value {
+                values
+            } else {
+                Values::Different
+            }
+        }
+        Values::Different => Values::Different,
+    }
+}
+
+// "A parse is whole .. when skipping from its rest gives the text's length"
+fn whole(text: &[u8], p: Parse) -> bool
+    ensures { λ r. ⌜ r ≡ wholeIn (now (text .entry)) (parseOf p) ⌝ }
+{
+    skip(text, p.rest as usize) == text.len()
+}
+
+// The value of a parse counts if it is whole.
+fn with_parse(text: &[u8], values: Values, p: Parse) -> Values
+    ensures { λ r. ⌜ r ≡ withParse (now (text .entry)) values (parseOf p) ⌝ }
+{
+    if whole(text, p) {
+        with_value(values, p.value)
+    } else {
+        values
+    }
+}
+
+// Over what the outermost row found.
+pub fn whole_values(text: &[u8], rows: &[u32]) -> Values
+    requires { ⌜ 104922 ≤ length (now rows) ⌝ }
+    ensures { λ r. ⌜ r ≡ withValues values.Values.Nothing (wholeValues (now (text .entry)) (rowOf (table (now (rows .entry))) 200 .set)) ⌝ }
+{
+    let count = found(rows, LEVELS);
+    let mut values = Values::Nothing;
+    let mut i = 0;
+    while i < count {
+        values = with_parse(text, values, item(rows, LEVELS, i));
+        i += 1;
+    }
+    values
+}
