@@ -2,7 +2,7 @@
 ghost use Rattle.io.specs.Counts.{Counts};
 
 // One byte more than the longest accepted book has: five counts, 64 words and 64 names of 17 bytes, 32 nonterminals of 2, 128 variants of 4 and 255 steps of 4.
-// The check of a longer book ends within these bytes, so that its refusal is that of the whole file.
+// The check of a longer book ends within these bytes, so that its refusal is that of the whole file (`long-book` of specs/LongBooks.antt).
 pub const BOOK_ROOM: usize = 3778;
 
 // One byte more than the longest accepted text has; a longer one is refused for its length alone.
