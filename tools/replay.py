@@ -16,8 +16,8 @@ after ten million steps, so it gets only up to three vectors of little work for 
 
 times calls at -O3, by tools/replay_speed.c.
 
-The crates are compiled as they stand, without their proofs. Only for the timing a copy of the crate run gets one module more, tools/replay/exported.rt.txt,
-which gives its call a name that C can link. The program's files end in .txt, since the gate takes every .rt file outside the crates for one that nothing proves.
+The crates are compiled as they stand, without their proofs (tools/reader.py). For the timing a crate over them, tools/replay/exported.rt.txt, gives the
+call a name that C can link. The program's files end in .txt, since the gate takes every .rt file outside the crates for one that nothing proves.
 """
 import argparse
 import glob
@@ -30,9 +30,8 @@ import subprocess
 import sys
 import tempfile
 
-ROOT = os.path.dirname(os.path.dirname(os.path.abspath(__file__)))
-KIT = os.environ.get("RATTLE_HOME") or os.path.dirname(os.path.dirname(os.path.realpath(shutil.which("rt") or sys.exit("no rt on the path"))))
-OWN = f"{KIT}/on/{os.uname().machine}"
+from reader import CASES, OWN, ROOT, libraries, static_library
+
 USES = ["run", "cells", "book", "characters", "io", "libc"]  # the crates that the program of tools/replay uses
 
 CELLS, PARSES, BEYOND = 12288, 256, 3
@@ -78,47 +77,10 @@ def all_equal(vectors):
 
 # ---- Compiling
 def copied(folder):
-    """The copy of the crate run with the export, and the program. They stand apart, because a folder may hold only files that its crate names."""
-    shutil.copytree(f"{ROOT}/crates/run/src", f"{folder}/run")
-    shutil.copy(f"{ROOT}/tools/replay/exported.rt.txt", f"{folder}/run/exported.rt")
-    with open(f"{folder}/run/lib.rt", "a") as lib:
-        lib.write("mod exported;\n")
+    """The program, in a folder that holds only files that it names."""
     os.mkdir(f"{folder}/replay")
     for module in ("main", "record", "compare", "tally"):
         shutil.copy(f"{ROOT}/tools/replay/{module}.rt.txt", f"{folder}/replay/{module}.rt")
-
-
-def dependencies():
-    """What each crate of the repository and of the kit depends on."""
-    uses = {}
-    for path in (f"{ROOT}/crates.txt", f"{KIT}/libs/libs.txt"):
-        with open(path) as lines:
-            for line in lines:
-                crate, _, rest = line.split("#")[0].partition(":")
-                if crate.strip():
-                    uses[crate.strip()] = rest.split()
-    return uses
-
-
-def source(folder, crate):
-    places = [f"{folder}/run"] if crate == "run" else [f"{ROOT}/crates/{crate}/src", f"{KIT}/libs/{crate}/src"]
-    return next(f"{p}/lib.rt" for p in places if os.path.exists(f"{p}/lib.rt"))
-
-
-def libraries(folder, crates):
-    """The options for these crates and all that they reach, as sources, each with those that it may use. (`rt try` lets each use all; then the module
-    `tokens` of characters and the crate tokens have one name.)"""
-    uses, reached, todo = dependencies(), [], ["std", *crates]
-    while todo:
-        crate = todo.pop(0)
-        if crate not in reached:
-            reached.append(crate)
-            todo += uses[crate]
-    words = []
-    for crate in reached:
-        may_use = [] if crate == "std" else ["std", *uses[crate]]
-        words += ["--lib", f"{crate}:{','.join(may_use)}={source(folder, crate)}"]
-    return words
 
 
 def tried(folder, toolchain, vectors):
@@ -127,8 +89,8 @@ def tried(folder, toolchain, vectors):
     write(vectors, data)
     with open(wanted, "w") as f:
         f.write(all_equal(vectors))
-    words = [f"{OWN}/bin/rattle-cases", "--toolchain", toolchain, "--stdin", data, "--stdout", wanted]
-    words += [f"{folder}/replay/main.rt", "--crate-name", "replay", *libraries(folder, USES)]
+    words = [CASES, "--toolchain", toolchain, "--stdin", data, "--stdout", wanted]
+    words += [f"{folder}/replay/main.rt", "--crate-name", "replay", *libraries(USES)]
     return subprocess.run(words, stdout=subprocess.PIPE, stderr=subprocess.STDOUT, text=True)
 
 
@@ -201,11 +163,9 @@ def replay(folder, ways, vectors):
 
 
 def timed(folder):
-    """Runs the C program with the copy of the crate run as a static library."""
-    uses = dependencies()["run"]
-    words = [f"{OWN}/bin/rattle-cases", "--toolchain", f"{OWN}/toolchain", "--staticlib", f"{folder}/librun.a"]
-    subprocess.run([*words, f"{folder}/run/lib.rt", "--crate-name", "run", *libraries(folder, uses)], check=True)
-    subprocess.run(["cc", "-O2", "-o", f"{folder}/speed", f"{ROOT}/tools/replay_speed.c", f"{folder}/librun.a"], check=True)
+    """Runs the C program with the reader as a static library."""
+    static_library(f"{folder}/libreader.a")
+    subprocess.run(["cc", "-O2", "-o", f"{folder}/speed", f"{ROOT}/tools/replay_speed.c", f"{folder}/libreader.a"], check=True)
     subprocess.run([f"{folder}/speed"], check=True)
 
 

@@ -1,11 +1,11 @@
-// Times the call of tools/replay/parse.rt on texts of the example book of document 01, and prints for each the work and the best time of a call, whole
+// Times the call of tools/replay/exported.rt.txt on texts of the example book of document 01, and prints for each the work and the best time of a call, whole
 // and per unit of work. `python3 tools/replay.py --speed` compiles and runs it.
 #include <stdint.h>
 #include <stdio.h>
 #include <string.h>
 #include <time.h>
 
-void midgebillon_try(const uint8_t *book, size_t, const uint8_t *text, size_t, uint32_t start, uint32_t allowance, uint32_t *cells, size_t,
+void reader_read_in(const uint8_t *book, size_t, const uint8_t *text, size_t, uint32_t start, uint32_t allowance, uint32_t *cells, size_t,
                      uint32_t *parses, size_t, size_t *index, size_t, uint32_t *store, size_t, uint32_t *rows, size_t, uint32_t *answer, size_t);
 
 static const uint8_t book[] = {
@@ -23,7 +23,7 @@ static double now(void) {
 }
 
 static void call(const char *text, size_t size) {
-    midgebillon_try(book, sizeof book, (const uint8_t *)text, size, 0, 1000000, cells, 12288, parses, 256, index_of_book, 1091, store, 17408, rows,
+    reader_read_in(book, sizeof book, (const uint8_t *)text, size, 0, 1000000, cells, 12288, parses, 256, index_of_book, 1091, store, 17408, rows,
                     104922, answer, 7);
 }
 

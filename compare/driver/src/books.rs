@@ -1,0 +1,137 @@
+//! Random books: every step kind, mark, level and associativity; direct, indirect and hidden left recursion; variants without steps.
+use crate::random::Random;
+use oracle::book::{Book, Entry, Nonterminal, Step, Variant, BOTH, CLAIMS, COMMITTED, DEFAULT_LEVEL, IDENTIFIER, PASSING, PLAIN};
+
+/// Characters of books: operators, brackets, and some that are also parts of tokens, of comments or of lists.
+pub const CHARACTERS: &[u8] = b"-+*-+*()[],;=!/1a";
+
+/// Spellings of words and names; some are both, and some are the beginning of another.
+pub const SPELLINGS: &[&str] = &["a", "b", "ab", "x", "if", "in", "_", "a1"];
+
+pub fn book(random: &mut Random) -> Book {
+    let most = if random.one_in(4) { 5 } else { 3 };
+    let nonterminals = random.between(1, most);
+    let mut book = Book { words: entries(random, 2), names: entries(random, 3), nonterminals: vec![] };
+    for n in 0..nonterminals {
+        let nonterminal = nonterminal(random, &book, n, nonterminals);
+        book.nonterminals.push(nonterminal);
+    }
+    book
+}
+
+fn entries(random: &mut Random, labels: usize) -> Vec<Entry> {
+    let count = if random.one_in(2) { 0 } else { random.between(1, 4) };
+    (0..count).map(|_| Entry { label: random.below(labels) as u8, spelling: random.pick(SPELLINGS).into() }).collect()
+}
+
+fn nonterminal(random: &mut Random, book: &Book, n: usize, of: usize) -> Nonterminal {
+    let mark = match random.below(12) {
+        0 | 1 => CLAIMS,
+        2 if n > 0 || random.one_in(8) => IDENTIFIER,
+        3 if n > 0 && !book.names.is_empty() => IDENTIFIER,
+        _ => PLAIN,
+    };
+    if mark == IDENTIFIER || random.one_in(60) {
+        return Nonterminal { mark, variants: vec![] };
+    }
+    let count = random.between(1, 4);
+    let mut variants: Vec<Variant> = (0..count).map(|_| variant(random, book, n, of)).collect();
+    if !random.one_in(6) {
+        // something that ends, so that most nonterminals have a derivation
+        let at = random.below(variants.len() + 1);
+        let steps = vec![token(random, book)];
+        variants.insert(at, with_precedence(random, steps));
+    }
+    Nonterminal { mark, variants }
+}
+
+fn variant(random: &mut Random, book: &Book, n: usize, of: usize) -> Variant {
+    let this = n as u8;
+    let any = random.below(of) as u8;
+    let operator = [0, random.byte(CHARACTERS), 0, 0];
+    let use_of = |a: u8| [8, a, 0, 0];
+    let steps = match random.below(16) {
+        0..=3 => vec![use_of(this), operator, use_of(this)],
+        4 => vec![use_of(any), operator, use_of(this)],
+        5 => vec![operator, use_of(any)],
+        6 => vec![use_of(this), operator],
+        7 => vec![[0, b'(', 0, 0], use_of(any), [0, b')', 0, 0]],
+        8 | 9 => vec![use_of(any)],
+        10 => vec![may_be_empty(random, of), use_of(this), operator, use_of(any)],
+        11 => vec![may_be_empty(random, of), use_of(any)],
+        12 if random.one_in(3) => vec![],
+        _ => (0..random.between(1, 4)).map(|_| step(random, book, of)).collect(),
+    };
+    let mut variant = with_precedence(random, steps);
+    if matches!(variant.steps[..], [[8, ..]]) && random.one_in(2) {
+        variant.flags |= PASSING;
+    }
+    variant
+}
+
+fn with_precedence(random: &mut Random, steps: Vec<Step>) -> Variant {
+    let level = match random.below(8) {
+        0..=2 => DEFAULT_LEVEL,
+        3 => 254,
+        _ => random.below(4) as u8,
+    };
+    let associativity = if level == DEFAULT_LEVEL { BOTH } else { random.below(4) as u8 };
+    let flags = if random.one_in(4) { 0 } else { COMMITTED };
+    Variant { level, associativity, flags, steps }
+}
+
+/// A step that can take nothing: what follows it is hidden left recursion, if it is a use.
+fn may_be_empty(random: &mut Random, of: usize) -> Step {
+    let a = random.below(of) as u8;
+    match random.below(7) {
+        0 => [9, a, 0, 0],
+        1 => [10, a, 0, 0],
+        2 => [11, a, 0, 0],
+        3 => [13, a, b'(', b')'],
+        4 => [6, 0, 0, 0],
+        5 => [7, 0, 0, 0],
+        _ => [8, a, 0, 0],
+    }
+}
+
+fn token(random: &mut Random, book: &Book) -> Step {
+    match random.below(9) {
+        0..=2 => [3, 0, 0, 0],
+        3 | 4 => [2, 0, 0, 0],
+        5 => [4, 0, 0, 0],
+        6 => [5, random.below(3) as u8, 0, 0],
+        7 if !book.words.is_empty() => [1, random.below(book.words.len()) as u8, 0, 0],
+        _ => [0, random.byte(CHARACTERS), 0, 0],
+    }
+}
+
+fn step(random: &mut Random, book: &Book, of: usize) -> Step {
+    let a = random.below(of) as u8;
+    match random.below(14) {
+        kind @ 8..=11 => [kind as u8, a, 0, 0],
+        kind @ 12..=13 => {
+            let [open, close] = *random.pick(&[b"()", b"[]", b"--", b"<>"]);
+            [kind as u8, a, open, close]
+        }
+        kind @ 6..=7 => [kind as u8, 0, 0, 0],
+        _ => token(random, book),
+    }
+}
+
+/// A copy with some bytes changed, taken out or put in.
+pub fn damaged(random: &mut Random, book: &[u8]) -> Vec<u8> {
+    let mut bytes = book.to_vec();
+    for _ in 0..random.between(1, 2) {
+        let at = random.below(bytes.len());
+        match random.below(6) {
+            0 => drop(bytes.remove(at)),
+            1 => bytes.insert(at, random.below(256) as u8),
+            2 => bytes[at] = random.below(256) as u8,
+            _ => bytes[at] = random.below(16) as u8,
+        }
+        if bytes.is_empty() {
+            bytes.push(0);
+        }
+    }
+    bytes
+}

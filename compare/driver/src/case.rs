@@ -1,0 +1,62 @@
+//! One case: a call of the reader, and what the comparison with the Rust says.
+use crate::reader::Reader;
+use crate::worker::{Without, Worker};
+use oracle::answer::Answer;
+use oracle::book::Book;
+
+#[derive(Clone, Debug, PartialEq)]
+pub struct Case {
+    pub book: Vec<u8>,
+    pub text: Vec<u8>,
+    pub start: u32,
+    pub allowance: u32,
+}
+
+#[derive(Clone, Debug, PartialEq)]
+pub enum Verdict {
+    Equal(Answer),
+    Different { reader: Answer, rust: Answer },
+    /// The reader met a limit, 20 to 23.
+    Limit(u32),
+    /// The reader refused the call, the book or the text, 1 to 11; the Rust has no such check.
+    Refused(u32),
+    WithoutAnswer(Without),
+}
+
+/// Both sides.
+pub struct Sides {
+    pub reader: Reader,
+    pub worker: Worker,
+}
+
+impl Sides {
+    pub fn new() -> Sides {
+        Sides { reader: Reader::new(), worker: Worker::default() }
+    }
+
+    pub fn judge(&mut self, case: &Case) -> Verdict {
+        match self.reader.call(&case.book, &case.text, case.start, case.allowance) {
+            refusal @ 1..=11 => return Verdict::Refused(refusal),
+            refusal @ 20..=23 => return Verdict::Limit(refusal),
+            _ => (),
+        }
+        let reader = self.reader.answer(&Book::of(&case.book), &case.text).sorted();
+        match self.worker.answer(&case.book, &case.text, case.start) {
+            Err(why) => Verdict::WithoutAnswer(why),
+            Ok(rust) => {
+                let rust = rust.sorted();
+                if rust == reader { Verdict::Equal(rust) } else { Verdict::Different { reader, rust } }
+            }
+        }
+    }
+}
+
+pub fn hexadecimal(bytes: &[u8]) -> String {
+    bytes.iter().map(|b| format!("{b:02X}")).collect()
+}
+
+/// The bytes of hexadecimal digits, with or without spaces between them.
+pub fn of_hexadecimal(digits: &str) -> Vec<u8> {
+    let digits: Vec<u8> = digits.bytes().filter(|b| !b.is_ascii_whitespace()).map(|b| (b as char).to_digit(16).expect("a digit") as u8).collect();
+    digits.chunks(2).map(|pair| pair[0] << 4 | pair[1]).collect()
+}

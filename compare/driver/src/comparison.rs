@@ -1,0 +1,118 @@
+//! The comparison: cases of every sort, both sides on each, and the counts.
+use crate::case::{hexadecimal, Case, Sides, Verdict};
+use crate::random::Random;
+use crate::reader::MOST_WORK;
+use crate::{books, fixed, shrink, texts};
+use oracle::book::Book;
+use std::collections::BTreeMap;
+
+/// Random cases spend at most this: most that spend more are endless, and would only take time.
+const SMALL_ALLOWANCE: u32 = 50_000;
+
+/// How many cases that differ are shown.
+const SHOWN: usize = 10;
+
+/// A random case. Of sixteen: one is of a damaged book, one is long.
+pub fn random_case(seed: u64, number: u64) -> Case {
+    let mut random = Random::new(seed, number);
+    match random.below(16) {
+        0 => {
+            let case = common(&mut random);
+            Case { book: books::damaged(&mut random, &case.book), ..case }
+        }
+        1 => {
+            let books = fixed::long();
+            let (book, operators) = &books[random.below(books.len())];
+            Case { book: book.clone(), text: texts::long(&mut random, operators), start: 0, allowance: MOST_WORK }
+        }
+        _ => common(&mut random),
+    }
+}
+
+fn common(random: &mut Random) -> Case {
+    let book = books::book(random);
+    let start = if random.one_in(4) { random.below(book.nonterminals.len()) } else { 0 };
+    let text = texts::text(random, &book, start);
+    Case { book: book.bytes(), text, start: start as u32, allowance: SMALL_ALLOWANCE }
+}
+
+#[derive(Default)]
+pub struct Counts {
+    equal: BTreeMap<u32, usize>,
+    different: usize,
+    limit: BTreeMap<u32, usize>,
+    refused: BTreeMap<u32, usize>,
+    without: BTreeMap<crate::worker::Without, usize>,
+    step_kinds: BTreeMap<u8, usize>,
+    most_parses: usize,
+}
+
+impl Counts {
+    fn count(&mut self, case: &Case, verdict: &Verdict) {
+        match verdict {
+            Verdict::Equal(answer) => {
+                *self.equal.entry(answer.refusal).or_default() += 1;
+                self.most_parses = self.most_parses.max(answer.parses.len());
+                for kind in kinds(&case.book) {
+                    *self.step_kinds.entry(kind).or_default() += 1;
+                }
+            }
+            Verdict::Different { .. } => self.different += 1,
+            Verdict::Limit(limit) => *self.limit.entry(*limit).or_default() += 1,
+            Verdict::Refused(refusal) => *self.refused.entry(*refusal).or_default() += 1,
+            Verdict::WithoutAnswer(why) => *self.without.entry(*why).or_default() += 1,
+        }
+    }
+
+    pub fn differ(&self) -> bool {
+        self.different > 0
+    }
+
+    pub fn print(&self) {
+        let sum = |counts: &BTreeMap<u32, usize>| counts.values().sum::<usize>();
+        println!("equal                   {:>7}  by refusal {:?}", sum(&self.equal), self.equal);
+        println!("different               {:>7}", self.different);
+        println!("limit met               {:>7}  {:?}", sum(&self.limit), self.limit);
+        println!("Rust without an answer  {:>7}  {:?}", self.without.values().sum::<usize>(), self.without);
+        println!("book or text refused    {:>7}  {:?}", sum(&self.refused), self.refused);
+        println!("of the equal ones, books with each step kind {:?}; at most {} parses", self.step_kinds, self.most_parses);
+    }
+}
+
+/// The step kinds of a book, each once.
+fn kinds(book: &[u8]) -> std::collections::BTreeSet<u8> {
+    Book::of(book).nonterminals.iter().flat_map(|n| &n.variants).flat_map(|v| &v.steps).map(|s| s[0]).collect()
+}
+
+pub fn compare(sides: &mut Sides, cases: impl Iterator<Item = Case>, counts: &mut Counts) {
+    for case in cases {
+        let verdict = sides.judge(&case);
+        counts.count(&case, &verdict);
+        match verdict {
+            Verdict::Different { .. } if counts.different <= SHOWN => {
+                let smallest = shrink::smallest(sides, &case);
+                show("different", &smallest);
+                if let Verdict::Different { reader, rust } = sides.judge(&smallest) {
+                    println!("  reader {reader:?}\n  Rust   {rust:?}");
+                }
+            }
+            Verdict::WithoutAnswer(why) => show(&format!("{why:?}"), &case),
+            _ => (),
+        }
+    }
+}
+
+fn show(what: &str, case: &Case) {
+    println!("{what}: start {} book {} text {:?}", case.start, hexadecimal(&case.book), String::from_utf8_lossy(&case.text));
+}
+
+/// Rows, all short texts of some books, and random cases.
+pub fn whole(seed: u64, random: u64) -> Counts {
+    let (mut sides, mut counts) = (Sides::new(), Counts::default());
+    compare(&mut sides, fixed::rows().into_iter(), &mut counts);
+    for exhaustive in fixed::EXHAUSTIVE {
+        compare(&mut sides, exhaustive.cases(), &mut counts);
+    }
+    compare(&mut sides, (0..random).map(|number| random_case(seed, number)), &mut counts);
+    counts
+}

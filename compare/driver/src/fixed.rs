@@ -1,0 +1,78 @@
+//! Books and texts that are not random: document 01's rows, and books whose short texts are all compared.
+use crate::case::{of_hexadecimal, Case};
+use crate::reader::MOST_WORK;
+
+const EXAMPLE_STEPS: &str = "0A 03000000 08000000 002D0000 08000000 08000000 002A0000 08000000 00280000 08000000 00290000";
+
+/// Document 01's example book, with minus of some associativity.
+pub fn example(minus: u8) -> Vec<u8> {
+    of_hexadecimal(&format!("00 00 01 00 04 04 FF030101 01{minus:02X}0103 02000103 FF030103 {EXAMPLE_STEPS}"))
+}
+
+/// Rows 1 to 12 and "More".
+pub fn rows() -> Vec<Case> {
+    let case = |book: &[u8], text: &str| Case { book: book.to_vec(), text: text.into(), start: 0, allowance: MOST_WORK };
+    let mut cases = Vec::new();
+    for text in ["1-2-3", "1-2*3", "1*2-3", "1//", "1-", "", "(1", "1 2", "(18446744073709551616", "18446744073709551615", "(1-2)-3-(4)"] {
+        cases.push(case(&example(0), text));
+    }
+    for minus in 1..=3 {
+        cases.push(case(&example(minus), "1-2-3"));
+    }
+    // the example book with a level-1 Left passing variant of its own nonterminal
+    cases.push(case(&of_hexadecimal("00 00 01 00 02 02 FF030101 01000301 02 03000000 08000000"), "1"));
+    cases.push(case(&example(0), &format!("1{}", " ".repeat(4095))));
+    cases.push(case(&example(0), &format!("{}1", "0".repeat(4095))));
+    cases.push(case(&example(0), &format!("1//{}", "-".repeat(4093))));
+    cases
+}
+
+/// A book whose texts up to some length, over an alphabet, are all compared.
+pub struct Exhaustive {
+    pub book: &'static str,
+    pub alphabet: &'static [u8],
+    pub longest: usize,
+}
+
+pub const EXHAUSTIVE: &[Exhaustive] = &[
+    // the example book, with tokens and with skipped text
+    Exhaustive { book: "000001000404FF03010101000103020001 03FF030103 0A 03000000 08000000 002D0000 08000000 08000000 002A0000 08000000 00280000 08000000 00290000", alphabet: b"1-*()", longest: 6 },
+    Exhaustive { book: "000001000404FF03010101000103020001 03FF030103 0A 03000000 08000000 002D0000 08000000 08000000 002A0000 08000000 00280000 08000000 00290000", alphabet: b"1-/ \n", longest: 6 },
+    // minus Right, None and Both at one level
+    Exhaustive { book: "00 00 01 00 04 04 FF030101 01010103 01020103 01030103 0A 03000000 08000000 002D0000 08000000 08000000 002B0000 08000000 08000000 002A0000 08000000", alphabet: b"1-+*", longest: 7 },
+    // indirect left recursion: 0 is 1 `-` 0 or a number; 1 is 0 `+` or, passing, 0
+    Exhaustive { book: "00 00 02 00 02 00 02 04 01000103 FF030101 02000102 01000301 07 08010000 002D0000 08000000 03000000 08000000 002B0000 08000000", alphabet: b"1-+ ", longest: 6 },
+    // hidden left recursion: 0 is many 1, 0 `-`, number or a number; 1 is `+`
+    Exhaustive { book: "00 00 02 00 02 00 01 03 01000104 FF030101 FF030101 06 0A010000 08000000 002D0000 03000000 03000000 002B0000", alphabet: b"1-+", longest: 7 },
+    // an optional 0 before a use of 0
+    Exhaustive { book: "00 00 01 00 02 02 01000103 FF030101 04 09000000 002D0000 08000000 03000000", alphabet: b"1- ", longest: 8 },
+    // a comma list, a delimited list and an optional delimited list of numbers, and a minus behind
+    Exhaustive { book: "00 00 02 00 03 00 01 04 01030102 02030102 03030102 FF030101 07 0B010000 002D0000 0C01285B 002D0000 0D012829 002D0000 03000000", alphabet: b"1,-([)", longest: 6 },
+    // words, names, claims: 0 claims, and is an identifier nonterminal, a variable of kind 1, or a word and 0
+    Exhaustive { book: "02 01 01 69 00 01 62 02 01 01 61 00 01 62 02 01 03 02 00 03 FF030301 01030101 02000102 04 08010000 05010000 01000000 08000000", alphabet: b"aib ", longest: 7 },
+    // reject_variable and reserved words before an identifier, a variable of any kind, uncommitted
+    Exhaustive { book: "01 01 01 69 01 02 01 61 01 00 03 03 FF030003 01030102 02030102 07 06000000 07000000 02000000 04000000 002D0000 07000000 08000000", alphabet: b"ai-1", longest: 6 },
+    // a variant without steps, and lists of it
+    Exhaustive { book: "00 00 02 00 02 00 02 04 01030103 02030102 FF030100 FF030101 06 08010000 002D0000 08010000 002B0000 09010000 03000000", alphabet: b"1-+ /", longest: 6 },
+];
+
+impl Exhaustive {
+    pub fn cases(&self) -> impl Iterator<Item = Case> + '_ {
+        let book = of_hexadecimal(self.book);
+        let texts = (0..=self.longest).flat_map(|length| (0..self.alphabet.len().pow(length as u32)).map(move |number| (length, number)));
+        texts.map(move |(length, number)| Case { book: book.clone(), text: self.text(length, number), start: 0, allowance: MOST_WORK })
+    }
+
+    fn text(&self, length: usize, number: usize) -> Vec<u8> {
+        let base = self.alphabet.len();
+        (0..length).map(|i| self.alphabet[number / base.pow(i as u32) % base]).collect()
+    }
+}
+
+/// Books for long texts, each with the operators between its numbers.
+pub fn long() -> Vec<(Vec<u8>, &'static [u8])> {
+    let lists = "00 00 02 00 02 00 02 04 FF030101 FF030101 FF030101 FF030103 06 0B010000 0A010000 03000000 00280000 08000000 00290000";
+    let mut books: Vec<(Vec<u8>, &'static [u8])> = (0..3).map(|minus| (example(minus), &b"-*"[..])).collect();
+    books.push((of_hexadecimal(lists), b",, "));
+    books
+}

@@ -1,0 +1,97 @@
+//! The reader, compiled from its crates (build.rs), and its answers with the cells read as values.
+use oracle::answer::{Answer, Parse};
+use oracle::book::Book;
+use oracle::value::Value;
+
+const CELLS: usize = 12288;
+const PARSES: usize = 256;
+const INDEX: usize = 1091;
+const STORE: usize = 17408;
+const ROWS: usize = 104922;
+
+pub const MOST_WORK: u32 = 1_000_000;
+
+extern "C" {
+    // tools/replay/exported.rt.txt; a slice is a pointer and a length
+    #[rustfmt::skip]
+    fn reader_read_in(
+        book: *const u8, book_len: usize, text: *const u8, text_len: usize, start: u32, allowance: u32,
+        cells: *mut u32, cells_len: usize, parses: *mut u32, parses_len: usize, index: *mut usize, index_len: usize,
+        store: *mut u32, store_len: usize, rows: *mut u32, rows_len: usize, answer: *mut u32, answer_len: usize,
+    );
+}
+
+/// Both lists, the working memory and the answer's seven numbers.
+pub struct Reader {
+    cells: Vec<u32>,
+    parses: Vec<u32>,
+    index: Vec<usize>,
+    store: Vec<u32>,
+    rows: Vec<u32>,
+    numbers: [u32; 7],
+}
+
+impl Reader {
+    pub fn new() -> Self {
+        let numbers = [0; 7];
+        Reader { cells: vec![0; CELLS], parses: vec![0; PARSES], index: vec![0; INDEX], store: vec![0; STORE], rows: vec![0; ROWS], numbers }
+    }
+
+    /// One call; the refusal.
+    #[rustfmt::skip]
+    pub fn call(&mut self, book: &[u8], text: &[u8], start: u32, allowance: u32) -> u32 {
+        // Safety: each pointer is that of a slice with the length beside it, and no two overlap.
+        unsafe {
+            reader_read_in(
+                book.as_ptr(), book.len(), text.as_ptr(), text.len(), start, allowance,
+                self.cells.as_mut_ptr(), CELLS, self.parses.as_mut_ptr(), PARSES, self.index.as_mut_ptr(), INDEX,
+                self.store.as_mut_ptr(), STORE, self.rows.as_mut_ptr(), ROWS, self.numbers.as_mut_ptr(), self.numbers.len(),
+            );
+        }
+        self.numbers[0]
+    }
+
+    pub fn work(&self) -> u32 {
+        self.numbers[4]
+    }
+
+    /// The last call's answer, for a text of an accepted book.
+    pub fn answer(&self, book: &Book, text: &[u8]) -> Answer {
+        let [refusal, place, _, _, _, count, value] = self.numbers;
+        let parses = self.parses[..4 * count as usize].chunks(4);
+        Answer {
+            refusal,
+            place: if refusal == 30 { place } else { 0 },
+            parses: parses.map(|p| Parse { rest: p[0], level: p[1], associativity: p[2], value: self.value(text, p[3]).exact() }).collect(),
+            value: if refusal == 0 { self.value(text, value).printed(book) } else { String::new() },
+        }
+    }
+
+    /// What a cell stands for.
+    fn value(&self, text: &[u8], cell: u32) -> Value {
+        let at = 3 * cell as usize - 3;
+        let (form, a, b) = (self.cells[at], self.cells[at + 1], self.cells[at + 2]);
+        match form {
+            3 => Value::Variant(a, self.items(text, b).into()),
+            4 => Value::Name(String::from_utf8_lossy(&text[a as usize..(a + b) as usize]).into()),
+            5 => Value::Number((a as u64) << 32 | b as u64),
+            6 => Value::Variable { name: a, kind: b },
+            7 => Value::Absent,
+            8 => Value::List(self.items(text, a).into()),
+            _ => panic!("cell {cell} of form {form} is no value"),
+        }
+    }
+
+    /// The items of a chain, which is linked from its last item to the first.
+    fn items(&self, text: &[u8], chain: u32) -> Vec<Value> {
+        let mut items = Vec::new();
+        let mut at = 3 * chain as usize - 3;
+        while self.cells[at] == 2 {
+            items.push(self.value(text, self.cells[at + 2]));
+            at = 3 * self.cells[at + 1] as usize - 3;
+        }
+        assert_eq!(self.cells[at], 1, "a chain ends with the empty one");
+        items.reverse();
+        items
+    }
+}

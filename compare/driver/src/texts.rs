@@ -1,0 +1,199 @@
+//! Random texts for a book: from its derivations, from its tokens, damaged, with whitespace and comments anywhere, and long ones.
+use crate::books::{CHARACTERS, SPELLINGS};
+use crate::random::Random;
+use oracle::book::{Book, IDENTIFIER};
+
+const NUMBERS: &[&str] = &["0", "1", "2", "12", "007", "18446744073709551615", "18446744073709551616"];
+const GAPS: &[&str] = &[" ", "  ", "\n", "\t", "//\n", " // c\n ", "\x0b\x0c\r", "// 1 - //\n//\n"];
+const ENDS: &[&str] = &["", "", "", " ", "\n", "//", " // end", "/", "//\n", "\n//x\n "];
+
+/// The longest text that the reader takes.
+pub const LONGEST: usize = 4096;
+
+pub fn text(random: &mut Random, book: &Book, start: usize) -> Vec<u8> {
+    let tokens = match random.below(8) {
+        0 => (0..random.below(8)).map(|_| any_token(random, book)).collect(),
+        _ => derived(random, book, start),
+    };
+    let mut text = joined(random, &tokens);
+    if random.one_in(3) {
+        damage(random, &mut text);
+    }
+    text.truncate(LONGEST);
+    text
+}
+
+/// The tokens with gaps between some, and perhaps a gap before and behind.
+fn joined(random: &mut Random, tokens: &[String]) -> Vec<u8> {
+    let often = random.between(2, 8);
+    let mut text = String::new();
+    for token in tokens {
+        let apart = text.ends_with(is_wordy) && token.starts_with(is_wordy);
+        if random.one_in(often) || (apart && !random.one_in(8)) {
+            text += random.pick(GAPS);
+        }
+        text += token;
+    }
+    text += random.pick(ENDS);
+    text.into_bytes()
+}
+
+fn is_wordy(c: char) -> bool {
+    c.is_ascii_alphanumeric() || c == '_'
+}
+
+fn damage(random: &mut Random, text: &mut Vec<u8>) {
+    for _ in 0..random.between(1, 3) {
+        let at = random.below(text.len() + 1);
+        match random.below(4) {
+            0 => text.insert(at, random.byte(CHARACTERS)),
+            1 => text.insert(at, random.byte(b" \n/1a_(,")),
+            2 if at < text.len() => drop(text.remove(at)),
+            _ if at < text.len() => text[at] = random.byte(CHARACTERS),
+            _ => (),
+        }
+    }
+}
+
+fn number(random: &mut Random) -> String {
+    let common = if random.one_in(12) { NUMBERS.len() } else { 4 };
+    random.pick(&NUMBERS[..common]).to_string()
+}
+
+fn any_token(random: &mut Random, book: &Book) -> String {
+    match random.below(6) {
+        0 => number(random),
+        1 => spelling(random, book),
+        _ => {
+            let steps: Vec<_> = book.nonterminals.iter().flat_map(|n| &n.variants).flat_map(|v| &v.steps).collect();
+            match steps.get(random.below(steps.len() + 1)) {
+                Some([0, a, ..]) => (*a as char).to_string(),
+                Some([12 | 13, _, b, c]) => (if random.one_in(2) { *b } else { *c } as char).to_string(),
+                Some([3, ..]) => number(random),
+                _ => spelling(random, book),
+            }
+        }
+    }
+}
+
+fn spelling(random: &mut Random, book: &Book) -> String {
+    let known: Vec<&str> = book.names.iter().chain(&book.words).map(|e| e.spelling.as_str()).collect();
+    if known.is_empty() || random.one_in(3) { random.pick(SPELLINGS).into() } else { random.pick(&known).into() }
+}
+
+/// Tokens of a random derivation, cut off where it grows too deep.
+fn derived(random: &mut Random, book: &Book, start: usize) -> Vec<String> {
+    let mut tokens = Vec::new();
+    let deepest = random.between(2, 7);
+    use_of(random, book, start, deepest, &mut tokens);
+    tokens
+}
+
+const MOST_TOKENS: usize = 40;
+
+fn use_of(random: &mut Random, book: &Book, n: usize, depth: usize, tokens: &mut Vec<String>) {
+    let nonterminal = &book.nonterminals[n];
+    if nonterminal.mark == IDENTIFIER {
+        return tokens.push(spelling(random, book));
+    }
+    if nonterminal.variants.is_empty() || tokens.len() > MOST_TOKENS {
+        return;
+    }
+    // few uses where little depth is left
+    let uses = |v: usize| nonterminal.variants[v].steps.iter().filter(|s| s[0] >= 8).count();
+    let mut chosen = random.below(nonterminal.variants.len());
+    for _ in 0..if depth < 2 { 4 } else { 1 } {
+        let other = random.below(nonterminal.variants.len());
+        if depth < 3 && uses(other) < uses(chosen) {
+            chosen = other;
+        }
+    }
+    if depth == 0 && uses(chosen) > 0 {
+        return;
+    }
+    for step in &nonterminal.variants[chosen].steps {
+        take(random, book, step, depth, tokens);
+    }
+}
+
+fn take(random: &mut Random, book: &Book, step: &[u8; 4], depth: usize, tokens: &mut Vec<String>) {
+    let [kind, a, b, c] = *step;
+    let character = |c: u8| (c as char).to_string();
+    let child = |random: &mut Random, tokens: &mut Vec<String>| use_of(random, book, a as usize, depth.saturating_sub(1), tokens);
+    match kind {
+        0 => tokens.push(character(a)),
+        1 => tokens.push(book.words[a as usize].spelling.clone()),
+        2 | 4 | 5 => tokens.push(spelling(random, book)),
+        3 => tokens.push(number(random)),
+        8 => child(random, tokens),
+        9 if random.one_in(2) => child(random, tokens),
+        10 => (0..random.below(4)).for_each(|_| child(random, tokens)),
+        11 | 12 | 13 => {
+            let delimited = kind == 12 || kind == 13 && random.one_in(2);
+            if kind == 13 && !delimited {
+                return;
+            }
+            if delimited {
+                tokens.push(character(b));
+            }
+            let count = random.below(4);
+            for i in 0..count {
+                child(random, tokens);
+                if i + 1 < count || random.one_in(4) {
+                    tokens.push(",".into());
+                }
+            }
+            if delimited {
+                tokens.push(character(c));
+            }
+        }
+        _ => (),
+    }
+}
+
+/// A long text: many operators, many list elements, deep parentheses or long stretches of skipped text, for the books of `fixed::long`.
+pub fn long(random: &mut Random, operators: &[u8]) -> Vec<u8> {
+    let mut text = Vec::new();
+    let terms = random.between(1, 40);
+    let mut open = 0;
+    for i in 0..terms {
+        while random.one_in(3) && open < 20 {
+            text.push(b'(');
+            open += 1;
+        }
+        padding(random, &mut text);
+        text.extend(number(random).bytes());
+        while open > 0 && random.one_in(3) {
+            text.push(b')');
+            open -= 1;
+        }
+        padding(random, &mut text);
+        if i + 1 < terms {
+            text.push(random.byte(operators));
+        }
+    }
+    text.extend(std::iter::repeat_n(b')', open));
+    if random.one_in(6) {
+        damage(random, &mut text);
+    }
+    if random.one_in(4) && text.len() < LONGEST {
+        // up to the last byte that fits
+        let size = LONGEST - text.len();
+        text.extend(std::iter::repeat_n(random.byte(b" \n"), size));
+    }
+    text.truncate(LONGEST);
+    text
+}
+
+fn padding(random: &mut Random, text: &mut Vec<u8>) {
+    match random.below(12) {
+        0 => text.extend(std::iter::repeat_n(random.byte(b" \n\t\r"), random.below(200))),
+        1 => {
+            text.extend(b"//");
+            text.extend(std::iter::repeat_n(b'/', random.below(200)));
+            text.push(b'\n');
+        }
+        2 => text.extend(random.pick(GAPS).bytes()),
+        _ => (),
+    }
+}

@@ -1,0 +1,311 @@
+//! A book as a grammar of the Rust: one type for each nonterminal number, and each step by the Rust's own method.
+use crate::book::{self, Book, Step};
+use crate::value::Value;
+use formality_core::fold::{CoreFold, SubstitutionFn};
+use formality_core::language::{HasKind, Language};
+use formality_core::parse::{ActiveVariant, Binding, CoreParse, CoreParseBinding, ParseResult, Parser, Precedence, Scope};
+use formality_core::term::CoreTerm;
+use formality_core::variable::{CoreBoundVar, CoreExistentialVar, CoreUniversalVar, CoreVariable, VarIndex};
+use formality_core::visit::CoreVisit;
+use formality_core::{cast_impl, UpcastFrom};
+use std::cell::RefCell;
+use std::rc::Rc;
+
+type Variable = CoreVariable<Books>;
+
+thread_local! {
+    static BOOK: RefCell<Rc<Book>> = RefCell::default();
+}
+
+/// Makes a book the grammar of this thread, and its reserved words those of the language.
+pub fn set_book(book: &Rc<Book>) {
+    set_keywords(book);
+    BOOK.set(book.clone());
+}
+
+/// The book's starting names as the scope's bindings.
+pub fn bindings(book: &Book) -> Vec<(String, Variable)> {
+    let variable = |(index, name): (usize, &book::Entry)| {
+        let variable = CoreUniversalVar { kind: Kind(name.label), var_index: VarIndex { index } };
+        (name.spelling.clone(), CoreVariable::UniversalVar(variable))
+    };
+    book.names.iter().enumerate().map(variable).collect()
+}
+
+pub fn precedence(variant: &book::Variant) -> Precedence {
+    let level = variant.level as usize;
+    match variant.associativity {
+        _ if variant.level == book::DEFAULT_LEVEL => Precedence::default(),
+        book::LEFT => Precedence::left(level),
+        book::RIGHT => Precedence::right(level),
+        book::NONE => Precedence::none(level),
+        _ => Precedence::both(level),
+    }
+}
+
+/// The level's number in document 01.
+pub fn level(precedence: Precedence) -> u32 {
+    let default = Precedence::default().level();
+    if precedence.level() == default { book::DEFAULT_LEVEL as u32 } else { precedence.level() as u32 }
+}
+
+// ---- The language
+#[derive(Copy, Clone, PartialEq, Eq, PartialOrd, Ord, Hash, Debug, Default)]
+pub struct Books;
+
+/// A book has at most 64 words. An empty string is no identifier, so it reserves nothing.
+static mut KEYWORDS: [&str; 64] = [""; 64];
+
+impl Language for Books {
+    const NAME: &'static str = "Books";
+    type Kind = Kind;
+    type Parameter = Parameter;
+    const BINDING_OPEN: char = '<';
+    const BINDING_CLOSE: char = '>';
+    // A constant of the Rust, whose words come from a book: so it refers to a table that is written before a parse begins, and never during one.
+    const KEYWORDS: &'static [&'static str] = unsafe { &*(&raw const KEYWORDS) };
+}
+
+fn set_keywords(book: &Book) {
+    let reserved = book.words.iter().filter(|w| w.label == 1).map(|w| kept(&w.spelling));
+    let mut table = [""; 64];
+    table.iter_mut().zip(reserved).for_each(|(place, word)| *place = word);
+    // Safety: one thread parses, and not now.
+    unsafe { *(&raw mut KEYWORDS) = table };
+}
+
+/// The same spelling, kept for good, once.
+fn kept(spelling: &str) -> &'static str {
+    thread_local! {
+        static KEPT: RefCell<std::collections::BTreeSet<&'static str>> = RefCell::default();
+    }
+    KEPT.with_borrow_mut(|kept| {
+        if !kept.contains(spelling) {
+            kept.insert(Box::leak(spelling.into()));
+        }
+        *kept.get(spelling).unwrap()
+    })
+}
+
+/// A name's kind, 0 to 7.
+#[derive(Copy, Clone, PartialEq, Eq, PartialOrd, Ord, Hash, Debug)]
+pub struct Kind(pub u8);
+
+cast_impl!(Kind);
+
+/// What a variable may be replaced by: a language must have it, and no book uses it.
+#[derive(Clone, PartialEq, Eq, PartialOrd, Ord, Hash, Debug)]
+pub struct Parameter(Variable);
+
+cast_impl!(Parameter);
+
+impl HasKind<Books> for Parameter {
+    fn kind(&self) -> Kind {
+        self.0.kind()
+    }
+}
+
+/// `parse_variable_name` has its body from the trait, which is `identifier`.
+impl CoreParseBinding<Books> for Parameter {
+    fn parse_binding<'t>(scope: &Scope<Books>, text: &'t str) -> ParseResult<'t, Binding<Books>> {
+        formality_core::parse::default_binding_parse(scope, text)
+    }
+}
+
+macro_rules! parameter_from {
+    ($($variable:ident),*) => {
+        $(impl UpcastFrom<$variable<Books>> for Parameter {
+            fn upcast_from(variable: $variable<Books>) -> Self {
+                Parameter(formality_core::Upcast::upcast(variable))
+            }
+        })*
+    };
+}
+
+parameter_from!(CoreVariable, CoreUniversalVar, CoreExistentialVar, CoreBoundVar);
+
+/// Kinds and parameters are terms, but no book has a step that reads one.
+macro_rules! unread_term {
+    ($($term:ident),*) => {
+        $(impl CoreVisit<Books> for $term {
+            fn free_variables(&self) -> Vec<Variable> {
+                vec![]
+            }
+
+            fn size(&self) -> usize {
+                1
+            }
+
+            fn assert_valid(&self) {}
+        }
+
+        impl CoreFold<Books> for $term {
+            type Output = Self;
+
+            fn substitute(&self, _: SubstitutionFn<'_, Books>) -> Self {
+                self.clone()
+            }
+        }
+
+        impl CoreParse<Books> for $term {
+            fn parse<'t>(scope: &Scope<Books>, text: &'t str) -> ParseResult<'t, Self> {
+                Parser::multi_variant(scope, text, stringify!($term), |_| {})
+            }
+        }
+
+        impl CoreTerm<Books> for $term {})*
+    };
+}
+
+unread_term!(Kind, Parameter);
+
+// ---- Nonterminals
+/// A value of nonterminal N. The number in the type makes each nonterminal's `TypeId` its own.
+#[derive(Clone, Debug, PartialEq, Eq, PartialOrd, Ord)]
+pub struct Nonterminal<const N: usize>(pub Value);
+
+impl<const N: usize> UpcastFrom<Nonterminal<N>> for Nonterminal<N> {
+    fn upcast_from(value: Self) -> Self {
+        value
+    }
+}
+
+impl<const N: usize> UpcastFrom<Value> for Nonterminal<N> {
+    fn upcast_from(value: Value) -> Self {
+        Nonterminal(value)
+    }
+}
+
+impl<const N: usize> From<String> for Nonterminal<N> {
+    fn from(spelling: String) -> Self {
+        Nonterminal(Value::Name(spelling.into()))
+    }
+}
+
+impl UpcastFrom<Value> for Value {
+    fn upcast_from(value: Value) -> Self {
+        value
+    }
+}
+
+impl<const N: usize> CoreParse<Books> for Nonterminal<N> {
+    fn parse<'t>(scope: &Scope<Books>, text: &'t str) -> ParseResult<'t, Self> {
+        let book = BOOK.with_borrow(Rc::clone);
+        let nonterminal = &book.nonterminals[N];
+        if nonterminal.mark == book::IDENTIFIER {
+            return Parser::identifier_nonterminal(scope, text, "identifier");
+        }
+        Parser::multi_variant(scope, text, "nonterminal", |parser| {
+            if nonterminal.mark == book::CLAIMS {
+                parser.try_claim_as_var();
+            }
+            let first = book.first_variant(N);
+            for (i, variant) in nonterminal.variants.iter().enumerate() {
+                let path = Path { book: &book, number: first + i, variant };
+                parser.parse_variant("variant", precedence(variant), |p| {
+                    p.set_committed(variant.flags & book::COMMITTED != 0);
+                    path.steps(p, &variant.steps, None)
+                });
+            }
+        })
+    }
+}
+
+/// A variant whose steps are taken, and its number.
+struct Path<'a> {
+    book: &'a Book,
+    number: usize,
+    variant: &'a book::Variant,
+}
+
+/// The items so far, last first.
+struct Items<'a> {
+    item: Value,
+    before: Option<&'a Items<'a>>,
+}
+
+/// Calls `$body` with the type of nonterminal `$n`.
+macro_rules! with_nonterminal {
+    ($n:expr, $T:ident => $body:expr) => {
+        with_nonterminal!(@ $n, $T, $body, 0 1 2 3 4 5 6 7 8 9 10 11 12 13 14 15 16 17 18 19 20 21 22 23 24 25 26 27 28 29 30 31)
+    };
+    (@ $n:expr, $T:ident, $body:expr, $($number:literal)*) => {
+        match $n {
+            $($number => {
+                type $T = crate::grammar::Nonterminal<$number>;
+                $body
+            })*
+            n => unreachable!("nonterminal {n}"),
+        }
+    };
+}
+
+pub(crate) use with_nonterminal;
+
+impl Path<'_> {
+    /// Takes the steps that are left, and ends the variant.
+    fn steps<'s, 't>(&self, p: &mut ActiveVariant<'s, 't, Books>, steps: &[Step], items: Option<&Items<'_>>) -> ParseResult<'t, Value> {
+        let Some(([kind, a, b, c], rest)) = steps.split_first() else {
+            return p.ok(self.value(items));
+        };
+        let (open, close) = (*b as char, *c as char);
+        match kind {
+            0 => p.expect_char(*a as char)?,
+            1 => p.expect_keyword(&self.book.words[*a as usize].spelling)?,
+            2 => return self.item(p, rest, items, |p| Ok(Value::Name(p.identifier()?.into()))),
+            3 => return self.item(p, rest, items, |p| Ok(Value::Number(p.number()?))),
+            4 => return self.item(p, rest, items, |p| Ok(variable(p.variable()?))),
+            5 => return self.item(p, rest, items, |p| Ok(variable(p.variable_of_kind(Kind(*a))?))),
+            6 => p.reject_variable()?,
+            7 => p.reject_custom_keywords(Books::KEYWORDS)?,
+            8 => return with_nonterminal!(*a, T => p.each_nonterminal(|t: T, p| self.added(p, rest, items, t.0))),
+            9 => {
+                let value = |t: Option<Value>| t.unwrap_or(Value::Absent);
+                return with_nonterminal!(*a, T => p.each_opt_nonterminal(|t: Option<T>, p| self.added(p, rest, items, value(t.map(|t| t.0)))));
+            }
+            10 => return with_nonterminal!(*a, T => p.each_many_nonterminal(|list: Vec<T>, p| self.added(p, rest, items, listed(list)))),
+            11 => return with_nonterminal!(*a, T => p.each_comma_nonterminal(|list: Vec<T>, p| self.added(p, rest, items, listed(list)))),
+            _ => {
+                let optional = *kind == 13;
+                return with_nonterminal!(*a, T => p.each_delimited_nonterminal(open, optional, close, |list: Vec<T>, p| self.added(p, rest, items, listed(list))));
+            }
+        }
+        self.steps(p, rest, items)
+    }
+
+    /// A token that is an item, and the steps behind it.
+    fn item<'s, 't>(
+        &self,
+        p: &mut ActiveVariant<'s, 't, Books>,
+        rest: &[Step],
+        items: Option<&Items<'_>>,
+        token: impl FnOnce(&mut ActiveVariant<'s, 't, Books>) -> Result<Value, formality_core::Set<formality_core::parse::ParseError<'t>>>,
+    ) -> ParseResult<'t, Value> {
+        let item = token(p)?;
+        self.added(p, rest, items, item)
+    }
+
+    /// The steps behind an item.
+    fn added<'s, 't>(&self, p: &mut ActiveVariant<'s, 't, Books>, rest: &[Step], items: Option<&Items<'_>>, item: Value) -> ParseResult<'t, Value> {
+        self.steps(p, rest, Some(&Items { item, before: items }))
+    }
+
+    /// The variant's value: its number and items, or, passing, its child's.
+    fn value(&self, items: Option<&Items<'_>>) -> Value {
+        if self.variant.flags & book::PASSING != 0 {
+            return items.expect("a passing variant has one child").item.clone();
+        }
+        let mut listed: Vec<Value> = std::iter::successors(items, |i| i.before).map(|i| i.item.clone()).collect();
+        listed.reverse();
+        Value::Variant(self.number as u32, listed.into())
+    }
+}
+
+fn variable(variable: Variable) -> Value {
+    let CoreVariable::UniversalVar(v) = variable else { unreachable!("the scope holds universal variables") };
+    Value::Variable { name: v.var_index.index as u32, kind: v.kind.0 as u32 }
+}
+
+fn listed<const N: usize>(list: Vec<Nonterminal<N>>) -> Value {
+    Value::List(list.into_iter().map(|t| t.0).collect())
+}
