@@ -6,21 +6,33 @@ use oracle::book::{Book, Entry, Nonterminal, Step, Variant, BOTH, CLAIMS, COMMIT
 pub const CHARACTERS: &[u8] = b"-+*-+*()[],;=!/1a";
 
 /// Spellings of words and names; some are both, and some are the beginning of another.
-pub const SPELLINGS: &[&str] = &["a", "b", "ab", "x", "if", "in", "_", "a1"];
+pub const SPELLINGS: &[&str] = &["a", "b", "ab", "x", "if", "in", "_", "a1", "a_long_spelling"];
 
 pub fn book(random: &mut Random) -> Book {
-    let most = if random.one_in(4) { 5 } else { 3 };
+    let most = match random.below(16) {
+        0 => 32,
+        1..=4 => 5,
+        _ => 3,
+    };
     let nonterminals = random.between(1, most);
     let mut book = Book { words: entries(random, 2), names: entries(random, 3), nonterminals: vec![] };
     for n in 0..nonterminals {
-        let nonterminal = nonterminal(random, &book, n, nonterminals);
+        let mut nonterminal = nonterminal(random, &book, n, nonterminals);
+        if nonterminals > 5 {
+            // a book has at most 128 variants and 255 steps
+            nonterminal.variants.truncate(2);
+        }
         book.nonterminals.push(nonterminal);
     }
     book
 }
 
 fn entries(random: &mut Random, labels: usize) -> Vec<Entry> {
-    let count = if random.one_in(2) { 0 } else { random.between(1, 4) };
+    let count = match random.below(40) {
+        0 => 64,
+        1..=20 => 0,
+        _ => random.between(1, 4),
+    };
     (0..count).map(|_| Entry { label: random.below(labels) as u8, spelling: random.pick(SPELLINGS).into() }).collect()
 }
 
@@ -60,6 +72,7 @@ fn variant(random: &mut Random, book: &Book, n: usize, of: usize) -> Variant {
         10 => vec![may_be_empty(random, of), use_of(this), operator, use_of(any)],
         11 => vec![may_be_empty(random, of), use_of(any)],
         12 if random.one_in(3) => vec![],
+        13 if random.one_in(4) => (0..8).map(|_| step(random, book, of)).collect(),
         _ => (0..random.between(1, 4)).map(|_| step(random, book, of)).collect(),
     };
     let mut variant = with_precedence(random, steps);
@@ -72,7 +85,7 @@ fn variant(random: &mut Random, book: &Book, n: usize, of: usize) -> Variant {
 fn with_precedence(random: &mut Random, steps: Vec<Step>) -> Variant {
     let level = match random.below(8) {
         0..=2 => DEFAULT_LEVEL,
-        3 => 254,
+        3 => random.below(255) as u8,
         _ => random.below(4) as u8,
     };
     let associativity = if level == DEFAULT_LEVEL { BOTH } else { random.below(4) as u8 };

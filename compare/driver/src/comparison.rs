@@ -107,12 +107,12 @@ fn show(what: &str, case: &Case) {
 }
 
 /// Rows, all short texts of some books, and random cases.
-pub fn whole(seed: u64, random: u64) -> Counts {
-    let (mut sides, mut counts) = (Sides::new(), Counts::default());
-    compare(&mut sides, fixed::rows().into_iter(), &mut counts);
+pub fn whole(sides: &mut Sides, seed: u64, random: u64) -> Counts {
+    let mut counts = Counts::default();
+    compare(sides, fixed::rows().into_iter(), &mut counts);
     for exhaustive in fixed::EXHAUSTIVE {
-        compare(&mut sides, exhaustive.cases(), &mut counts);
+        compare(sides, exhaustive.cases(), &mut counts);
     }
-    compare(&mut sides, (0..random).map(|number| random_case(seed, number)), &mut counts);
+    compare(sides, (0..random).map(|number| random_case(seed, number)), &mut counts);
     counts
 }

@@ -1,17 +1,24 @@
 //! Compares the reader with the Rust that it rewrites. See compare/README.md.
+mod bench;
 mod books;
 mod case;
 mod comparison;
 mod fixed;
+mod list;
 mod random;
 mod reader;
+mod self_test;
 mod shrink;
 mod texts;
 mod worker;
 
 use case::{of_hexadecimal, Case, Sides};
 
-const USAGE: &str = "compare all SEED CASES | compare case BOOK TEXT [START]";
+const USAGE: &str = "all SEED CASES        compares fixed cases and so many random ones
+case BOOK TEXT [START] compares one case; the book in hexadecimal
+vectors FILE..         compares the books and texts of files of vectors
+list SEED FILE         writes the fixed list with the Rust's answers
+bench SEED             times both sides on rules of the example book";
 
 fn main() {
     let words: Vec<String> = std::env::args().skip(1).collect();
@@ -19,6 +26,9 @@ fn main() {
     match words[..] {
         ["worker"] => worker::work(),
         ["all", seed, cases] => all(seed.parse().expect("a number"), cases.parse().expect("a number")),
+        ["list", seed, path] => list::write(&mut Sides::new(), seed.parse().expect("a number"), path),
+        ["vectors", ref files @ ..] => vectors(files),
+        ["bench", seed] => bench::run(seed.parse().expect("a number")),
         ["case", book, text] => one(book, text, 0),
         ["case", book, text, start] => one(book, text, start.parse().expect("a number")),
         _ => {
@@ -29,7 +39,31 @@ fn main() {
 }
 
 fn all(seed: u64, cases: u64) {
-    let counts = comparison::whole(seed, cases);
+    let mut sides = Sides::new();
+    self_test::run(&mut sides);
+    finish(comparison::whole(&mut sides, seed, cases));
+}
+
+/// Of each vector, one JSON object a line, its call alone.
+fn vectors(files: &[&str]) {
+    let mut counts = comparison::Counts::default();
+    for file in files {
+        let lines = std::fs::read_to_string(file).expect("a file of vectors");
+        comparison::compare(&mut Sides::new(), lines.lines().map(vector), &mut counts);
+    }
+    finish(counts);
+}
+
+fn vector(line: &str) -> Case {
+    let field = |name: &str| {
+        let after = line.split(&format!("\"{name}\":")).nth(1).expect(name);
+        after.split([',', '}']).next().unwrap().trim().trim_matches('"')
+    };
+    let number = |name| field(name).parse().expect("a number");
+    Case { book: of_hexadecimal(field("book")), text: of_hexadecimal(field("text")), start: number("start"), allowance: number("allowance") }
+}
+
+fn finish(counts: comparison::Counts) {
     counts.print();
     if counts.differ() {
         std::process::exit(1);

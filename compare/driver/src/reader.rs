@@ -37,6 +37,14 @@ impl Reader {
         Reader { cells: vec![0; CELLS], parses: vec![0; PARSES], index: vec![0; INDEX], store: vec![0; STORE], rows: vec![0; ROWS], numbers }
     }
 
+    /// Zeros in all lists and all working memory.
+    pub fn clear(&mut self) {
+        self.index.fill(0);
+        for list in [&mut self.cells, &mut self.parses, &mut self.store, &mut self.rows] {
+            list.fill(0);
+        }
+    }
+
     /// One call; the refusal.
     #[rustfmt::skip]
     pub fn call(&mut self, book: &[u8], text: &[u8], start: u32, allowance: u32) -> u32 {
@@ -49,6 +57,11 @@ impl Reader {
             );
         }
         self.numbers[0]
+    }
+
+    /// The rest, level and associativity of each parse, in the order of document 01.
+    pub fn parses(&self) -> Vec<[u32; 3]> {
+        self.parses[..4 * self.numbers[5] as usize].chunks(4).map(|p| [p[0], p[1], p[2]]).collect()
     }
 
     pub fn work(&self) -> u32 {

@@ -45,7 +45,8 @@ fn is_wordy(c: char) -> bool {
 fn damage(random: &mut Random, text: &mut Vec<u8>) {
     for _ in 0..random.between(1, 3) {
         let at = random.below(text.len() + 1);
-        match random.below(4) {
+        match random.below(5) {
+            0 if random.one_in(4) => text.insert(at, random.below(128) as u8),
             0 => text.insert(at, random.byte(CHARACTERS)),
             1 => text.insert(at, random.byte(b" \n/1a_(,")),
             2 if at < text.len() => drop(text.remove(at)),

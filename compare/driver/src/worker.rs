@@ -10,8 +10,11 @@ use std::time::Duration;
 /// The longest time for one text.
 const LIMIT: Duration = Duration::from_secs(10);
 
-/// Nesting of 200 takes a small part of it; endless nesting uses it up soon.
+/// Nesting of 200 takes a small part of it; endless nesting uses it up, or the memory.
 const STACK: usize = 64 << 20;
+
+/// The most memory of the process, in KiB.
+const MEMORY: usize = 2 << 20;
 
 /// Why the Rust has no answer.
 #[derive(Clone, Copy, Debug, PartialEq, Eq, PartialOrd, Ord)]
@@ -71,7 +74,8 @@ impl Drop for Worker {
 impl Process {
     fn begin() -> Process {
         let this = std::env::current_exe().expect("this program's path");
-        let begun = Command::new(this).arg("worker").stdin(Stdio::piped()).stdout(Stdio::piped()).stderr(Stdio::null()).spawn();
+        let limited = format!("ulimit -v {MEMORY} && exec \"$0\" worker");
+        let begun = Command::new("sh").arg("-c").arg(limited).arg(this).stdin(Stdio::piped()).stdout(Stdio::piped()).spawn();
         let mut child = begun.expect("a process for the Rust");
         let (input, mut output) = (child.stdin.take().unwrap(), child.stdout.take().unwrap());
         let (send, answers) = channel();
@@ -97,6 +101,7 @@ fn read_one(input: &mut impl Read) -> Option<Vec<u8>> {
 
 /// The process itself: answers what stands on standard input, one after the other.
 pub fn work() {
+    silence_ambiguity();
     let worker = std::thread::Builder::new().stack_size(STACK).spawn(|| {
         oracle::start_up::test();
         let (mut input, mut output) = (std::io::stdin().lock(), std::io::stdout().lock());
@@ -110,4 +115,15 @@ pub fn work() {
         }
     });
     worker.expect("a thread").join().expect("the Rust doesn't panic");
+}
+
+/// The panic of an ambiguous parse is an answer, and no one reads its message.
+fn silence_ambiguity() {
+    let usual = std::panic::take_hook();
+    std::panic::set_hook(Box::new(move |panic| {
+        let message = panic.payload().downcast_ref::<String>();
+        if !message.is_some_and(|m| m.starts_with("ambiguous parse of")) {
+            usual(panic);
+        }
+    }));
 }

@@ -1,0 +1,29 @@
+//! Whether the comparison itself works: that it finds a difference, and that a case without an answer ends nothing. Each process for the Rust begins with
+//! tests of its own, `oracle::start_up`.
+use crate::case::{of_hexadecimal, Case, Sides, Verdict};
+use crate::fixed;
+use crate::reader::MOST_WORK;
+use crate::worker::Without;
+
+pub fn run(sides: &mut Sides) {
+    finds_a_difference(sides);
+    outlives_an_endless_case(sides);
+    println!("self-test passed");
+}
+
+/// The reader's answer by the example book is not the Rust's by the same book with minus Right.
+fn finds_a_difference(sides: &mut Sides) {
+    let case = |minus| Case { book: fixed::example(minus), text: b"1-2-3".to_vec(), start: 0, allowance: MOST_WORK };
+    let (Verdict::Equal(left), Verdict::Equal(right)) = (sides.judge(&case(0)), sides.judge(&case(1))) else {
+        panic!("rows 1 and 9 are equal on both sides");
+    };
+    assert!(left != right && left.parses != right.parses && left.value != right.value);
+}
+
+/// Many of a variant without steps has no end in the Rust: its process runs out of memory, and the next case gets another.
+fn outlives_an_endless_case(sides: &mut Sides) {
+    let endless = of_hexadecimal("00 00 02 00 01 00 01 02 FF030101 FF030100 01 0A010000");
+    println!("a case on which the Rust has no end, and says so:");
+    assert_eq!(sides.worker.answer(&endless, b"", 0), Err(Without::ProcessEnded));
+    assert_eq!(sides.worker.answer(&fixed::example(0), b"1", 0).expect("an answer").value, "(0 1)");
+}
