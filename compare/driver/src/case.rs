@@ -15,7 +15,10 @@ pub struct Case {
 #[derive(Clone, Debug, PartialEq)]
 pub enum Verdict {
     Equal(Answer),
-    Different { reader: Answer, rust: Answer },
+    Different {
+        reader: Answer,
+        rust: Answer,
+    },
     /// The reader met a limit, 20 to 23.
     Limit(u32),
     /// The reader refused the call, the book or the text, 1 to 11; the Rust has no such check.
@@ -45,7 +48,11 @@ impl Sides {
             Err(why) => Verdict::WithoutAnswer(why),
             Ok(rust) => {
                 let rust = rust.sorted();
-                if rust == reader { Verdict::Equal(rust) } else { Verdict::Different { reader, rust } }
+                if rust == reader {
+                    Verdict::Equal(rust)
+                } else {
+                    Verdict::Different { reader, rust }
+                }
             }
         }
     }

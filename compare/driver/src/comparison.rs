@@ -22,8 +22,8 @@ pub fn random_case(seed: u64, number: u64) -> Case {
         }
         1 => {
             let books = fixed::long();
-            let (book, operators) = &books[random.below(books.len())];
-            Case { book: book.clone(), text: texts::long(&mut random, operators), start: 0, allowance: MOST_WORK }
+            let long = &books[random.below(books.len())];
+            Case { book: long.book.clone(), text: texts::long(&mut random, long), start: 0, allowance: MOST_WORK }
         }
         _ => common(&mut random),
     }

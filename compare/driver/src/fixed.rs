@@ -2,11 +2,15 @@
 use crate::case::{of_hexadecimal, Case};
 use crate::reader::MOST_WORK;
 
-const EXAMPLE_STEPS: &str = "0A 03000000 08000000 002D0000 08000000 08000000 002A0000 08000000 00280000 08000000 00290000";
+/// Document 01's example book.
+const EXAMPLE: &str = "00 00 01 00 04 04 FF030101 01000103 02000103 FF030103 \
+    0A 03000000 08000000 002D0000 08000000 08000000 002A0000 08000000 00280000 08000000 00290000";
 
-/// Document 01's example book, with minus of some associativity.
+/// The example book, with minus of some associativity.
 pub fn example(minus: u8) -> Vec<u8> {
-    of_hexadecimal(&format!("00 00 01 00 04 04 FF030101 01{minus:02X}0103 02000103 FF030103 {EXAMPLE_STEPS}"))
+    let mut book = of_hexadecimal(EXAMPLE);
+    book[11] = minus;
+    book
 }
 
 /// Rows 1 to 12 and "More".
@@ -35,9 +39,8 @@ pub struct Exhaustive {
 }
 
 pub const EXHAUSTIVE: &[Exhaustive] = &[
-    // the example book, with tokens and with skipped text
-    Exhaustive { book: "000001000404FF03010101000103020001 03FF030103 0A 03000000 08000000 002D0000 08000000 08000000 002A0000 08000000 00280000 08000000 00290000", alphabet: b"1-*()", longest: 6 },
-    Exhaustive { book: "000001000404FF03010101000103020001 03FF030103 0A 03000000 08000000 002D0000 08000000 08000000 002A0000 08000000 00280000 08000000 00290000", alphabet: b"1-/ \n", longest: 6 },
+    Exhaustive { book: EXAMPLE, alphabet: b"1-*()", longest: 6 },
+    Exhaustive { book: EXAMPLE, alphabet: b"1-/ \n", longest: 6 },
     // minus Right, None and Both at one level
     Exhaustive { book: "00 00 01 00 04 04 FF030101 01010103 01020103 01030103 0A 03000000 08000000 002D0000 08000000 08000000 002B0000 08000000 08000000 002A0000 08000000", alphabet: b"1-+*", longest: 7 },
     // indirect left recursion: 0 is 1 `-` 0 or a number; 1 is 0 `+` or, passing, 0
@@ -47,7 +50,7 @@ pub const EXHAUSTIVE: &[Exhaustive] = &[
     // an optional 0 before a use of 0
     Exhaustive { book: "00 00 01 00 02 02 01000103 FF030101 04 09000000 002D0000 08000000 03000000", alphabet: b"1- ", longest: 8 },
     // a comma list, a delimited list and an optional delimited list of numbers, and a minus behind
-    Exhaustive { book: "00 00 02 00 03 00 01 04 01030102 02030102 03030102 FF030101 07 0B010000 002D0000 0C01285B 002D0000 0D012829 002D0000 03000000", alphabet: b"1,-([)", longest: 6 },
+    Exhaustive { book: "00 00 02 00 03 00 01 04 01030102 02030102 03030102 FF030101 07 0B010000 002D0000 0C015B5D 002D0000 0D012829 002D0000 03000000", alphabet: b"1,-()[]", longest: 5 },
     // words, names, claims: 0 claims, and is an identifier nonterminal, a variable of kind 1, or a word and 0
     Exhaustive { book: "02 01 01 69 00 01 62 02 01 01 61 00 01 62 02 01 03 02 00 03 FF030301 01030101 02000102 04 08010000 05010000 01000000 08000000", alphabet: b"aib ", longest: 7 },
     // reject_variable and reserved words before an identifier, a variable of any kind, uncommitted
@@ -69,10 +72,18 @@ impl Exhaustive {
     }
 }
 
-/// Books for long texts, each with the operators between its numbers.
-pub fn long() -> Vec<(Vec<u8>, &'static [u8])> {
+/// A book for long texts, what stands between its numbers, and the most numbers.
+pub struct Long {
+    pub book: Vec<u8>,
+    pub between: &'static [u8],
+    pub most: usize,
+}
+
+pub fn long() -> Vec<Long> {
+    // 0 is a comma list of 1 or many 1; 1 is a number or 0 in parentheses
     let lists = "00 00 02 00 02 00 02 04 FF030101 FF030101 FF030101 FF030103 06 0B010000 0A010000 03000000 00280000 08000000 00290000";
-    let mut books: Vec<(Vec<u8>, &'static [u8])> = (0..3).map(|minus| (example(minus), &b"-*"[..])).collect();
-    books.push((of_hexadecimal(lists), b",, "));
+    let mut books: Vec<Long> = (0..3).map(|minus| Long { book: example(minus), between: b"-*", most: 40 }).collect();
+    books.push(Long { book: of_hexadecimal(lists), between: b",", most: 97 });
+    books.push(Long { book: of_hexadecimal(lists), between: b" \n", most: 97 });
     books
 }

@@ -15,9 +15,24 @@ extern "C" {
     // tools/replay/exported.rt.txt; a slice is a pointer and a length
     #[rustfmt::skip]
     fn reader_read_in(
-        book: *const u8, book_len: usize, text: *const u8, text_len: usize, start: u32, allowance: u32,
-        cells: *mut u32, cells_len: usize, parses: *mut u32, parses_len: usize, index: *mut usize, index_len: usize,
-        store: *mut u32, store_len: usize, rows: *mut u32, rows_len: usize, answer: *mut u32, answer_len: usize,
+        book: *const u8,
+        book_len: usize,
+        text: *const u8,
+        text_len: usize,
+        start: u32,
+        allowance: u32,
+        cells: *mut u32,
+        cells_len: usize,
+        parses: *mut u32,
+        parses_len: usize,
+        index: *mut usize,
+        index_len: usize,
+        store: *mut u32,
+        store_len: usize,
+        rows: *mut u32,
+        rows_len: usize,
+        answer: *mut u32,
+        answer_len: usize,
     );
 }
 

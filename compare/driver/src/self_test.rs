@@ -1,5 +1,5 @@
-//! Whether the comparison itself works: that it finds a difference, and that a case without an answer ends nothing. Each process for the Rust begins with
-//! tests of its own, `oracle::start_up`.
+//! Whether the comparison itself works: that it finds a difference, that a case without an answer ends nothing, and that the known differences are as
+//! docs/DIFFERENCES.md tells them. Each process for the Rust begins with tests of its own, `oracle::start_up`.
 use crate::case::{of_hexadecimal, Case, Sides, Verdict};
 use crate::fixed;
 use crate::reader::MOST_WORK;
@@ -8,6 +8,7 @@ use crate::worker::Without;
 pub fn run(sides: &mut Sides) {
     finds_a_difference(sides);
     outlives_an_endless_case(sides);
+    reads_beyond_ascii(sides);
     println!("self-test passed");
 }
 
@@ -23,7 +24,15 @@ fn finds_a_difference(sides: &mut Sides) {
 /// Many of a variant without steps has no end in the Rust: its process runs out of memory, and the next case gets another.
 fn outlives_an_endless_case(sides: &mut Sides) {
     let endless = of_hexadecimal("00 00 02 00 01 00 01 02 FF030101 FF030100 01 0A010000");
+    assert_eq!(sides.reader.call(&endless, b"", 0, MOST_WORK), 22);
     println!("a case on which the Rust has no end, and says so:");
     assert_eq!(sides.worker.answer(&endless, b"", 0), Err(Without::ProcessEnded));
     assert_eq!(sides.worker.answer(&fixed::example(0), b"1", 0).expect("an answer").value, "(0 1)");
+}
+
+/// What docs/DIFFERENCES.md says of bytes from 128: the Rust skips a no-break space, and the reader refuses its first byte.
+fn reads_beyond_ascii(sides: &mut Sides) {
+    let text = "1\u{a0}".as_bytes();
+    assert_eq!(sides.worker.answer(&fixed::example(0), text, 0).expect("an answer").value, "(0 1)");
+    assert_eq!(sides.reader.call(&fixed::example(0), text, 0, MOST_WORK), 11);
 }

@@ -1,5 +1,6 @@
 //! Random texts for a book: from its derivations, from its tokens, damaged, with whitespace and comments anywhere, and long ones.
 use crate::books::{CHARACTERS, SPELLINGS};
+use crate::fixed::Long;
 use crate::random::Random;
 use oracle::book::{Book, IDENTIFIER};
 
@@ -79,7 +80,11 @@ fn any_token(random: &mut Random, book: &Book) -> String {
 
 fn spelling(random: &mut Random, book: &Book) -> String {
     let known: Vec<&str> = book.names.iter().chain(&book.words).map(|e| e.spelling.as_str()).collect();
-    if known.is_empty() || random.one_in(3) { random.pick(SPELLINGS).into() } else { random.pick(&known).into() }
+    if known.is_empty() || random.one_in(3) {
+        random.pick(SPELLINGS).into()
+    } else {
+        random.pick(&known).into()
+    }
 }
 
 /// Tokens of a random derivation, cut off where it grows too deep.
@@ -152,13 +157,14 @@ fn take(random: &mut Random, book: &Book, step: &[u8; 4], depth: usize, tokens: 
     }
 }
 
-/// A long text: many operators, many list elements, deep parentheses or long stretches of skipped text, for the books of `fixed::long`.
-pub fn long(random: &mut Random, operators: &[u8]) -> Vec<u8> {
+/// A long text: many numbers, deep parentheses, long stretches of skipped text.
+pub fn long(random: &mut Random, of: &Long) -> Vec<u8> {
     let mut text = Vec::new();
-    let terms = random.between(1, 40);
+    let terms = random.between(1, of.most);
+    let deepest = random.below(8);
     let mut open = 0;
     for i in 0..terms {
-        while random.one_in(3) && open < 20 {
+        while random.one_in(3) && open < deepest {
             text.push(b'(');
             open += 1;
         }
@@ -170,7 +176,7 @@ pub fn long(random: &mut Random, operators: &[u8]) -> Vec<u8> {
         }
         padding(random, &mut text);
         if i + 1 < terms {
-            text.push(random.byte(operators));
+            text.push(random.byte(of.between));
         }
     }
     text.extend(std::iter::repeat_n(b')', open));

@@ -46,7 +46,11 @@ pub fn precedence(variant: &book::Variant) -> Precedence {
 /// The level's number in document 01.
 pub fn level(precedence: Precedence) -> u32 {
     let default = Precedence::default().level();
-    if precedence.level() == default { book::DEFAULT_LEVEL as u32 } else { precedence.level() as u32 }
+    if precedence.level() == default {
+        book::DEFAULT_LEVEL as u32
+    } else {
+        precedence.level() as u32
+    }
 }
 
 // ---- The language

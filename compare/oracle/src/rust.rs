@@ -31,12 +31,7 @@ fn parses<T: CoreParse<Books>>(book: &Book, text: &str, value: fn(T) -> Value) -
             let parse = |p: formality_core::parse::SuccessfulParse<'_, T>| {
                 let precedence = p.precedence();
                 let (tree, rest) = p.finish();
-                Parse {
-                    rest: place(rest),
-                    level: grammar::level(precedence),
-                    associativity: precedence.associativity(),
-                    value: value(tree).exact(),
-                }
+                Parse { rest: place(rest), level: grammar::level(precedence), associativity: precedence.associativity(), value: value(tree).exact() }
             };
             (0, parses.into_iter().map(parse).collect())
         }
