@@ -8,7 +8,7 @@ use std::sync::mpsc::{channel, Receiver, RecvTimeoutError};
 use std::time::Duration;
 
 /// The longest time for one text.
-const LIMIT: Duration = Duration::from_secs(10);
+const LIMIT: Duration = Duration::from_secs(60);
 
 /// Nesting of 200 takes a small part of it; endless nesting uses it up, or the memory.
 const STACK: usize = 64 << 20;
