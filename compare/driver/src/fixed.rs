@@ -13,22 +13,50 @@ pub fn example(minus: u8) -> Vec<u8> {
     book
 }
 
+/// A case of document 01 with what it says there: the refusal, the place under 30, the value under 0.
+pub struct Row {
+    pub case: Case,
+    pub refusal: u32,
+    pub place: u32,
+    pub value: &'static str,
+}
+
 /// Rows 1 to 12 and "More".
-pub fn rows() -> Vec<Case> {
-    let case = |book: &[u8], text: &str| Case { book: book.to_vec(), text: text.into(), start: 0, allowance: MOST_WORK };
-    let mut cases = Vec::new();
-    for text in ["1-2-3", "1-2*3", "1*2-3", "1//", "1-", "", "(1", "1 2", "(18446744073709551616", "18446744073709551615", "(1-2)-3-(4)"] {
-        cases.push(case(&example(0), text));
-    }
-    for minus in 1..=3 {
-        cases.push(case(&example(minus), "1-2-3"));
-    }
-    // the example book with a level-1 Left passing variant of its own nonterminal
-    cases.push(case(&of_hexadecimal("00 00 01 00 02 02 FF030101 01000301 02 03000000 08000000"), "1"));
-    cases.push(case(&example(0), &format!("1{}", " ".repeat(4095))));
-    cases.push(case(&example(0), &format!("{}1", "0".repeat(4095))));
-    cases.push(case(&example(0), &format!("1//{}", "-".repeat(4093))));
-    cases
+pub fn rows() -> Vec<Row> {
+    let (left, right, none, both) = (example(0), example(1), example(2), example(3));
+    // a number, or a level-1 Left use of the nonterminal itself: passing, and not
+    let passing = of_hexadecimal("00 00 01 00 02 02 FF030101 01000301 02 03000000 08000000");
+    let unpassing = of_hexadecimal("00 00 01 00 02 02 FF030101 01000101 02 03000000 08000000");
+    // many of a variant without steps, as the last step, and with a character behind it
+    let many = of_hexadecimal("00 00 02 00 01 00 01 02 FF030101 FF030100 01 0A010000");
+    let many_and = of_hexadecimal("00 00 02 00 01 00 01 02 FF030102 FF030100 02 0A010000 00210000");
+    let row = |book: &[u8], text: &str, refusal, place, value| Row {
+        case: Case { book: book.to_vec(), text: text.into(), start: 0, allowance: MOST_WORK },
+        refusal,
+        place,
+        value,
+    };
+    vec![
+        row(&left, "1-2-3", 0, 0, "(1 (1 (0 1) (0 2)) (0 3))"),
+        row(&left, "1-2*3", 0, 0, "(1 (0 1) (2 (0 2) (0 3)))"),
+        row(&left, "1*2-3", 0, 0, "(1 (2 (0 1) (0 2)) (0 3))"),
+        row(&left, "1//", 0, 0, "(0 1)"),
+        row(&left, "1-", 31, 0, ""),
+        row(&left, "", 30, 0, ""),
+        row(&left, "(1", 30, 2, ""),
+        row(&left, "1 2", 31, 0, ""),
+        row(&right, "1-2-3", 0, 0, "(1 (0 1) (1 (0 2) (0 3)))"),
+        row(&none, "1-2-3", 31, 0, ""),
+        row(&both, "1-2-3", 32, 0, ""),
+        row(&left, "(18446744073709551616", 30, 1, ""),
+        row(&passing, "1", 0, 0, "(0 1)"),
+        row(&unpassing, "1", 22, 0, ""),
+        row(&many, "", 22, 0, ""),
+        row(&many_and, "", 21, 0, ""),
+        row(&left, &format!("1{}", " ".repeat(4095)), 0, 0, "(0 1)"),
+        row(&left, &format!("{}1", "0".repeat(4095)), 0, 0, "(0 1)"),
+        row(&left, &format!("1{}", " ".repeat(4096)), 10, 0, ""),
+    ]
 }
 
 /// A book whose texts up to some length, over an alphabet, are all compared.

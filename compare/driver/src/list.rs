@@ -15,32 +15,46 @@ const LONG: usize = 20;
 pub fn write(sides: &mut Sides, seed: u64, path: &str) {
     let mut bytes = Vec::new();
     let mut written = 0;
-    for case in fixed::rows() {
-        written += usize::from(put(sides, &case, &mut bytes));
-    }
-    let mut wanted = BTreeMap::from(WANTED);
-    let mut long = LONG;
-    for number in 0.. {
-        if wanted.values().all(|left| *left == 0) {
-            break;
+    let rows = fixed::rows().into_iter().map(|row| row.case);
+    for case in rows.chain(chosen(sides, seed)) {
+        if let Some(answer) = equal(sides, &case) {
+            put(&mut bytes, &case, &answer, &sides.reader.parses());
+            written += 1;
         }
-        let case = random_case(seed, number);
-        let Verdict::Equal(answer) = sides.judge(&case) else { continue };
-        let left = wanted.get_mut(&answer.refusal).expect("a refusal of the Rust");
-        if *left == 0 || is_dull(&answer) {
-            continue;
-        }
-        if case.text.len().max(answer.value.len()) > SHORT {
-            if long == 0 {
-                continue;
-            }
-            long -= 1;
-        }
-        *left -= 1;
-        written += usize::from(put(sides, &case, &mut bytes));
     }
     std::fs::write(path, &bytes).expect("the list is written");
     println!("{written} cases, {} bytes", bytes.len());
+}
+
+/// The first random cases with each refusal, as many as are wanted.
+fn chosen(sides: &mut Sides, seed: u64) -> Vec<Case> {
+    let mut cases = Vec::new();
+    let mut wanted = BTreeMap::from(WANTED);
+    let mut long = LONG;
+    for case in (0..).map(|number| random_case(seed, number)) {
+        if wanted.values().all(|left| *left == 0) {
+            break;
+        }
+        let Some(answer) = equal(sides, &case) else { continue };
+        let left = wanted.get_mut(&answer.refusal).expect("a refusal of the Rust");
+        let is_long = case.text.len().max(answer.value.len()) > SHORT;
+        if *left == 0 || is_dull(&answer) || (is_long && long == 0) {
+            continue;
+        }
+        *left -= 1;
+        long -= usize::from(is_long);
+        cases.push(case);
+    }
+    cases
+}
+
+/// The Rust's answer, where it has one to compare.
+fn equal(sides: &mut Sides, case: &Case) -> Option<Answer> {
+    match sides.judge(case) {
+        Verdict::Equal(answer) => Some(answer),
+        Verdict::Different { .. } => panic!("no list while the sides differ: {case:?}"),
+        _ => None,
+    }
 }
 
 /// Most random texts fail where they begin; of those the list needs few.
@@ -48,19 +62,13 @@ fn is_dull(answer: &Answer) -> bool {
     answer.refusal == 30 && answer.place == 0
 }
 
-/// Whether the case has an answer of the Rust. The parses stand in the reader's order: the Rust's are a set, and this one is equal to it.
-fn put(sides: &mut Sides, case: &Case, bytes: &mut Vec<u8>) -> bool {
-    let Verdict::Equal(answer) = sides.judge(case) else { return false };
+/// One record. The parses stand in the reader's order: the Rust's are a set, and equal to them.
+fn put(bytes: &mut Vec<u8>, case: &Case, answer: &Answer, parses: &[[u32; 3]]) {
     let line = if answer.refusal == 0 { format!("value {}\n", answer.value) } else { String::new() };
-    let lengths = [case.book.len(), case.text.len(), line.len()].map(|n| n as u32);
-    let parses = sides.reader.parses();
-    put_numbers(bytes, &lengths);
+    put_numbers(bytes, &[case.book.len(), case.text.len(), line.len()].map(|n| n as u32));
     put_numbers(bytes, &[case.start, answer.refusal, answer.place, parses.len() as u32]);
     bytes.extend(&case.book);
     bytes.extend(&case.text);
     bytes.extend(line.bytes());
-    for parse in parses {
-        put_numbers(bytes, &parse);
-    }
-    true
+    put_numbers(bytes, parses.as_flattened());
 }

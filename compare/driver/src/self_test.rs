@@ -1,4 +1,4 @@
-//! Whether the comparison itself works: that it finds a difference, that a case without an answer ends nothing, and that the known differences are as
+//! Whether the comparison itself works: that both sides give document 01's rows, that it finds a difference, that a case without an answer ends nothing, and that the known differences are as
 //! docs/DIFFERENCES.md tells them. Each process for the Rust begins with tests of its own, `oracle::start_up`.
 use crate::case::{of_hexadecimal, Case, Sides, Verdict};
 use crate::fixed;
@@ -6,10 +6,22 @@ use crate::reader::MOST_WORK;
 use crate::worker::Without;
 
 pub fn run(sides: &mut Sides) {
+    has_the_rows(sides);
     finds_a_difference(sides);
     outlives_an_endless_case(sides);
     reads_beyond_ascii(sides);
     println!("self-test passed");
+}
+
+/// Document 01's rows and "More": both sides give what it says, or the reader its refusal.
+fn has_the_rows(sides: &mut Sides) {
+    for row in fixed::rows() {
+        match sides.judge(&row.case) {
+            Verdict::Equal(answer) => assert_eq!((answer.refusal, answer.place, answer.value.as_str()), (row.refusal, row.place, row.value)),
+            Verdict::Limit(refusal) | Verdict::Refused(refusal) => assert_eq!(refusal, row.refusal),
+            other => panic!("{:?}: {other:?}", row.case),
+        }
+    }
 }
 
 /// The reader's answer by the example book is not the Rust's by the same book with minus Right.

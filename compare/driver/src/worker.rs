@@ -75,7 +75,8 @@ impl Process {
     fn begin() -> Process {
         let this = std::env::current_exe().expect("this program's path");
         let limited = format!("ulimit -v {MEMORY} && exec \"$0\" worker");
-        let begun = Command::new("sh").arg("-c").arg(limited).arg(this).stdin(Stdio::piped()).stdout(Stdio::piped()).spawn();
+        let begun =
+            Command::new("sh").arg("-c").arg(limited).arg(this).env("RUST_BACKTRACE", "0").stdin(Stdio::piped()).stdout(Stdio::piped()).spawn();
         let mut child = begun.expect("a process for the Rust");
         let (input, mut output) = (child.stdin.take().unwrap(), child.stdout.take().unwrap());
         let (send, answers) = channel();

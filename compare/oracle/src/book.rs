@@ -52,10 +52,6 @@ impl Book {
         self.nonterminals[..nonterminal].iter().map(|n| n.variants.len()).sum()
     }
 
-    pub fn is_reserved(&self, spelling: &str) -> bool {
-        self.words.iter().any(|w| w.label == 1 && w.spelling == spelling)
-    }
-
     pub fn bytes(&self) -> Vec<u8> {
         let mut bytes = Vec::new();
         for entries in [&self.words, &self.names] {

@@ -3,11 +3,11 @@ use crate::book::{self, Book, Step};
 use crate::value::Value;
 use formality_core::fold::{CoreFold, SubstitutionFn};
 use formality_core::language::{HasKind, Language};
-use formality_core::parse::{ActiveVariant, Binding, CoreParse, CoreParseBinding, ParseResult, Parser, Precedence, Scope};
+use formality_core::parse::{ActiveVariant, Binding, CoreParse, CoreParseBinding, ParseError, ParseResult, Parser, Precedence, Scope};
 use formality_core::term::CoreTerm;
 use formality_core::variable::{CoreBoundVar, CoreExistentialVar, CoreUniversalVar, CoreVariable, VarIndex};
 use formality_core::visit::CoreVisit;
-use formality_core::{cast_impl, UpcastFrom};
+use formality_core::{cast_impl, Set, UpcastFrom};
 use std::cell::RefCell;
 use std::rc::Rc;
 
@@ -228,15 +228,15 @@ struct Items<'a> {
     before: Option<&'a Items<'a>>,
 }
 
-/// Calls `$body` with the type of nonterminal `$n`.
+/// `$body` with the nonterminal's number `$n` as the constant `$N`.
 macro_rules! with_nonterminal {
-    ($n:expr, $T:ident => $body:expr) => {
-        with_nonterminal!(@ $n, $T, $body, 0 1 2 3 4 5 6 7 8 9 10 11 12 13 14 15 16 17 18 19 20 21 22 23 24 25 26 27 28 29 30 31)
+    ($n:expr, $N:ident => $body:expr) => {
+        with_nonterminal!(@ $n, $N, $body, 0 1 2 3 4 5 6 7 8 9 10 11 12 13 14 15 16 17 18 19 20 21 22 23 24 25 26 27 28 29 30 31)
     };
-    (@ $n:expr, $T:ident, $body:expr, $($number:literal)*) => {
+    (@ $n:expr, $N:ident, $body:expr, $($number:literal)*) => {
         match $n {
             $($number => {
-                type $T = crate::grammar::Nonterminal<$number>;
+                const $N: usize = $number;
                 $body
             })*
             n => unreachable!("nonterminal {n}"),
@@ -248,49 +248,46 @@ pub(crate) use with_nonterminal;
 
 impl Path<'_> {
     /// Takes the steps that are left, and ends the variant.
-    fn steps<'s, 't>(&self, p: &mut ActiveVariant<'s, 't, Books>, steps: &[Step], items: Option<&Items<'_>>) -> ParseResult<'t, Value> {
-        let Some(([kind, a, b, c], rest)) = steps.split_first() else {
+    fn steps<'t>(&self, p: &mut ActiveVariant<'_, 't, Books>, steps: &[Step], items: Option<&Items<'_>>) -> ParseResult<'t, Value> {
+        let Some((&step, rest)) = steps.split_first() else {
             return p.ok(self.value(items));
         };
-        let (open, close) = (*b as char, *c as char);
+        let [kind, a, ..] = step;
         match kind {
-            0 => p.expect_char(*a as char)?,
-            1 => p.expect_keyword(&self.book.words[*a as usize].spelling)?,
-            2 => return self.item(p, rest, items, |p| Ok(Value::Name(p.identifier()?.into()))),
-            3 => return self.item(p, rest, items, |p| Ok(Value::Number(p.number()?))),
-            4 => return self.item(p, rest, items, |p| Ok(variable(p.variable()?))),
-            5 => return self.item(p, rest, items, |p| Ok(variable(p.variable_of_kind(Kind(*a))?))),
+            0 => p.expect_char(a as char)?,
+            1 => p.expect_keyword(&self.book.words[a as usize].spelling)?,
+            2..=5 => {
+                let item = token(p, kind, a)?;
+                return self.added(p, rest, items, item);
+            }
             6 => p.reject_variable()?,
             7 => p.reject_custom_keywords(Books::KEYWORDS)?,
-            8 => return with_nonterminal!(*a, T => p.each_nonterminal(|t: T, p| self.added(p, rest, items, t.0))),
-            9 => {
-                let value = |t: Option<Value>| t.unwrap_or(Value::Absent);
-                return with_nonterminal!(*a, T => p.each_opt_nonterminal(|t: Option<T>, p| self.added(p, rest, items, value(t.map(|t| t.0)))));
-            }
-            10 => return with_nonterminal!(*a, T => p.each_many_nonterminal(|list: Vec<T>, p| self.added(p, rest, items, listed(list)))),
-            11 => return with_nonterminal!(*a, T => p.each_comma_nonterminal(|list: Vec<T>, p| self.added(p, rest, items, listed(list)))),
-            _ => {
-                let optional = *kind == 13;
-                return with_nonterminal!(*a, T => p.each_delimited_nonterminal(open, optional, close, |list: Vec<T>, p| self.added(p, rest, items, listed(list))));
-            }
+            _ => return with_nonterminal!(a, N => self.children::<N>(p, step, rest, items)),
         }
         self.steps(p, rest, items)
     }
 
-    /// A token that is an item, and the steps behind it.
-    fn item<'s, 't>(
+    /// A step of kind 8 to 13, with children of nonterminal N, and the steps behind it.
+    fn children<'t, const N: usize>(
         &self,
-        p: &mut ActiveVariant<'s, 't, Books>,
+        p: &mut ActiveVariant<'_, 't, Books>,
+        [kind, _, open, close]: Step,
         rest: &[Step],
         items: Option<&Items<'_>>,
-        token: impl FnOnce(&mut ActiveVariant<'s, 't, Books>) -> Result<Value, formality_core::Set<formality_core::parse::ParseError<'t>>>,
     ) -> ParseResult<'t, Value> {
-        let item = token(p)?;
-        self.added(p, rest, items, item)
+        match kind {
+            8 => p.each_nonterminal(|child: Nonterminal<N>, p| self.added(p, rest, items, child.0)),
+            9 => p.each_opt_nonterminal(|child: Option<Nonterminal<N>>, p| self.added(p, rest, items, child.map_or(Value::Absent, |c| c.0))),
+            10 => p.each_many_nonterminal(|list: Vec<Nonterminal<N>>, p| self.added(p, rest, items, listed(list))),
+            11 => p.each_comma_nonterminal(|list: Vec<Nonterminal<N>>, p| self.added(p, rest, items, listed(list))),
+            _ => p.each_delimited_nonterminal(open as char, kind == 13, close as char, |list: Vec<Nonterminal<N>>, p| {
+                self.added(p, rest, items, listed(list))
+            }),
+        }
     }
 
     /// The steps behind an item.
-    fn added<'s, 't>(&self, p: &mut ActiveVariant<'s, 't, Books>, rest: &[Step], items: Option<&Items<'_>>, item: Value) -> ParseResult<'t, Value> {
+    fn added<'t>(&self, p: &mut ActiveVariant<'_, 't, Books>, rest: &[Step], items: Option<&Items<'_>>, item: Value) -> ParseResult<'t, Value> {
         self.steps(p, rest, Some(&Items { item, before: items }))
     }
 
@@ -303,6 +300,16 @@ impl Path<'_> {
         listed.reverse();
         Value::Variant(self.number as u32, listed.into())
     }
+}
+
+/// A token that is an item.
+fn token<'t>(p: &mut ActiveVariant<'_, 't, Books>, kind: u8, a: u8) -> Result<Value, Set<ParseError<'t>>> {
+    Ok(match kind {
+        2 => Value::Name(p.identifier()?.into()),
+        3 => Value::Number(p.number()?),
+        4 => variable(p.variable()?),
+        _ => variable(p.variable_of_kind(Kind(a))?),
+    })
 }
 
 fn variable(variable: Variable) -> Value {

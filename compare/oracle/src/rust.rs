@@ -1,17 +1,18 @@
 //! The Rust's answer to a book and a text.
 use crate::answer::{Answer, Parse};
 use crate::book::Book;
-use crate::grammar::{self, with_nonterminal, Books};
+use crate::grammar::{self, with_nonterminal, Books, Nonterminal};
 use crate::value::Value;
-use formality_core::parse::{core_term_with, CoreParse, Scope};
+use formality_core::parse::{core_term_with, CoreParse, Scope, SuccessfulParse};
+use formality_core::variable::CoreVariable;
 use std::panic::{catch_unwind, AssertUnwindSafe};
 use std::rc::Rc;
 
 /// The set of parses and the furthest place from the start's `parse`; the refusal and the value from `core_term_with`.
 pub fn answer(book: &Rc<Book>, text: &str, start: u32) -> Answer {
     grammar::set_book(book);
-    let (place, parses) = with_nonterminal!(start, T => parses::<T>(book, text, |t| t.0));
-    let (refusal, value) = with_nonterminal!(start, T => whole::<T>(book, text, |t| t.0));
+    let (place, parses) = with_nonterminal!(start, N => parses::<N>(book, text));
+    let (refusal, value) = with_nonterminal!(start, N => whole::<N>(book, text));
     assert_eq!(refusal == 30, parses.is_empty());
     match value {
         Whole::Value(value) => Answer { refusal, place, parses, value: value.printed(book) },
@@ -23,15 +24,15 @@ pub fn answer(book: &Rc<Book>, text: &str, start: u32) -> Answer {
     }
 }
 
-fn parses<T: CoreParse<Books>>(book: &Book, text: &str, value: fn(T) -> Value) -> (u32, Vec<Parse>) {
+fn parses<const N: usize>(book: &Book, text: &str) -> (u32, Vec<Parse>) {
     let scope = Scope::new(grammar::bindings(book));
     let place = |rest: &str| (text.len() - rest.len()) as u32;
-    match T::parse(&scope, text) {
+    match Nonterminal::<N>::parse(&scope, text) {
         Ok(parses) => {
-            let parse = |p: formality_core::parse::SuccessfulParse<'_, T>| {
+            let parse = |p: SuccessfulParse<'_, Nonterminal<N>>| {
                 let precedence = p.precedence();
                 let (tree, rest) = p.finish();
-                Parse { rest: place(rest), level: grammar::level(precedence), associativity: precedence.associativity(), value: value(tree).exact() }
+                Parse { rest: place(rest), level: grammar::level(precedence), associativity: precedence.associativity(), value: tree.0.exact() }
             };
             (0, parses.into_iter().map(parse).collect())
         }
@@ -47,10 +48,10 @@ enum Whole {
 
 /// The refusal of document 01 for what `core_term_with` does: it gives a value, fails with the furthest error, fails because no parse is whole,
 /// or panics because the values differ.
-fn whole<T: CoreParse<Books>>(book: &Book, text: &str, value: fn(T) -> Value) -> (u32, Whole) {
-    let done = catch_unwind(AssertUnwindSafe(|| core_term_with::<Books, T, _>(grammar::bindings(book), text)));
+fn whole<const N: usize>(book: &Book, text: &str) -> (u32, Whole) {
+    let done = catch_unwind(AssertUnwindSafe(|| core_term_with::<Books, Nonterminal<N>, _>(grammar::bindings(book), text)));
     match done {
-        Ok(Ok(tree)) => (0, Whole::Value(value(tree))),
+        Ok(Ok(tree)) => (0, Whole::Value(tree.0)),
         Ok(Err(error)) if error.0.starts_with("extra tokens after parsing") => (31, Whole::Nothing),
         Ok(Err(error)) => (30, Whole::Place(said_place(&error.0))),
         Err(panic) => {
@@ -71,7 +72,7 @@ fn said_place(report: &str) -> u32 {
 
 /// A book made ready, so that a benchmark times the reading of texts alone.
 pub struct Prepared {
-    bindings: Vec<(String, formality_core::variable::CoreVariable<Books>)>,
+    bindings: Vec<(String, CoreVariable<Books>)>,
 }
 
 impl Prepared {
@@ -82,6 +83,6 @@ impl Prepared {
 
     /// Whether `core_term_with` gives a value for a text, from nonterminal 0.
     pub fn reads(&self, text: &str) -> bool {
-        core_term_with::<Books, grammar::Nonterminal<0>, _>(self.bindings.clone(), text).is_ok()
+        core_term_with::<Books, Nonterminal<0>, _>(self.bindings.clone(), text).is_ok()
     }
 }
