@@ -14,7 +14,9 @@ const RULES: usize = 1000;
 const BYTES: usize = 200;
 const LEAST_OPERATORS: usize = 20;
 const MOST_OPERATORS: usize = 60;
-const TIMES: usize = 5;
+/// How often each side reads a rule, and a text of the growth table.
+const TIMES: usize = 7;
+const ROW_TIMES: usize = 50;
 
 pub fn run(seed: u64) {
     let mut bench = Bench::new();
@@ -57,10 +59,10 @@ impl Bench {
         self.reader.call(&self.book, text.as_bytes(), 0, MOST_WORK) == 0 && self.rust.reads(text)
     }
 
-    fn times(&mut self, text: &[u8]) -> Times {
+    fn times(&mut self, text: &[u8], times: usize) -> Times {
         let text = std::str::from_utf8(text).unwrap();
         let mut least = Times { cleared: Duration::MAX, reader: Duration::MAX, rust: Duration::MAX };
-        for _ in 0..TIMES {
+        for _ in 0..times {
             let begun = Instant::now();
             self.reader.clear();
             let clear = Instant::now();
@@ -78,7 +80,7 @@ impl Bench {
 
     fn rules(&mut self, seed: u64) {
         let texts = self.texts(seed);
-        let times: Vec<Times> = texts.iter().map(|text| self.times(text)).collect();
+        let times: Vec<Times> = texts.iter().map(|text| self.times(text, TIMES)).collect();
         let operators: Vec<usize> = texts.iter().map(|text| operators(text)).collect();
         println!("{} rules of {BYTES} bytes, {} to {} operators", times.len(), operators.iter().min().unwrap(), operators.iter().max().unwrap());
         let rust = summary("Rust", times.iter().map(|t| t.rust));
@@ -108,7 +110,7 @@ impl Bench {
             return println!("{name}: not read within the limits");
         }
         let work = self.reader.work();
-        let times = self.times(text);
+        let times = self.times(text, ROW_TIMES);
         let micros = |time: Duration| time.as_secs_f64() * 1e6;
         let ratio = micros(times.cleared) / micros(times.rust);
         println!("{name:<20} {work:>8} {:>10.1} {:>10.1}  {ratio:.4}", micros(times.cleared), micros(times.rust));
