@@ -2,7 +2,7 @@
 use crate::case::{hexadecimal, Case, Sides, Verdict};
 use crate::random::Random;
 use crate::reader::MOST_WORK;
-use crate::{books, fixed, shrink, texts};
+use crate::{books, fixed, shrink, small, texts};
 use oracle::book::Book;
 use std::collections::BTreeMap;
 
@@ -106,13 +106,14 @@ fn show(what: &str, case: &Case) {
     println!("{what}: start {} book {} text {:?}", case.start, hexadecimal(&case.book), String::from_utf8_lossy(&case.text));
 }
 
-/// Rows, all short texts of some books, and random cases.
+/// Rows, all short texts of some books and of all small ones, and random cases.
 pub fn whole(sides: &mut Sides, seed: u64, random: u64) -> Counts {
     let mut counts = Counts::default();
     compare(sides, fixed::rows().into_iter().map(|row| row.case), &mut counts);
     for exhaustive in fixed::EXHAUSTIVE {
         compare(sides, exhaustive.cases(), &mut counts);
     }
+    compare(sides, small::cases(), &mut counts);
     compare(sides, (0..random).map(|number| random_case(seed, number)), &mut counts);
     counts
 }

@@ -1,6 +1,7 @@
 //! Books and texts that are not random: document 01's rows, and books whose short texts are all compared.
 use crate::case::{of_hexadecimal, Case};
 use crate::reader::MOST_WORK;
+use crate::small::sequences;
 
 /// Document 01's example book.
 const EXAMPLE: &str = "00 00 01 00 04 04 FF030101 01000103 02000103 FF030103 \
@@ -88,15 +89,9 @@ pub const EXHAUSTIVE: &[Exhaustive] = &[
 ];
 
 impl Exhaustive {
-    pub fn cases(&self) -> impl Iterator<Item = Case> + '_ {
+    pub fn cases(&self) -> impl Iterator<Item = Case> {
         let book = of_hexadecimal(self.book);
-        let texts = (0..=self.longest).flat_map(|length| (0..self.alphabet.len().pow(length as u32)).map(move |number| (length, number)));
-        texts.map(move |(length, number)| Case { book: book.clone(), text: self.text(length, number), start: 0, allowance: MOST_WORK })
-    }
-
-    fn text(&self, length: usize, number: usize) -> Vec<u8> {
-        let base = self.alphabet.len();
-        (0..length).map(|i| self.alphabet[number / base.pow(i as u32) % base]).collect()
+        sequences(self.alphabet, self.longest).into_iter().map(move |text| Case { book: book.clone(), text, start: 0, allowance: MOST_WORK })
     }
 }
 

@@ -9,6 +9,7 @@ mod random;
 mod reader;
 mod self_test;
 mod shrink;
+mod small;
 mod texts;
 mod worker;
 
