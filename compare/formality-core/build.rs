@@ -26,8 +26,9 @@ fn main() {
 }
 
 fn check(sources: &Path, sums: &Path) {
+    assert!(sources.is_dir(), "no folder {}: FORMALITY_SOURCES names that of the Rust's sources", sources.display());
     let checked = Command::new("sha256sum").arg("--check").arg("--quiet").arg(fs::canonicalize(sums).unwrap()).current_dir(sources).status();
-    assert!(checked.expect("sha256sum runs in the sources' folder").success(), "{} are not the sources of cd4bf84584", sources.display());
+    assert!(checked.expect("sha256sum runs").success(), "{} are not the sources of cd4bf84584", sources.display());
 }
 
 /// The names in a list of checksums.

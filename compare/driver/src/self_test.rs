@@ -10,6 +10,7 @@ pub fn run(sides: &mut Sides) {
     finds_a_difference(sides);
     outlives_an_endless_case(sides);
     reads_beyond_ascii(sides);
+    reads_longer_texts(sides);
     println!("self-test passed");
 }
 
@@ -47,4 +48,11 @@ fn reads_beyond_ascii(sides: &mut Sides) {
     let text = "1\u{a0}".as_bytes();
     assert_eq!(sides.worker.answer(&fixed::example(0), text, 0).expect("an answer").value, "(0 1)");
     assert_eq!(sides.reader.call(&fixed::example(0), text, 0, MOST_WORK), 11);
+}
+
+/// And of texts above 4,096 bytes: the Rust has no such limit.
+fn reads_longer_texts(sides: &mut Sides) {
+    let text = format!("1{}", " ".repeat(4096));
+    assert_eq!(sides.worker.answer(&fixed::example(0), text.as_bytes(), 0).expect("an answer").value, "(0 1)");
+    assert_eq!(sides.reader.call(&fixed::example(0), text.as_bytes(), 0, MOST_WORK), 10);
 }
