@@ -1,5 +1,5 @@
 //! The fixed list: cases with the Rust's answers, for a program that has no Rust. compare/README.md has the file's form.
-use crate::case::{Case, Sides, Verdict};
+use crate::case::{hexadecimal, Case, Sides, Verdict};
 use crate::comparison::random_case;
 use crate::fixed;
 use oracle::answer::{put_numbers, Answer};
@@ -52,7 +52,7 @@ fn chosen(sides: &mut Sides, seed: u64) -> Vec<Case> {
 fn equal(sides: &mut Sides, case: &Case) -> Option<Answer> {
     match sides.judge(case) {
         Verdict::Equal(answer) => Some(answer),
-        Verdict::Different { .. } => panic!("no list while the sides differ: {case:?}"),
+        Verdict::Different { .. } => panic!("no list while the sides differ: book {} text {:?}", hexadecimal(&case.book), case.text),
         _ => None,
     }
 }
