@@ -2,7 +2,6 @@
 use crate::reader::Reader;
 use crate::worker::{Without, Worker};
 use oracle::answer::Answer;
-use oracle::book::Book;
 
 #[derive(Clone, Debug, PartialEq)]
 pub struct Case {
@@ -43,7 +42,7 @@ impl Sides {
             refusal @ 20..=23 => return Verdict::Limit(refusal),
             _ => (),
         }
-        let reader = self.reader.answer(&Book::of(&case.book), &case.text).sorted();
+        let reader = self.reader.answer(&case.book, &case.text).sorted();
         match self.worker.answer(&case.book, &case.text, case.start) {
             Err(why) => Verdict::WithoutAnswer(why),
             Ok(rust) => {

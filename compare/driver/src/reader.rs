@@ -1,6 +1,5 @@
 //! The reader, compiled from its crates (build.rs), and its answers with the cells read as values.
 use oracle::answer::{Answer, Parse};
-use oracle::book::Book;
 use oracle::value::Value;
 
 const CELLS: usize = 12288;
@@ -11,29 +10,22 @@ const ROWS: usize = 104922;
 
 pub const MOST_WORK: u32 = 1_000_000;
 
+/// Room for most lines.
+const LINE: usize = 4096;
+
+// Of tools/replay/exported.rt.txt; a slice is a pointer and a length.
+#[rustfmt::skip]
 extern "C" {
-    // tools/replay/exported.rt.txt; a slice is a pointer and a length
-    #[rustfmt::skip]
     fn reader_read_in(
-        book: *const u8,
-        book_len: usize,
-        text: *const u8,
-        text_len: usize,
-        start: u32,
-        allowance: u32,
-        cells: *mut u32,
-        cells_len: usize,
-        parses: *mut u32,
-        parses_len: usize,
-        index: *mut usize,
-        index_len: usize,
-        store: *mut u32,
-        store_len: usize,
-        rows: *mut u32,
-        rows_len: usize,
-        answer: *mut u32,
-        answer_len: usize,
+        book: *const u8, book_len: usize, text: *const u8, text_len: usize, start: u32, allowance: u32,
+        cells: *mut u32, cells_len: usize, parses: *mut u32, parses_len: usize, index: *mut usize, index_len: usize,
+        store: *mut u32, store_len: usize, rows: *mut u32, rows_len: usize, answer: *mut u32, answer_len: usize,
     );
+
+    fn reader_print(
+        book: *const u8, book_len: usize, text: *const u8, text_len: usize, index: *const usize, index_len: usize,
+        cells: *const u32, cells_len: usize, answer: *const u32, answer_len: usize, line: *mut u8, line_len: usize,
+    ) -> usize;
 }
 
 /// Both lists, the working memory and the answer's seven numbers.
@@ -84,15 +76,33 @@ impl Reader {
     }
 
     /// The last call's answer, for a text of an accepted book.
-    pub fn answer(&self, book: &Book, text: &[u8]) -> Answer {
-        let [refusal, place, _, _, _, count, value] = self.numbers;
+    pub fn answer(&self, book: &[u8], text: &[u8]) -> Answer {
+        let [refusal, place, _, _, _, count, _] = self.numbers;
         let parses = self.parses[..4 * count as usize].chunks(4);
         Answer {
             refusal,
             place: if refusal == 30 { place } else { 0 },
             parses: parses.map(|p| Parse { rest: p[0], level: p[1], associativity: p[2], value: self.value(text, p[3]).exact() }).collect(),
-            value: if refusal == 0 { self.value(text, value).printed(book) } else { String::new() },
+            value: if refusal == 0 { self.printed(book, text, LINE) } else { String::new() },
         }
+    }
+
+    /// The value as the reader prints it.
+    #[rustfmt::skip]
+    fn printed(&self, book: &[u8], text: &[u8], room: usize) -> String {
+        let mut line = vec![0; room];
+        // Safety: as in `call`.
+        let size = unsafe {
+            reader_print(
+                book.as_ptr(), book.len(), text.as_ptr(), text.len(), self.index.as_ptr(), INDEX,
+                self.cells.as_ptr(), CELLS, self.numbers.as_ptr(), self.numbers.len(), line.as_mut_ptr(), room,
+            )
+        };
+        if size == 0 {
+            return self.printed(book, text, 8 * room);
+        }
+        let line = std::str::from_utf8(&line[..size]).expect("a line is ASCII");
+        line.strip_prefix("value ").and_then(|value| value.strip_suffix('\n')).expect("a line with a value").to_string()
     }
 
     /// What a cell stands for.
