@@ -1,13 +1,14 @@
--- Laws of the byte classes: a class's number tells the class, a table that lists a rule follows it, and three classes are ranges of bytes.
+-- Laws of the byte classes: a class's number tells the class, a table that lists a rule follows it, and no byte above 32 is whitespace.
 use mathlib.Core.Path.{_≡_, refl, sym, ap, _∙_}
-use mathlib.Core.Bool.{Bool, true, false, cond, _||_}
+use mathlib.Core.Bool.{Bool, true, false, cond, _&&_, _||_}
 use mathlib.Core.List.{List, [], _∷_}
 use Prim.Native.Nat.{ℕ, zero, suc, _+_, _<_}
 use native.Mathlib.Nat.{zero-add}
 use native.Mathlib.Omega.{arith}
-use lib.Dec.{eqb}
-use lib.ListN.{getD}
-use borrow.Author.Tests.{ne-eqb}
+use lib.Dec.{leb, eqb}
+use lib.ListN.{length, getD}
+use borrow.Author.Tests.{ne-eqb, le-leb, lt-leb}
+use Rattle.characters.specs.Cases.{by-test}
 use Rattle.characters.specs.Classes.{classNumber, classOf, between, isOf}
 use Rattle.characters.specs.declared.classes.Class.{Class}
 use Rattle.characters.specs.declared.classes.Class.the-variants.{Other, Whitespace, Digit, Letter, Refused}
@@ -41,32 +42,22 @@ tabulate-at rule i zero k h = absurd (omega arith)
 tabulate-at rule i (suc n) zero h = ap rule (omega arith)
 tabulate-at rule i (suc n) (suc k) h = tabulate-at rule (suc i) n k (omega arith) ∙ ap rule (omega arith)
 
--- ---- Classes that are ranges
--- a test as a number, for a table
-abbrev bit : Bool → ℕ
-bit b = cond b 1 0
+-- the table: the number of each byte's class
+unfoldable pub classTable : List ℕ
+classTable = tabulate (λ b. classNumber (classOf b)) 0 256
 
-bit-told : (a b : Bool) → bit a ≡ bit b → a ≡ b
-bit-told true true e = refl
-bit-told true false e = absurd (omega (arith, e))
-bit-told false true e = absurd (omega (arith, e))
-bit-told false false e = refl
+pub table-length : length classTable ≡ 256
+unfolding classTable tabulate
+table-length = refl
 
--- two tests with one table give the same at each number of it
-tests-agree : (f g : ℕ → Bool) (n k : ℕ) → tabulate (λ b. bit (f b)) 0 n ≡ tabulate (λ b. bit (g b)) 0 n → k < n → f k ≡ g k
-tests-agree f g n k e h =
-    let at : (t : ℕ → Bool) → getD (tabulate (λ b. bit (t b)) 0 n) k 0 ≡ bit (t k) = λ t. tabulate-at (λ b. bit (t b)) 0 n k h ∙ ap (λ b. bit (t b)) (zero-add k) in
-    bit-told (f k) (g k) (sym (at f) ∙ ap (λ l. getD l k 0) e ∙ at g)
+pub table-at : (b : ℕ) → b < 256 → getD classTable b 0 ≡ classNumber (classOf b)
+unfolding classTable
+table-at b h = tabulate-at (λ i. classNumber (classOf i)) 0 256 b h ∙ ap (λ i. classNumber (classOf i)) (zero-add b)
 
--- antt computes both tests at the 256 bytes
-pub digit-range : (b : ℕ) → b < 256 → between 48 57 b ≡ isOf Digit b
-unfolding tabulate classOf
-digit-range b h = tests-agree (λ n. between 48 57 n) (λ n. isOf Digit n) 256 b refl h
-
-pub whitespace-range : (b : ℕ) → b < 256 → (eqb b 32 || between 9 13 b) ≡ isOf Whitespace b
-unfolding tabulate classOf
-whitespace-range b h = tests-agree (λ n. eqb n 32 || between 9 13 n) (λ n. isOf Whitespace n) 256 b refl h
-
-pub letter-range : (b : ℕ) → b < 256 → (eqb b 95 || (between 97 122 b || between 65 90 b)) ≡ isOf Letter b
-unfolding tabulate classOf
-letter-range b h = tests-agree (λ n. eqb n 95 || (between 97 122 n || between 65 90 n)) (λ n. isOf Letter n) 256 b refl h
+pub above-space : (b : ℕ) → 32 < b → isOf Whitespace b ≡ false
+unfolding classOf
+above-space b h =
+    let a : between 9 13 b ≡ false = rw (le-leb 9 b (omega arith), lt-leb b 13 (omega arith)) in
+    by-test (between 48 57 b) (λ t. rw (a, ne-eqb b 32 (λ e. omega (arith, e)), t)) (λ t.
+    by-test (between 65 90 b || between 97 122 b || eqb b 95) (λ u. rw (a, ne-eqb b 32 (λ e. omega (arith, e)), t, u)) (λ u.
+    by-test (leb 128 b) (λ v. rw (a, ne-eqb b 32 (λ e. omega (arith, e)), t, u, v)) (λ v. rw (a, ne-eqb b 32 (λ e. omega (arith, e)), t, u, v))))

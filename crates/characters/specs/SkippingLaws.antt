@@ -10,6 +10,7 @@ use lib.ListN.{length, getD, drop, length-drop, drop-of-length-le, List·getD-eq
 use lib.Seq.{drop-cons, getD-drop}
 use borrow.Author.Tests.{lt-ltb, le-ltb, eq-eqb, ne-eqb, eqb-true, eqb-false, ltb-true, ltb-false}
 use Rattle.characters.specs.Cases.{by-test, clash}
+use Rattle.characters.specs.ClassLaws.{above-space}
 use Rattle.characters.specs.Classes.{isOf, classOf}
 use Rattle.characters.specs.Skipping.{belongs, leading, spanEnd, commentAt, commentEnd, roundEnd, rounds, skipFrom}
 use Rattle.characters.specs.declared.classes.Class.the-variants.{Whitespace}
@@ -92,6 +93,13 @@ module _ (span : Span) (text : List ℕ) (place : ℕ) where
       let t : belongs span (getD (drop place text) (leading (belongs span) (drop place text)) 0) ≡ false =
       leading-longest (belongs span) (drop place text) (omega (arith, length-drop place text)) in
       rw getD-drop at t
+
+-- no whitespace begins with a byte above the space; past the end there is no byte, which reads as 0
+pub spaces-none : (text : List ℕ) (place : ℕ) → 32 < getD text place 0 → spanEnd Spaces text place ≡ place
+spaces-none text place h =
+    by-test (ltb place (length text))
+    (λ t. span-stop Spaces text place (ltb-true place (length text) t) (above-space (getD text place 0) h))
+    (λ t. span-out Spaces text place (ltb-false place (length text) t))
 
 -- ---- Comments
 module _ (text : List ℕ) (place : ℕ) where

@@ -1,9 +1,11 @@
-// The class of each byte, by one table. A class is known outside this file through `class_of` and `is_of` alone, so that
+// The class of each byte, read from one table. A class is known outside this crate through `class_of` and `is_of` alone, so that
 // the table may be stored in another way.
+//
+// Compiled code lays a constant array out on the stack at each reading. So a loop over many bytes lays the table out once, and reads it as a slice (`is_in`).
 ghost use mathlib.Core.Path.{_≡_};
 ghost use lib.ListN.{getD};
-ghost use Rattle.characters.specs.Classes.{between, classOf, classNumber, isOf};
-ghost use Rattle.characters.specs.declared.classes.Class.{Class};
+ghost use Rattle.characters.specs.Classes.{classOf, classNumber, isOf};
+ghost use Rattle.characters.specs.ClassLaws.{classTable};
 use crate::table::CLASSES;
 
 pub enum Class {
@@ -14,17 +16,19 @@ pub enum Class {
     Refused,
 }
 
-fn class_number(byte: u8) -> u8
+fn number_in(table: &[u8], byte: u8) -> u8
+    requires { ⌜ now table ≡ classTable ⌝ }
     ensures { λ r. ⌜ r ≡ classNumber (classOf byte) ⌝ }
 {
     let index = byte as usize;
-    CLASSES[index]
+    table[index]
 }
 
 pub fn class_of(byte: u8) -> Class
     ensures { λ r. ⌜ r ≡ classOf byte ⌝ }
 {
-    let number = class_number(byte);
+    let table = CLASSES;
+    let number = number_in(&table, byte);
     match number {
         0 => Class::Other,
         1 => Class::Whitespace,
@@ -46,44 +50,18 @@ fn number_of(class: Class) -> u8
     }
 }
 
-// Whether a byte is one from `low` to `high`.
-fn between(low: u8, high: u8, byte: u8) -> bool
-    ensures { λ r. ⌜ r ≡ between low high byte ⌝ }
+pub fn is_in(table: &[u8], byte: u8, class: Class) -> bool
+    requires { ⌜ now table ≡ classTable ⌝ }
+    ensures { λ r. ⌜ r ≡ isOf class byte ⌝ }
 {
-    if low <= byte { byte <= high } else { false }
+    number_in(table, byte) == number_of(class)
 }
 
-fn is_whitespace(byte: u8) -> bool
-    ensures { λ r. ⌜ r ≡ isOf Class.Whitespace byte ⌝ }
-{
-    if byte == 32 {
-        return true;
-    }
-    between(9, 13, byte)
-}
-
-fn is_letter(byte: u8) -> bool
-    ensures { λ r. ⌜ r ≡ isOf Class.Letter byte ⌝ }
-{
-    if byte == 95 {
-        return true;
-    }
-    if between(97, 122, byte) {
-        return true;
-    }
-    between(65, 90, byte)
-}
-
-// The classes that are asked for at each byte of a text are told by their ranges: compiled code lays the table out anew at each reading.
 pub fn is_of(byte: u8, class: Class) -> bool
     ensures { λ r. ⌜ r ≡ isOf class byte ⌝ }
 {
-    match class {
-        Class::Whitespace => is_whitespace(byte),
-        Class::Digit => between(48, 57, byte),
-        Class::Letter => is_letter(byte),
-        _ => class_number(byte) == number_of(class),
-    }
+    let table = CLASSES;
+    is_in(&table, byte, class)
 }
 
 // The byte at a place, and 0 where the text has none: 0 is of class other, so nothing begins there.

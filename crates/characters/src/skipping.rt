@@ -1,10 +1,13 @@
 // Skipping whitespace and comments, by rounds: a round drops whitespace and then one comment, if `//` follows. `// a` and a line feed
 // may stand before another comment, so rounds are repeated until one drops nothing.
 ghost use mathlib.Core.Path.{_≡_};
+ghost use Rattle.characters.specs.ClassLaws.{classTable};
 ghost use Rattle.characters.specs.Skipping.{belongs, spanEnd, commentAt, commentEnd, roundEnd, skipFrom};
+ghost use Rattle.characters.specs.declared.skipping.Span.{Span};
 use crate::classes::Class;
 use crate::classes::byte_at;
-use crate::classes::is_of;
+use crate::classes::is_in;
+use crate::table::CLASSES;
 
 // The spans of text that are read to their longest end.
 pub enum Span {
@@ -18,20 +21,21 @@ pub enum Span {
     Digits,
 }
 
-fn in_span(byte: u8, span: Span) -> bool
+fn in_span(table: &[u8], byte: u8, span: Span) -> bool
+    requires { ⌜ now table ≡ classTable ⌝ }
     ensures { λ r. ⌜ r ≡ belongs span byte ⌝ }
 {
     match span {
-        Span::Spaces => is_of(byte, Class::Whitespace),
+        Span::Spaces => is_in(table, byte, Class::Whitespace),
         Span::Line => byte != b'\n',
         Span::Word => {
-            if is_of(byte, Class::Letter) {
+            if is_in(table, byte, Class::Letter) {
                 true
             } else {
-                is_of(byte, Class::Digit)
+                is_in(table, byte, Class::Digit)
             }
         }
-        Span::Digits => is_of(byte, Class::Digit),
+        Span::Digits => is_in(table, byte, Class::Digit),
     }
 }
 
@@ -39,14 +43,26 @@ fn in_span(byte: u8, span: Span) -> bool
 pub fn span_end(text: &[u8], place: usize, span: Span) -> usize
     ensures { λ r. ⌜ r ≡ spanEnd span (now (text .entry)) place ⌝ }
 {
+    let classes = CLASSES;
+    let table: &[u8] = &classes;
     let mut at = place;
     while at < text.len() {
-        if !in_span(text[at], span) {
+        if !in_span(table, text[at], span) {
             return at;
         }
         at += 1;
     }
     at
+}
+
+// Where whitespace at a place ends. Few places have any, and a byte above the space is none: for it the table isn't read.
+fn spaces_end(text: &[u8], place: usize) -> usize
+    ensures { λ r. ⌜ r ≡ spanEnd Span.Spaces (now (text .entry)) place ⌝ }
+{
+    if 32 < byte_at(text, place) {
+        return place;
+    }
+    span_end(text, place, Span::Spaces)
 }
 
 fn comment_at(text: &[u8], place: usize) -> bool
@@ -74,7 +90,7 @@ fn comment_end(text: &[u8], place: usize) -> usize
 fn skip_round(text: &[u8], place: usize) -> usize
     ensures { λ r. ⌜ r ≡ roundEnd (now (text .entry)) place ⌝ }
 {
-    let at = span_end(text, place, Span::Spaces);
+    let at = spaces_end(text, place);
     if comment_at(text, at) {
         comment_end(text, at)
     } else {

@@ -6,8 +6,8 @@ use Rattle.characters.specs.SkippingLaws.{round-comment, round-plain}
 use Rattle.characters.proofs.skipping.skip_round.Statement.{statement}
 use Rattle.characters.proofs.skipping.skip_round.Tie as tie
 
-span-end-requires : tie.Need-span-end-requires
-span-end-requires c κs = search needs
+spaces-end-requires : tie.Need-spaces-end-requires
+spaces-end-requires c κs = search needs
 
 comment-at-requires : tie.Need-comment-at-requires
 comment-at-requires c κs = search needs
@@ -18,21 +18,21 @@ comment-end-requires c κs = search needs
 returns : tie.Need-returns
 returns c =
     let args = c .before .before .before .before .before .args in
-    let span-end = c .before .before .before .span-end in
+    let spaces-end = c .before .before .before .spaces-end in
     let comment-at = c .before .before .comment-at in
     let text = args .text .now in
-    let at = span-end .ensures in
+    let at = spaces-end .ensures in
     c .comment-end .ensures ∙ ap (commentEnd text) at ∙ sym (round-comment _ _ (ap (commentAt text) (sym at) ∙ sym (comment-at .ensures) ∙ c .before .if1 .taken))
 
 returns-2 : tie.Need-returns-2
 returns-2 c =
     let args = c .before .before .before .before .args in
-    let span-end = c .before .before .span-end in
+    let spaces-end = c .before .before .spaces-end in
     let text = args .text .now in
-    let at = span-end .ensures in
+    let at = spaces-end .ensures in
     at ∙ sym (round-plain _ _ (ap (commentAt text) (sym at) ∙ sym (c .before .comment-at .ensures) ∙ c .if1 .left))
 
 pub skip-round-spec : {M : Type 1} → statement M
 skip-round-spec =
     tie.close
-    (tie.spec span-end-requires comment-at-requires comment-end-requires returns returns-2)
+    (tie.spec spaces-end-requires comment-at-requires comment-end-requires returns returns-2)
