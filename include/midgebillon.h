@@ -47,8 +47,8 @@ enum {
  *
  *  1  cells has under 12,288 numbers, or parses under 256      10  the text has more than 4,096 bytes
  *  2  the allowance is 0 or above 1,000,000                    11  a byte of the text is 128 or more
- *  3  the book ends too early                                  20  the allowance is used up
- *  4  a section's count is out of its limits or not its sum    21  calls are nested beyond 200
+ *  3  the book ends too early                                  20  a unit beyond the allowance
+ *  4  a section's count is out of its limits or not its sum    21  the run nests beyond 200
  *  5  a spelling is not 1 to 15 bytes or no identifier         22  a set would have a 65th parse
  *  6  another field of the book is out of range                23  a 4,097th cell would be made
  *  7  a passing variant is not one step of kind 8              30  no parse: place, kind and argument say why

@@ -1,5 +1,5 @@
 /* read BOOK TEXT: reads the rule in the file TEXT by the book in the file BOOK, and prints the line of the answer.
- * Exit status: 0 a value, 1 a refusal, 2 wrong usage, 3 no memory or a line that is too long to print. */
+ * Exit status: 0 a value, 1 a refusal, 2 wrong usage, 3 no memory, or a line that is too long or can't be written. */
 #include "midgebillon.h"
 
 #include <stdio.h>
@@ -22,7 +22,7 @@ static void *room_for(void *old, size_t size) {
     return room;
 }
 
-/* All bytes of a file. A missing file counts as empty. */
+/* All bytes of a file. One that is missing or can't be read counts as empty. */
 static struct bytes load(const char *path) {
     size_t size = 4096;
     struct bytes file = {room_for(NULL, size), 0};
@@ -32,6 +32,7 @@ static struct bytes load(const char *path) {
         file.length += n;
         if (file.length == size) file.at = room_for(file.at, size *= 2);
     }
+    if (ferror(f)) file.length = 0;
     fclose(f);
     return file;
 }
@@ -61,7 +62,10 @@ int main(int argc, char **argv) {
         fputs("the line is too long\n", stderr);
         return 3;
     }
-    fwrite(line.at, 1, line.length, stdout);
+    if (fwrite(line.at, 1, line.length, stdout) != line.length || fflush(stdout)) {
+        fputs("the line can't be written\n", stderr);
+        return 3;
+    }
     free(line.at);
     free(text.at);
     free(book.at);

@@ -1,5 +1,5 @@
 //! read BOOK TEXT: reads the rule in the file TEXT by the book in the file BOOK, and prints the line of the answer.
-//! Exit status: 0 a value, 1 a refusal, 2 wrong usage, 3 a line that is too long to print.
+//! Exit status: 0 a value, 1 a refusal, 2 wrong usage, 3 no thread, or a line that is too long or can't be written.
 
 use midgebillon::{read, Answer, MOST_WORK};
 use std::io::{self, Write};
@@ -8,7 +8,14 @@ use std::{env, fs};
 
 const MOST_ROOM: usize = 1 << 24;
 
-fn main() -> io::Result<ExitCode> {
+fn main() -> ExitCode {
+    run().unwrap_or_else(|error| {
+        eprintln!("{error}");
+        ExitCode::from(3)
+    })
+}
+
+fn run() -> io::Result<ExitCode> {
     let words: Vec<_> = env::args_os().skip(1).collect();
     let [book, text] = &words[..] else {
         eprintln!("usage: read BOOK TEXT");

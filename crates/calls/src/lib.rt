@@ -6,7 +6,7 @@
 // is written before it is read.
 //
 // Each function equals the definition of the same name in the model of the crate rows (specs/Rows.antt and specs/Model.antt there), on the table that the slice
-// gives, and changes one row of it. It asks only that the slice has 104,922 numbers and that its rows are at most 200.
+// gives, and changes at most one row of it, `answer` two. It asks only that the slice has 104,922 numbers and that its rows are at most 200.
 //
 // The crate relies on the promises of sets and book and on the definitions of book, rules and rows, and assumes nothing. specs/ has the definitions (Table) and laws.
 ghost use mathlib.Core.Path.{_≡_};

@@ -1,5 +1,4 @@
 -- Skipping in one pass over the bytes, and the law that it ends where skipping by rounds does.
--- Document 02 k) counts line feeds along such a pass.
 use mathlib.Core.Path.{_≡_, refl, sym, ap, _∙_}
 use mathlib.Core.Bool.{Bool, true, false, not, _&&_}
 use mathlib.Core.List.{List, [], _∷_}

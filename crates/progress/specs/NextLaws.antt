@@ -1,4 +1,4 @@
--- Laws of what follows a parse and of choices: one for each way through their functions of steps.rt.
+-- Laws of what follows a parse and of choices: one for each way through their functions of steps.rt and choices.rt.
 use mathlib.Core.Path.{_≡_, refl, sym, ap, _∙_}
 use mathlib.Core.List.{List}
 use mathlib.Core.Option.{Option, none, some}

@@ -19,7 +19,7 @@ const PARSE_NUMBERS: usize = 256;
 // No line gets that far; print_part asks for a bound.
 const LONGEST_LINE: usize = 4611686018427387904;
 
-// The line in parts, each as much as `out` holds, until one is short or can't be written.
+// The line in parts, each as much as `out` holds, until one is empty or can't be written.
 fn write_line<'a>(
     text: &'a [u8],
     book: &'a [u8],

@@ -4,8 +4,8 @@
 // slice gives a set (`setAt` of specs/Sets.antt): a count above 64 reads as 64, and an associativity above 2 as Both. So the contracts hold
 // whatever the slice held, and ask only that a set's 257 numbers lie in the slice and that two sets, of which one is written, lie apart.
 //
-// Each function equals the definition of the same name in rules' specs/Run.antt (`has`, `allIn`, `add`, `addAll`, `kept`), on the sets that the slice
-// gives, and changes no number but those of the set that it writes (`Only`).
+// `has`, `all_in`, `add`, `add_all` and `kept` equal definitions of rules' specs/Run.antt (`has`, `allIn`, `add`, `addAll`, `kept`), on the sets that the slice
+// gives; no function changes a number but those of the set that it writes (`Only`).
 //
 // The crate relies on the definitions of book and rules, and assumes nothing. specs/ has the definitions (Sets) and laws.
 ghost use mathlib.Core.Path.{_≡_};
