@@ -1,5 +1,5 @@
 #!/usr/bin/env python3
-"""Writes crates/cases/data/books.bin: books, and what document 01 makes of each.
+"""Writes crates/layer_cases/data/books.bin: books, and what document 01 makes of each.
 
     tools/book_cases.py VECTORS.jsonl ..
 
@@ -13,7 +13,7 @@ variants), variants (level, associativity, committed, passing, first step, numbe
 import json
 import sys
 
-OUT = "crates/cases/data/books.bin"
+OUT = "crates/layer_cases/data/books.bin"
 
 
 def fields(book):

@@ -1,5 +1,5 @@
 #!/usr/bin/env python3
-"""Runs the definitions of `crates/rules/specs` and `crates/printing/specs` on vectors.
+"""Runs the definitions of `crates/semantics/specs` and `crates/printing/specs` on vectors.
 
 The definitions are read as they stand and translated word by word into Python functions; nothing of what they say is
 written again here. What is written here by hand is only what the definitions take from libraries: booleans, numbers,
@@ -21,7 +21,7 @@ import re
 import sys
 import threading
 
-ENTRY = ("rules", "Answer", "answerOf")
+ENTRY = ("semantics", "Answer", "answerOf")
 CHECK = ("book", "Check", "checkBook")
 LINE = ("printing", "Printing", "lineBytes")
 CELLS, PARSES = 12288, 256      # how much of each list the answer writes

@@ -19,7 +19,7 @@ import subprocess
 import sys
 import tempfile
 
-from replay import BEYOND, CELLS, PARSES, ROOT, read
+from run_vectors import BEYOND, CELLS, PARSES, ROOT, read
 
 NUMBERS = 7
 FILL = 0xF111F111  # what a list holds before a call

@@ -100,7 +100,7 @@ def imports(names):
     for crate, prefix, modules in (
         ("characters", "Rattle.characters.specs.", ["Classes", "Skipping", "Tokens", "Spelling"]),
         ("book", "Rattle.book.specs.", ["Book", "Check"]),
-        ("rules", "Rattle.rules.specs.", ["Uses", "Tokens", "Steps", "Cells", "Errors", "Run", "Answer"]),
+        ("semantics", "Rattle.semantics.specs.", ["Uses", "Tokens", "Steps", "Cells", "Errors", "Run", "Answer"]),
     ):
         for module in modules:
             items = []

@@ -9,7 +9,7 @@ fn main() {
     assert!(done.expect("python3 runs").success(), "tools/reader.py compiles the reader");
     println!("cargo:rustc-link-search=native={out}");
     println!("cargo:rustc-link-lib=static=reader");
-    for part in ["crates", "crates.txt", "tools/reader.py", "tools/replay/exported.rt.txt"] {
+    for part in ["crates", "crates.txt", "tools/reader.py", "tools/run_vectors/exported.rt.txt"] {
         println!("cargo:rerun-if-changed={}", root.join(part).display());
     }
 }

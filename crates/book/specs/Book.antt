@@ -26,18 +26,18 @@ pub record Book : Type 0 where
   pub steps : List Step
 
 -- ---- A record by its number. A number that the book doesn't have gets a fixed answer
-abbrev pub entryNumber : List Entry → ℕ → Entry
-entryNumber entries i = getD entries i (record { label = 0; spelling = [] })
+abbrev pub nthEntry : List Entry → ℕ → Entry
+nthEntry entries i = getD entries i (record { label = 0; spelling = [] })
 
-abbrev pub nonterminalNumber : Book → ℕ → Nonterminal
-nonterminalNumber book i = getD (book .nonterminals) i (record { mark = Mark.Plain; first = 0; number = 0 })
+abbrev pub nthNonterminal : Book → ℕ → Nonterminal
+nthNonterminal book i = getD (book .nonterminals) i (record { mark = Mark.Plain; first = 0; count = 0 })
 
-abbrev pub variantNumber : Book → ℕ → Variant
-variantNumber book j =
-    getD (book .variants) j (record { level = 0; associativity = Associativity.Left; committed = false; passing = false; first = 0; number = 0 })
+abbrev pub nthVariant : Book → ℕ → Variant
+nthVariant book j =
+    getD (book .variants) j (record { level = 0; associativity = Associativity.Left; committed = false; passing = false; first = 0; count = 0 })
 
-abbrev pub stepNumbered : List Step → ℕ → Step
-stepNumbered steps k = getD steps k (Step.Character 0)
+abbrev pub nthStep : List Step → ℕ → Step
+nthStep steps k = getD steps k (Step.Character 0)
 
 -- ---- Lookups
 -- a spelling is reserved if any equal word is

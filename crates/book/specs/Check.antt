@@ -6,7 +6,7 @@ use lib.Dec.{leb, ltb, eqb}
 use lib.ListN.{length, getD}
 use Rattle.characters.specs.Classes.{between, isOf}
 use Rattle.characters.specs.declared.classes.Class.the-variants.{Letter, Digit}
-use Rattle.book.specs.Book.{Entry, Book, stepNumber, stepNumbered}
+use Rattle.book.specs.Book.{Entry, Book, stepNumber, nthStep}
 use Rattle.book.specs.declared.records.Mark.{Mark}
 use Rattle.book.specs.declared.records.Associativity.{Associativity}
 use Rattle.book.specs.declared.records.Nonterminal.{Nonterminal}
@@ -105,8 +105,8 @@ markOf n = cond (eqb n 1) Mark.Variable (cond (eqb n 2) Mark.Identifier Mark.Pla
 unfoldable pub nonterminal : ℕ → Reader Nonterminal
 nonterminal first = do
   mark ← field (between 0 2)
-  number ← field (between 0 (cond (eqb mark 2) 0 16))
-  give (record { mark = markOf mark; first = first; number = number })
+  count ← field (between 0 (cond (eqb mark 2) 0 16))
+  give (record { mark = markOf mark; first = first; count = count })
 
 -- ---- Section 4: "level; associativity 0 Left, 1 Right, 2 None, 3 Both; flags 0 to 3 (1 committed, plus 2 passing); steps 0 to 8";
 -- "Level 255 is Rust's default and needs Both, else 6 at the associativity"
@@ -118,14 +118,14 @@ variant first = do
   level ← field (between 0 255)
   associativity ← field (between (cond (eqb level 255) 3 0) 3)
   flags ← field (between 0 3)
-  number ← field (between 0 8)
+  count ← field (between 0 8)
   give (record {
     level = level;
     associativity = associativityOf associativity;
     committed = eqb (flags % 2) 1;
     passing = leb 2 flags;
     first = first;
-    number = number;
+    count = count;
   })
 
 -- ---- Section 5: "kind, a, b, c; unused bytes 0"
@@ -171,7 +171,7 @@ step words nonterminals = do
 
 -- ---- "after steps": "passing variant other than one step of kind 8", 7 at the "first byte of the variant"
 abbrev pub passes : List Step → Variant → Bool
-passes steps v = not (v .passing) || (eqb (v .number) 1 && eqb (stepNumber (stepNumbered steps (v .first))) 8)
+passes steps v = not (v .passing) || (eqb (v .count) 1 && eqb (stepNumber (nthStep steps (v .first))) 8)
 
 unfoldable pub allPass : List Step → List (ℕ × Variant) → Reader (Unit {0})
 allPass steps [] = give tt
@@ -192,9 +192,9 @@ unfoldable pub whole : Reader Book
 whole = do
   words ← section (between 0 64) (λ w. 0) (λ first. entry 1)
   names ← section (between 0 64) (λ w. 0) (λ first. entry 7)
-  nonterminals ← section (between 1 32) (λ n. n .number) nonterminal
-  variants ← section (λ n. between 0 128 n && eqb n (total (λ x. x .number) nonterminals)) (λ v. v .1 .number) (λ first. placed (variant first))
-  steps ← section (eqb (total (λ v. v .1 .number) variants)) (λ s. 0) (λ first. step (length words) (length nonterminals))
+  nonterminals ← section (between 1 32) (λ n. n .count) nonterminal
+  variants ← section (λ n. between 0 128 n && eqb n (total (λ x. x .count) nonterminals)) (λ v. v .1 .count) (λ first. placed (variant first))
+  steps ← section (eqb (total (λ v. v .1 .count) variants)) (λ s. 0) (λ first. step (length words) (length nonterminals))
   passed ← allPass steps variants
   over ← ended
   give (record { words = words; names = names; nonterminals = nonterminals; variants = map (λ v. v .1) variants; steps = steps })

@@ -9,7 +9,7 @@ use lib.Dec.{eqb}
 use lib.ListN.{length, drop, drop-of-length-le}
 use lib.Seq.{drop-cons}
 use borrow.Author.Tests.{lt-ltb, le-ltb, eq-eqb, ne-eqb}
-use Rattle.book.specs.Book.{Book, variantNumber, stepNumber, stepNumbered}
+use Rattle.book.specs.Book.{Book, nthVariant, stepNumber, nthStep}
 use Rattle.book.specs.Check.{Checked, refused, accepted, andThen, passes, allPass, ended, whole, Outcome, checkBook}
 use Rattle.book.specs.Index.{given, upTo, countIn, placeIn, firstIn, variantFrom, entriesIn, nonterminalsIn, placedIn, stepsIn, bookIn, fiveSections, Sections, SectionsRead, Checks, CheckedInto, Kept}
 use Rattle.book.specs.ReadingLaws.{upTo-in, upTo-length}
@@ -35,7 +35,7 @@ module _ (book index : List ℕ) where
     passFrom = allPass (bookIn book index .steps) (drop j (placedIn book index)) book next
 
     module _ (count : ℕ) (count-is : count ≡ countIn index 323) (h : j < count) where
-      this : drop j (placedIn book index) ≡ (placeIn index 323 j, variantNumber (bookIn book index) j) ∷ drop (j + 1) (placedIn book index)
+      this : drop j (placedIn book index) ≡ (placeIn index 323 j, nthVariant (bookIn book index) j) ∷ drop (j + 1) (placedIn book index)
       unfolding bookIn
       this =
           let less : j < countIn index 323 = omega arith in
@@ -43,12 +43,12 @@ module _ (book index : List ℕ) where
           drop-cons (placedIn book index) j (placedFrom 0) (omega arith)
           ∙ rw (add-one j, upTo-in placedFrom (countIn index 323) j (placedFrom 0) less, upTo-in variantIn (countIn index 323) j _ less)
 
-      pub pass-on : passes (bookIn book index .steps) (variantNumber (bookIn book index) j) ≡ true →
+      pub pass-on : passes (bookIn book index .steps) (nthVariant (bookIn book index) j) ≡ true →
           passFrom ≡ allPass (bookIn book index .steps) (drop (j + 1) (placedIn book index)) book next
       unfolding allPass
       pass-on e = rw (this, e)
 
-      pub pass-stop : (at : ℕ) → at ≡ placeIn index 323 j → passes (bookIn book index .steps) (variantNumber (bookIn book index) j) ≡ false → passFrom ≡ refused 7 at
+      pub pass-stop : (at : ℕ) → at ≡ placeIn index 323 j → passes (bookIn book index .steps) (nthVariant (bookIn book index) j) ≡ false → passFrom ≡ refused 7 at
       unfolding allPass
       pass-stop at at-is e = rw (this, e, at-is)
 
@@ -135,11 +135,11 @@ module _ (steps : List Step) (v w : Variant) (same-variant : v ≡ w) where
   passes-plain e = rw (← same-variant, e)
 
   module _ (passing : v .passing ≡ true) where
-    pub passes-not-one : (v .number ≡ 1 → ⊥) → false ≡ passes steps w
-    passes-not-one h = rw (← same-variant, passing, ne-eqb (v .number) 1 h)
+    pub passes-not-one : (v .count ≡ 1 → ⊥) → false ≡ passes steps w
+    passes-not-one h = rw (← same-variant, passing, ne-eqb (v .count) 1 h)
 
-    pub passes-one : v .number ≡ 1 → (s : Step) (n : ℕ) → s ≡ stepNumbered steps (v .first) → n ≡ stepNumber s → eqb n 8 ≡ passes steps w
-    passes-one h s n s-is n-is = rw (← same-variant, passing, eq-eqb (v .number) 1 h, n-is, s-is)
+    pub passes-one : v .count ≡ 1 → (s : Step) (n : ℕ) → s ≡ nthStep steps (v .first) → n ≡ stepNumber s → eqb n 8 ≡ passes steps w
+    passes-one h s n s-is n-is = rw (← same-variant, passing, eq-eqb (v .count) 1 h, n-is, s-is)
 
 -- ---- The public check
 module _ (book f g : List ℕ) (r : Verdict) where

@@ -24,7 +24,7 @@ abbrev pub entryFrom : List ℕ → ℕ → Entry
 entryFrom book at = record { label = getD book at 0; spelling = partOf book (at + 2) (getD book (at + 1) 0) }
 
 abbrev pub nonterminalFrom : List ℕ → ℕ → ℕ → Nonterminal
-nonterminalFrom book at first = record { mark = markOf (getD book at 0); first = first; number = getD book (at + 1) 0 }
+nonterminalFrom book at first = record { mark = markOf (getD book at 0); first = first; count = getD book (at + 1) 0 }
 
 abbrev pub variantFrom : List ℕ → ℕ → ℕ → Variant
 variantFrom book at first =
@@ -34,7 +34,7 @@ variantFrom book at first =
       committed = eqb (getD book (at + 2) 0 % 2) 1;
       passing = leb 2 (getD book (at + 2) 0);
       first = first;
-      number = getD book (at + 3) 0;
+      count = getD book (at + 3) 0;
     }
 
 abbrev pub stepFrom : List ℕ → ℕ → Step
@@ -55,8 +55,8 @@ oneOf (Sort.Step words nonterminals) first = step words nonterminals
 
 abbrev pub sizeOf : (sort : Sort) → RecordOf sort → ℕ
 sizeOf (Sort.Entry greatest) x = 0
-sizeOf Sort.Nonterminal x = x .number
-sizeOf Sort.Variant x = x .1 .number
+sizeOf Sort.Nonterminal x = x .count
+sizeOf Sort.Variant x = x .1 .count
 sizeOf (Sort.Step words nonterminals) x = 0
 
 abbrev pub recordFrom : (sort : Sort) → List ℕ → ℕ → ℕ → RecordOf sort
@@ -183,11 +183,11 @@ abbrev pub heads : List ℕ → Heads → Checked Book
 heads book K =
     andThen (section (between 0 64) (λ w. 0) (λ first. entry 1) book 0) (λ words p.
     andThen (section (between 0 64) (λ w. 0) (λ first. entry 7) book p) (λ names q.
-    andThen (section (between 1 32) (λ n. n .number) nonterminal book q) (λ nonterminals r. K words names nonterminals r)))
+    andThen (section (between 1 32) (λ n. n .count) nonterminal book q) (λ nonterminals r. K words names nonterminals r)))
 
 pub record HeadsRead (book f g : List ℕ) (part : Part) : Type 0 where
   pub reads : (K : Heads) → heads book K ≡ followed part (K (entriesIn book g 0) (entriesIn book g 129) (nonterminalsIn book g))
-  pub valued : Valued part (total (λ n. n .number) (nonterminalsIn book g))
+  pub valued : Valued part (total (λ n. n .count) (nonterminalsIn book g))
   pub few-words : Few part (countIn g 0) 64
   pub few-names : Few part (countIn g 129) 64
   pub few-nonterminals : Few part (countIn g 258) 32
@@ -202,8 +202,8 @@ Sections = List Entry → List Entry → List Nonterminal → List (ℕ × Varia
 abbrev pub fiveSections : List ℕ → Sections → Checked Book
 fiveSections book K =
     heads book (λ words names nonterminals p.
-    andThen (section (variantsFit (total (λ n. n .number) nonterminals)) (λ v. v .1 .number) (λ first. placed (variant first)) book p) (λ variants q.
-    andThen (section (eqb (total (λ v. v .1 .number) variants)) (λ s. 0) (λ first. step (length words) (length nonterminals)) book q) (λ steps r.
+    andThen (section (variantsFit (total (λ n. n .count) nonterminals)) (λ v. v .1 .count) (λ first. placed (variant first)) book p) (λ variants q.
+    andThen (section (eqb (total (λ v. v .1 .count) variants)) (λ s. 0) (λ first. step (length words) (length nonterminals)) book q) (λ steps r.
     K words names nonterminals variants steps r)))
 
 pub record SectionsRead (book f g : List ℕ) (part : Part) : Type 0 where

@@ -106,7 +106,7 @@ module _ (book f g : List ℕ) (part : Part) (s : Section (Sort.Entry 1) (betwee
               words-then _
               ∙ follow (section (between 0 64) (λ w. 0) (λ first. entry 7) book p) part′ (entriesIn book h 129) _ (s′ .reads)
               ∙ follow-read part′ _ told′
-              ∙ follow (section (between 1 32) (λ n. n .number) nonterminal book q) last (nonterminalsIn book i) (λ x r. K (entriesIn book g 0) (entriesIn book h 129) x r) (s″ .reads)
+              ∙ follow (section (between 1 32) (λ n. n .count) nonterminal book q) last (nonterminalsIn book i) (λ x r. K (entriesIn book g 0) (entriesIn book h 129) x r) (s″ .reads)
               ∙ rw (words-stay, names-stay);
           valued = s″ .valued;
           few-words = few-all last (omega (arith, words-few, count-stays (Sort.Entry 1) book 0 129 323 g i after-names (omega (arith, words-few))));
@@ -180,10 +180,10 @@ module _ (book f g : List ℕ) (head : Part) (s : HeadsRead book f g head) where
       }
 
   module _ (all p : ℕ) (told : head ≡ Part.Read all p) (h : List ℕ) (body : Part) (s′ : Section Sort.Variant (variantsFit all) book p 128 323 g h body) where
-    all-is : all ≡ total (λ n. n .number) (nonterminalsIn book g)
+    all-is : all ≡ total (λ n. n .count) (nonterminalsIn book g)
     all-is = value-of told _ (s .valued)
 
-    variants-read : section (variantsFit (total (λ n. n .number) (nonterminalsIn book g))) (λ v. v .1 .number) (λ first. placed (variant first)) book p ≡ given body (λ v. placedIn book h)
+    variants-read : section (variantsFit (total (λ n. n .count) (nonterminalsIn book g))) (λ v. v .1 .count) (λ first. placed (variant first)) book p ≡ given body (λ v. placedIn book h)
     variants-read = rw (← all-is) (s′ .reads)
 
     pub sections-variants : {n q : ℕ} → body ≡ Part.Refused n q → SectionsRead book f h body
@@ -210,7 +210,7 @@ module _ (book f g : List ℕ) (head : Part) (s : HeadsRead book f g head) where
       few-variants-read : countIn h 323 ≤ 128
       few-variants-read = few-read _ _ told′ (s′ .few)
 
-      steps-read : section (eqb (total (λ v. v .1 .number) (placedIn book h))) (λ s. 0) (λ first. step (length (entriesIn book g 0)) (length (nonterminalsIn book g))) book q ≡
+      steps-read : section (eqb (total (λ v. v .1 .count) (placedIn book h))) (λ s. 0) (λ first. step (length (entriesIn book g 0)) (length (nonterminalsIn book g))) book q ≡
           given last (λ v. stepsIn book i)
       steps-read =
           let total-is = value-of told′ _ (s′ .valued) in

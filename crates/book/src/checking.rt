@@ -4,7 +4,7 @@ ghost use mathlib.Core.Bool.{cond};
 ghost use Prim.Native.Nat.{ℕ, _+_, _*_, _≤_, _<_};
 ghost use lib.Dec.{ltb, eqb};
 ghost use lib.ListN.{length, getD};
-ghost use Rattle.book.specs.Book.{stepNumber, variantNumber};
+ghost use Rattle.book.specs.Book.{stepNumber, nthVariant};
 ghost use Rattle.book.specs.Check.{passes as passesIn, allPass, checkBook};
 ghost use Rattle.book.specs.Index.{given, Section, variantsFit, countIn, placedIn, bookIn, HeadsRead, SectionsRead, Checks, CheckedInto, refusalOf, verdict};
 ghost use Rattle.book.specs.declared.sections.Sort.{Sort};
@@ -127,11 +127,11 @@ fn five_sections(book: &[u8], index: &mut [usize]) -> Part
 
 // A passing variant is one step of kind 8.
 fn passes(book: &[u8], index: &[usize], j: usize) -> bool
-    ensures { λ r. ⌜ r ≡ passesIn (bookIn (now (book .entry)) (now (index .entry)) .steps) (variantNumber (bookIn (now (book .entry)) (now (index .entry))) j) ⌝ }
+    ensures { λ r. ⌜ r ≡ passesIn (bookIn (now (book .entry)) (now (index .entry)) .steps) (nthVariant (bookIn (now (book .entry)) (now (index .entry))) j) ⌝ }
 {
     let v = variant(book, index, j);
     if v.passing {
-        if v.number == 1 {
+        if v.count == 1 {
             return step_number(step(book, index, v.first)) == 8;
         }
         return false;

@@ -3,7 +3,7 @@ ghost use mathlib.Core.Path.{_≡_};
 ghost use Prim.Native.Nat.{_+_, _≤_};
 ghost use lib.ListN.{getD, length};
 ghost use Rattle.characters.specs.Spelling.{partOf, same};
-ghost use Rattle.book.specs.Book.{entryNumber, reservedAs, isReserved, lookupName};
+ghost use Rattle.book.specs.Book.{nthEntry, reservedAs, isReserved, lookupName};
 ghost use Rattle.book.specs.Index.{entriesIn, entryFrom, placeIn, bookIn};
 use crate::index::NAMES;
 use crate::index::WORDS;
@@ -32,7 +32,7 @@ fn spelling_from(book: &[u8], at: usize) -> &[u8]
 // The spelling of entry i of a section, a part of the book.
 fn spelling<'a>(book: &'a [u8], index: &[usize], base: usize, i: usize) -> &'a [u8]
     requires { ⌜ base ≤ 580 ⌝ }
-    ensures { λ r. ⌜ now r ≡ entryNumber (entriesIn (now (book .entry)) (now (index .entry)) base) i .spelling ⌝ }
+    ensures { λ r. ⌜ now r ≡ nthEntry (entriesIn (now (book .entry)) (now (index .entry)) base) i .spelling ⌝ }
 {
     if i < count(index, base) {
         spelling_from(book, place(index, base, i))
@@ -44,7 +44,7 @@ fn spelling<'a>(book: &'a [u8], index: &[usize], base: usize, i: usize) -> &'a [
 // The number that stands before the spelling of entry i.
 fn label(book: &[u8], index: &[usize], base: usize, i: usize) -> usize
     requires { ⌜ base ≤ 580 ⌝ }
-    ensures { λ r. ⌜ r ≡ entryNumber (entriesIn (now (book .entry)) (now (index .entry)) base) i .label ⌝ }
+    ensures { λ r. ⌜ r ≡ nthEntry (entriesIn (now (book .entry)) (now (index .entry)) base) i .label ⌝ }
 {
     if i < count(index, base) {
         number_after(book, place(index, base, i), 0)
@@ -54,26 +54,26 @@ fn label(book: &[u8], index: &[usize], base: usize, i: usize) -> usize
 }
 
 pub fn word<'a>(book: &'a [u8], index: &[usize], i: usize) -> &'a [u8]
-    ensures { λ r. ⌜ now r ≡ entryNumber (bookIn (now (book .entry)) (now (index .entry)) .words) i .spelling ⌝ }
+    ensures { λ r. ⌜ now r ≡ nthEntry (bookIn (now (book .entry)) (now (index .entry)) .words) i .spelling ⌝ }
 {
     spelling(book, index, WORDS, i)
 }
 
 // 1 for a reserved word, 0 for another.
 pub fn word_label(book: &[u8], index: &[usize], i: usize) -> usize
-    ensures { λ r. ⌜ r ≡ entryNumber (bookIn (now (book .entry)) (now (index .entry)) .words) i .label ⌝ }
+    ensures { λ r. ⌜ r ≡ nthEntry (bookIn (now (book .entry)) (now (index .entry)) .words) i .label ⌝ }
 {
     label(book, index, WORDS, i)
 }
 
 pub fn name<'a>(book: &'a [u8], index: &[usize], i: usize) -> &'a [u8]
-    ensures { λ r. ⌜ now r ≡ entryNumber (bookIn (now (book .entry)) (now (index .entry)) .names) i .spelling ⌝ }
+    ensures { λ r. ⌜ now r ≡ nthEntry (bookIn (now (book .entry)) (now (index .entry)) .names) i .spelling ⌝ }
 {
     spelling(book, index, NAMES, i)
 }
 
 pub fn name_kind(book: &[u8], index: &[usize], i: usize) -> usize
-    ensures { λ r. ⌜ r ≡ entryNumber (bookIn (now (book .entry)) (now (index .entry)) .names) i .label ⌝ }
+    ensures { λ r. ⌜ r ≡ nthEntry (bookIn (now (book .entry)) (now (index .entry)) .names) i .label ⌝ }
 {
     label(book, index, NAMES, i)
 }
@@ -81,14 +81,14 @@ pub fn name_kind(book: &[u8], index: &[usize], i: usize) -> usize
 // Whether entry i is spelled as a part of the text.
 fn spelled(book: &[u8], index: &[usize], base: usize, i: usize, wanted: &[u8]) -> bool
     requires { ⌜ base ≤ 580 ⌝ }
-    ensures { λ r. ⌜ r ≡ same (now (wanted .entry)) (entryNumber (entriesIn (now (book .entry)) (now (index .entry)) base) i .spelling) ⌝ }
+    ensures { λ r. ⌜ r ≡ same (now (wanted .entry)) (nthEntry (entriesIn (now (book .entry)) (now (index .entry)) base) i .spelling) ⌝ }
 {
     same_bytes(wanted, spelling(book, index, base, i))
 }
 
 // Whether word i is reserved and spelled as a part of the text.
 fn reserved_as(book: &[u8], index: &[usize], i: usize, wanted: &[u8]) -> bool
-    ensures { λ r. ⌜ r ≡ reservedAs (now (wanted .entry)) (entryNumber (bookIn (now (book .entry)) (now (index .entry)) .words) i) ⌝ }
+    ensures { λ r. ⌜ r ≡ reservedAs (now (wanted .entry)) (nthEntry (bookIn (now (book .entry)) (now (index .entry)) .words) i) ⌝ }
 {
     if label(book, index, WORDS, i) == 1 {
         spelled(book, index, WORDS, i, wanted)

@@ -3,7 +3,7 @@ ghost use mathlib.Core.Path.{_≡_};
 ghost use mathlib.Core.List.{List};
 ghost use Prim.Native.Nat.{ℕ, _+_, _≤_};
 ghost use lib.ListN.{getD, length};
-ghost use Rattle.book.specs.Book.{nonterminalNumber, variantNumber, stepNumbered, stepNumber};
+ghost use Rattle.book.specs.Book.{nthNonterminal, nthVariant, nthStep, stepNumber};
 ghost use Rattle.book.specs.Check.{markOf, associativityOf, stepOf};
 ghost use Rattle.book.specs.Index.{bookIn};
 use crate::index::NONTERMINALS;
@@ -128,26 +128,26 @@ pub fn nonterminals(index: &[usize]) -> usize
 }
 
 pub fn nonterminal(book: &[u8], index: &[usize], i: usize) -> Nonterminal
-    ensures { λ r. ⌜ r ≡ nonterminalNumber (bookIn (now (book .entry)) (now (index .entry))) i ⌝ }
+    ensures { λ r. ⌜ r ≡ nthNonterminal (bookIn (now (book .entry)) (now (index .entry))) i ⌝ }
 {
     if i < count(index, NONTERMINALS) {
         let at = place(index, NONTERMINALS, i);
         Nonterminal {
             mark: mark_of(byte_after(book, at, 0)),
             first: first(index, NONTERMINALS, i),
-            number: number_after(book, at, 1),
+            count: number_after(book, at, 1),
         }
     } else {
         Nonterminal {
             mark: Mark::Plain,
             first: 0,
-            number: 0,
+            count: 0,
         }
     }
 }
 
 pub fn variant(book: &[u8], index: &[usize], j: usize) -> Variant
-    ensures { λ r. ⌜ r ≡ variantNumber (bookIn (now (book .entry)) (now (index .entry))) j ⌝ }
+    ensures { λ r. ⌜ r ≡ nthVariant (bookIn (now (book .entry)) (now (index .entry))) j ⌝ }
 {
     if j < count(index, VARIANTS) {
         let at = place(index, VARIANTS, j);
@@ -158,7 +158,7 @@ pub fn variant(book: &[u8], index: &[usize], j: usize) -> Variant
             committed: flags % 2 == 1,
             passing: 2 <= flags,
             first: first(index, VARIANTS, j),
-            number: number_after(book, at, 3),
+            count: number_after(book, at, 3),
         }
     } else {
         Variant {
@@ -167,13 +167,13 @@ pub fn variant(book: &[u8], index: &[usize], j: usize) -> Variant
             committed: false,
             passing: false,
             first: 0,
-            number: 0,
+            count: 0,
         }
     }
 }
 
 pub fn step(book: &[u8], index: &[usize], k: usize) -> Step
-    ensures { λ r. ⌜ r ≡ stepNumbered (bookIn (now (book .entry)) (now (index .entry)) .steps) k ⌝ }
+    ensures { λ r. ⌜ r ≡ nthStep (bookIn (now (book .entry)) (now (index .entry)) .steps) k ⌝ }
 {
     if k < count(index, STEPS) {
         let at = place(index, STEPS, k);

@@ -18,7 +18,7 @@ pub struct Nonterminal {
     pub mark: Mark,
     // its first variant, numbered over the book, and how many it has
     pub first: usize,
-    pub number: usize,
+    pub count: usize,
 }
 
 pub struct Variant {
@@ -28,7 +28,7 @@ pub struct Variant {
     pub passing: bool,
     // its first step, numbered over the book, and how many it has
     pub first: usize,
-    pub number: usize,
+    pub count: usize,
 }
 
 pub enum Step {

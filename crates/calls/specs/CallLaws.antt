@@ -10,10 +10,10 @@ use lib.Seq.{getD-set-same, getD-set-other, set-set}
 use borrow.Author.Tests.{eq-eqb, ne-eqb, lt-ltb, le-ltb, ltb-false}
 use Rattle.book.specs.Book.{Book}
 use Rattle.book.specs.Check.{associativityOf}
-use Rattle.rules.specs.Uses.{hasMark, minimumOf}
-use Rattle.rules.specs.Tokens.{when}
-use Rattle.rows.specs.Rows.{Row, row, noRow, rowOf, onRow, withSet, withVariant, opened}
-use Rattle.rows.specs.Rows.{useAt, governs, newestGovernor, RowGovernor, minimum, same-start, governorAt, governorOf, claims, anyClaims}
+use Rattle.semantics.specs.Uses.{hasMark, minimumOf}
+use Rattle.semantics.specs.Tokens.{when}
+use Rattle.run_model.specs.Rows.{Row, row, noRow, rowOf, onRow, withSet, withVariant, opened}
+use Rattle.run_model.specs.Rows.{useAt, governs, newestGovernor, RowGovernor, minimum, same-start, governorAt, governorOf, claims, anyClaims}
 use Rattle.calls.specs.Table.{field}
 
 -- ---- Stores to one row

@@ -8,11 +8,11 @@ use native.Mathlib.Omega.{arith}
 use lib.ListN.{length, set, length-set}
 use borrow.Author.Tests.{eq-eqb, ne-eqb}
 use Rattle.book.specs.Book.{Book}
-use Rattle.rules.specs.Values.{Parse}
-use Rattle.rules.specs.Cells.{Cell}
-use Rattle.rules.specs.Run.{met, ok, _>>=_, allIn, kept}
-use Rattle.rows.specs.Rows.{Row, rowOf, onRow, useAt, ended, wasAsked, withSet, copied}
-use Rattle.rows.specs.Model.{rowState, outcome, addRun, settle, settleFirst}
+use Rattle.semantics.specs.Values.{Parse}
+use Rattle.semantics.specs.Cells.{Cell}
+use Rattle.semantics.specs.Run.{met, ok, _>>=_, allIn, kept}
+use Rattle.run_model.specs.Rows.{Row, rowOf, onRow, useAt, ended, wasAsked, withSet, copied}
+use Rattle.run_model.specs.Model.{rowState, outcome, addRun, settle, settleFirst}
 use Rattle.calls.specs.declared.Settled.{Settled}
 use Rattle.calls.specs.Table.{RunAdded, RunJoined, answeredIn, SettledFirst, SettledNext}
 use Rattle.calls.specs.CallLaws.{row-after, then-row}

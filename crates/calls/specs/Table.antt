@@ -7,12 +7,12 @@ use lib.Dec.{eqb}
 use lib.ListN.{getD}
 use mathlib.Core.Option.{Option, none, some}
 use Rattle.book.specs.Book.{Book}
-use Rattle.rules.specs.Values.{Parse}
-use Rattle.rules.specs.Cells.{Cell}
-use Rattle.rules.specs.Errors.{Error}
-use Rattle.rules.specs.Run.{Result, met, ok, State, add, addAll, kept, failedCall}
-use Rattle.rows.specs.Rows.{Row, row, rowOf, onRow, useAt, ended, wasAsked, withSet, withRun, RowGovernor, minimum, same-start}
-use Rattle.rows.specs.Model.{RowState, rowState, Outcome, outcome, bareCall, settle, settleFirst}
+use Rattle.semantics.specs.Values.{Parse}
+use Rattle.semantics.specs.Cells.{Cell}
+use Rattle.semantics.specs.Errors.{Error}
+use Rattle.semantics.specs.Run.{Result, met, ok, State, add, addAll, kept, failedCall}
+use Rattle.run_model.specs.Rows.{Row, row, rowOf, onRow, useAt, ended, wasAsked, withSet, withRun, RowGovernor, minimum, same-start}
+use Rattle.run_model.specs.Model.{RowState, rowState, Outcome, outcome, bareCall, settle, settleFirst}
 use Rattle.sets.specs.Sets.{setAt, result}
 use Rattle.calls.specs.declared.Governor.{Governor}
 use Rattle.calls.specs.declared.Settled.{Settled}

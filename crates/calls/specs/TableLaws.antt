@@ -12,9 +12,9 @@ use lib.Seq.{getD-set-same, getD-set-other}
 use borrow.Author.Tests.{eqb-true, eqb-false}
 use Rattle.book.specs.Check.{associativityOf}
 use Rattle.book.specs.declared.records.Associativity.{Associativity}
-use Rattle.rules.specs.Values.{Parse}
-use Rattle.rules.specs.Run.{kept}
-use Rattle.rows.specs.Rows.{rowOf, onRow, useAt, withSet, withRun}
+use Rattle.semantics.specs.Values.{Parse}
+use Rattle.semantics.specs.Run.{kept}
+use Rattle.run_model.specs.Rows.{rowOf, onRow, useAt, withSet, withRun}
 use Rattle.sets.specs.Sets.{setAt, Only, Becomes, appended, Appended, Added, AllAdded, Kept}
 use Rattle.sets.specs.PlaceLaws.{only-trans, only-wide, only-set, set-apart}
 use Rattle.calls.specs.Table.{rowAt, rowsFrom, table, field, fieldOf, RunAdded, RunJoined}

@@ -5,21 +5,21 @@
 // and what the run at hand has found. Every slice of 104,922 numbers gives a table (`table` of specs/Table.antt), so nothing needs to be cleared: a row
 // is written before it is read.
 //
-// Each function equals the definition of the same name in the model of the crate rows (specs/Rows.antt and specs/Model.antt there), on the table that the slice
+// Each function equals the definition of the same name in the crate run_model (specs/Rows.antt and specs/Model.antt there), on the table that the slice
 // gives, and changes at most one row of it, `answer` two. It asks only that the slice has 104,922 numbers and that its rows are at most 200.
 //
-// The crate relies on the promises of sets and book and on the definitions of book, rules and rows, and assumes nothing. specs/ has the definitions (Table) and laws.
+// The crate relies on the promises of sets and book and on the definitions of book, semantics and run_model, and assumes nothing. specs/ has the definitions (Table) and laws.
 ghost use mathlib.Core.Path.{_≡_};
 ghost use mathlib.Core.List.{[], _∷_};
 ghost use Prim.Native.Nat.{suc, _+_, _-_, _<_, _≤_};
 ghost use lib.ListN.{getD, length};
 ghost use Rattle.book.specs.Book.{associativityNumber};
 ghost use Rattle.book.specs.Index.{bookIn};
-ghost use Rattle.rules.specs.Uses.{hasMark, minimumOf};
-ghost use Rattle.rules.specs.Run.{allIn, kept};
+ghost use Rattle.semantics.specs.Uses.{hasMark, minimumOf};
+ghost use Rattle.semantics.specs.Run.{allIn, kept};
 ghost use Rattle.sets.specs.Sets.{parseOf, noParse};
-ghost use Rattle.rows.specs.Rows as model;
-ghost use Rattle.rows.specs.Rows.{rowOf, onRow, useAt, withSet};
+ghost use Rattle.run_model.specs.Rows as model;
+ghost use Rattle.run_model.specs.Rows.{rowOf, onRow, useAt, withSet};
 ghost use Rattle.calls.specs.Table.{table, field, fieldOf, RunAdded, RunJoined, governorIn, answeredIn, SettledFirst, SettledNext};
 use book::Associativity;
 use book::Mark;

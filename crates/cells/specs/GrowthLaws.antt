@@ -10,8 +10,8 @@ use lib.ListN.{length, getD, set, length-set, length-append, List·getD-append}
 use lib.Seq.{getD-set-same, getD-set-other, getD-at}
 use borrow.Author.Tests.{eq-eqb, ne-eqb, eqb-true, eqb-false, lt-ltb, le-ltb, ltb-true, ltb-false}
 use Rattle.characters.specs.Cases.{by-test}
-use Rattle.rules.specs.Cells.{Cell, numbersOf, identityOf, findCell}
-use Rattle.rules.specs.Run.{make}
+use Rattle.semantics.specs.Cells.{Cell, numbersOf, identityOf, findCell}
+use Rattle.semantics.specs.Run.{make}
 use Rattle.cells.specs.declared.numbers.Numbers.{Numbers}
 use Rattle.cells.specs.declared.store.Made.{Made}
 use Rattle.cells.specs.Store.{listed, hashOf, numbersAt, linkAt, headAt, findIn, pushed, madeAs, madeIn, Leads, here, next, Holds, Making, Makes}

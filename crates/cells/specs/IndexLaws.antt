@@ -10,7 +10,7 @@ use borrow.Author.Tests.{eq-eqb, ne-eqb, eqb-true, eqb-false}
 use Rattle.characters.specs.Cases.{by-test}
 use Rattle.characters.specs.Spelling.{same}
 use Rattle.characters.specs.SpellingLaws.{same-equal, same-itself}
-use Rattle.rules.specs.Cells.{Cell, numbersOf, identityOf, findCell}
+use Rattle.semantics.specs.Cells.{Cell, numbersOf, identityOf, findCell}
 use Rattle.cells.specs.declared.numbers.Numbers.{Numbers}
 use Rattle.cells.specs.Store.{listed, identityIn, sameIn, hashOf, numbersAt, linkAt, headAt, findIn, Leads, here, next, Holds}
 use Rattle.cells.specs.NumbersLaws.{identity-numbers, hash-lt}

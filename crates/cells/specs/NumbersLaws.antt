@@ -13,7 +13,7 @@ use borrow.Author.Tests.{eq-eqb, ne-eqb, eqb-true, eqb-false}
 use Rattle.characters.specs.Cases.{by-test}
 use Rattle.characters.specs.Spelling.{partOf, same}
 use Rattle.characters.specs.SpellingLaws.{same-equal}
-use Rattle.rules.specs.Cells.{Cell, numbersOf, identityOf}
+use Rattle.semantics.specs.Cells.{Cell, numbersOf, identityOf}
 use Rattle.cells.specs.declared.numbers.Numbers.{Numbers}
 use Rattle.cells.specs.Store.{listed, identityIn, sameIn, mixed, hashFrom, hashOf}
 

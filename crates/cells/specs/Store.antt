@@ -10,8 +10,8 @@ use Prim.Native.Nat.{ℕ, zero, suc, _+_, _-_, _*_, _%_, _≤_, _<_}
 use lib.Dec.{eqb, ltb}
 use lib.ListN.{length, getD, set, take}
 use Rattle.characters.specs.Spelling.{partOf, same}
-use Rattle.rules.specs.Cells.{Cell, numbersOf, identityOf, cellsIn}
-use Rattle.rules.specs.Run.{Result, met, ok, State, made, make}
+use Rattle.semantics.specs.Cells.{Cell, numbersOf, identityOf, cellsIn}
+use Rattle.semantics.specs.Run.{Result, met, ok, State, made, make}
 use Rattle.cells.specs.declared.numbers.Numbers.{Numbers}
 use Rattle.cells.specs.declared.store.Made.{Made}
 
@@ -99,7 +99,7 @@ countAfter (Made.At n count) before = count
 countAfter Made.Full before = before
 
 -- what the definitions give where the code gives this
-abbrev pub given : Made → Cell → State → Result Rattle.rules.specs.Run.Made
+abbrev pub given : Made → Cell → State → Result Rattle.semantics.specs.Run.Made
 given (Made.At n count) cell s = ok (made n (record { units = s .units; cells = cellsAfter (Made.At n count) (s .cells) cell; asked = s .asked }))
 given Made.Full cell s = met 23 (s .units)
 

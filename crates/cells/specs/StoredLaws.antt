@@ -4,9 +4,9 @@ use mathlib.Core.List.{List, [], _∷_, _++_, append-nil}
 use Prim.Native.Nat.{ℕ, suc, _+_, _-_, _*_, _≤_, _<_}
 use native.Mathlib.Omega.{arith}
 use lib.ListN.{length, getD, take}
-use Rattle.rules.specs.Cells.{Cell, numbersOf, cellsIn}
-use Rattle.rules.specs.Answer.{cellNumbers}
-use Rattle.rules.specs.Theorem.Numbers.{cells-in}
+use Rattle.semantics.specs.Cells.{Cell, numbersOf, cellsIn}
+use Rattle.semantics.specs.Answer.{cellNumbers}
+use Rattle.semantics.specs.Theorem.Numbers.{cells-in}
 use Rattle.cells.specs.Store.{storedCells, Holds}
 
 -- the three numbers from 3i on

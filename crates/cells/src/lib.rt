@@ -6,7 +6,7 @@
 // hold no cells. Neither has a `requires`, and neither stores past those numbers. The numbers of a wanted cell come from a function for each form of cell;
 // they are `numbersOf` it. The cells stand at the head of the store as document 01 numbers them (`stored-numbers` of specs/StoredLaws.antt).
 //
-// The crate relies on the promises of `characters` and on the definitions of `rules`, and assumes nothing. specs/ has the store and what it holds (Store),
+// The crate relies on the promises of `characters` and on the definitions of `semantics`, and assumes nothing. specs/ has the store and what it holds (Store),
 // and laws.
 mod numbers;
 mod store;

@@ -1,7 +1,7 @@
 // The three numbers of a cell, whether two cells are equal, and the hash of a cell.
 ghost use mathlib.Core.Path.{_≡_};
 ghost use Prim.Native.Nat.{_<_, _/_, _%_, _^_};
-ghost use Rattle.rules.specs.Cells.{Cell, numbersOf};
+ghost use Rattle.semantics.specs.Cells.{Cell, numbersOf};
 ghost use Rattle.cells.specs.Store.{listed, sameIn, mixed, hashFrom, hashOf};
 use characters::part;
 use characters::same_spelling;

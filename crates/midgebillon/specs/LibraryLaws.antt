@@ -12,9 +12,9 @@ use Rattle.book.specs.Book.{Entry}
 use Rattle.book.specs.Check.{checkBook, Outcome}
 use Rattle.book.specs.Index.{bookIn, verdict, CheckedInto}
 use Rattle.book.specs.declared.checking.Verdict.{Verdict}
-use Rattle.rules.specs.Answer.{Answer, answerOf}
+use Rattle.semantics.specs.Answer.{Answer, answerOf}
 use Rattle.run.specs.Reading.{answerIn, answered, Reads}
-use Rattle.run.specs.declared.parse.Answer as code
+use Rattle.run.specs.declared.reader.Answer as code
 use Rattle.printing.specs.Printing.{lineBytes, refusedLine}
 use Rattle.printing.specs.Lines.{Prints}
 use Rattle.printing.specs.declared.line.Length.{Length}

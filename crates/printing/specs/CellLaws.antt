@@ -14,10 +14,10 @@ use lib.Seq.{split-at, length-take-le, drop-append-le}
 use borrow.Author.Tests.{lt-ltb, le-ltb, ltb-true, ltb-false, eq-eqb, ne-eqb}
 use Rattle.characters.specs.Cases.{by-test}
 use Rattle.characters.specs.Spelling.{partOf}
-use Rattle.book.specs.Book.{Entry, entryNumber}
-use Rattle.rules.specs.Values.{Tree, none′, _▸_}
-use Rattle.rules.specs.Cells.{Cell, numbersOf, cellOf, cellsIn, Meaning, one, several, treeIn, treesIn, meaningOf, meanings}
-use Rattle.rules.specs.Theorem.Meanings.{meaning, Prefix, still, new-meaning}
+use Rattle.book.specs.Book.{Entry, nthEntry}
+use Rattle.semantics.specs.Values.{Tree, none′, _▸_}
+use Rattle.semantics.specs.Cells.{Cell, numbersOf, cellOf, cellsIn, Meaning, one, several, treeIn, treesIn, meaningOf, meanings}
+use Rattle.semantics.specs.Theorem.Meanings.{meaning, Prefix, still, new-meaning}
 use Rattle.cells.specs.Store.{listed}
 use Rattle.cells.specs.declared.numbers.Numbers.{Numbers}
 use Rattle.printing.specs.Printing.{decimal, printed, spaced}
@@ -227,7 +227,7 @@ module _ (names : List Entry) (text : List ℕ) where
     unfolding spellingOf
     spelling-name e = rw e
 
-    pub spelling-variable : form ≡ 6 → spellingOf names text (cellOf form a b) ≡ entryNumber names a .spelling
+    pub spelling-variable : form ≡ 6 → spellingOf names text (cellOf form a b) ≡ nthEntry names a .spelling
     unfolding spellingOf
     spelling-variable e = rw e
 

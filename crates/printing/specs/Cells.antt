@@ -6,9 +6,9 @@ use Prim.Native.Nat.{ℕ, _+_, _-_, _*_, _^_, _<_}
 use lib.Dec.{ltb, eqb}
 use lib.ListN.{length, getD, drop}
 use Rattle.characters.specs.Spelling.{partOf}
-use Rattle.book.specs.Book.{Entry, entryNumber}
+use Rattle.book.specs.Book.{Entry, nthEntry}
 use Rattle.book.specs.Index.{bookIn}
-use Rattle.rules.specs.Cells.{Cell, cellOf, cellsIn, Meaning, treeIn, treesIn, nthMeaning, meanings}
+use Rattle.semantics.specs.Cells.{Cell, cellOf, cellsIn, Meaning, treeIn, treesIn, nthMeaning, meanings}
 use Rattle.cells.specs.declared.numbers.Numbers.{Numbers}
 use Rattle.printing.specs.Printing.{decimal, printed, spaced}
 
@@ -42,7 +42,7 @@ spellingOf names text (Cell.chain c item) = []
 spellingOf names text (Cell.variant j c) = []
 spellingOf names text (Cell.name place size) = partOf text place size
 spellingOf names text (Cell.number high low) = []
-spellingOf names text (Cell.variable i kind) = entryNumber names i .spelling
+spellingOf names text (Cell.variable i kind) = nthEntry names i .spelling
 spellingOf names text Cell.absent = []
 spellingOf names text (Cell.list c) = []
 
@@ -53,7 +53,7 @@ plainBytes names text (Cell.chain c item) = 45 ∷ []
 plainBytes names text (Cell.variant j c) = 45 ∷ []
 plainBytes names text (Cell.name place size) = partOf text place size
 plainBytes names text (Cell.number high low) = decimal (high * 2 ^ 32 + low)
-plainBytes names text (Cell.variable i kind) = 36 ∷ entryNumber names i .spelling
+plainBytes names text (Cell.variable i kind) = 36 ∷ nthEntry names i .spelling
 plainBytes names text Cell.absent = 45 ∷ []
 plainBytes names text (Cell.list c) = 45 ∷ []
 

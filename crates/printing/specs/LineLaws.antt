@@ -8,7 +8,7 @@ use lib.ListN.{length, take}
 use borrow.Author.Tests.{le-leb, lt-leb, leb-true, eq-eqb, ne-eqb}
 use Rattle.characters.specs.Cases.{by-test}
 use Rattle.book.specs.Book.{Entry}
-use Rattle.rules.specs.Answer.{Answer}
+use Rattle.semantics.specs.Answer.{Answer}
 use Rattle.printing.specs.Printing.{decimal, lineOf, columnOf, valueWord, refusedWord, placeWord, kindWord, argumentWord, lineWord, columnWord, refusedLine, lineBytes}
 use Rattle.printing.specs.LayingLaws.{whole-line}
 use Rattle.printing.specs.Cells.{itemBytes}

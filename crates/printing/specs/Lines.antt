@@ -9,7 +9,7 @@ use Rattle.characters.specs.Spelling.{partOf}
 use Rattle.run.specs.Reading.{answerIn}
 use Rattle.printing.specs.Printing.{lineBytes}
 use Rattle.printing.specs.Cells.{namesIn}
-use Rattle.run.specs.declared.parse.Answer.{Answer}
+use Rattle.run.specs.declared.reader.Answer.{Answer}
 use Rattle.printing.specs.declared.line.Length.{Length}
 
 -- the line, by the code's parameters

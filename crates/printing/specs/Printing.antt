@@ -4,10 +4,10 @@ use mathlib.Core.List.{List, [], _∷_, _++_}
 use Prim.Native.Nat.{ℕ, zero, suc, _+_, _/_, _%_}
 use lib.Dec.{ltb, eqb}
 use lib.ListN.{take, drop}
-use Rattle.book.specs.Book.{Entry, entryNumber}
-use Rattle.rules.specs.Values.{Tree, Trees, none′, _▸_}
-use Rattle.rules.specs.Cells.{cellsIn, treeAt}
-use Rattle.rules.specs.Answer.{Answer}
+use Rattle.book.specs.Book.{Entry, nthEntry}
+use Rattle.semantics.specs.Values.{Tree, Trees, none′, _▸_}
+use Rattle.semantics.specs.Cells.{cellsIn, treeAt}
+use Rattle.semantics.specs.Answer.{Answer}
 
 -- ---- "numbers without leading zeros"
 -- the digits of a tenth of the number, if that is not 0, and then its last digit. As many turns as the number are more than enough
@@ -25,7 +25,7 @@ unfoldable mutual
   printed names (Tree.variant j items) = 40 ∷ (decimal j ++ (spaced names items ++ (41 ∷ [])))
   printed names (Tree.name spelling) = spelling
   printed names (Tree.number n) = decimal n
-  printed names (Tree.variable i kind) = 36 ∷ entryNumber names i .spelling
+  printed names (Tree.variable i kind) = 36 ∷ nthEntry names i .spelling
   printed names Tree.absent = 45 ∷ []
   printed names (Tree.list items) = 91 ∷ (drop 1 (spaced names items) ++ (93 ∷ []))
 

@@ -3,9 +3,9 @@ use mathlib.Core.Path.{_≡_, refl}
 use mathlib.Core.List.{List, [], _∷_}
 use Prim.Native.Nat.{ℕ}
 use Rattle.book.specs.Book.{Entry}
-use Rattle.rules.specs.Values.{Tree, none′, _▸_}
-use Rattle.rules.specs.Cells.{cellsIn, treeIn, treesIn, meaningOf, meanings}
-use Rattle.rules.specs.Answer.{answer}
+use Rattle.semantics.specs.Values.{Tree, none′, _▸_}
+use Rattle.semantics.specs.Cells.{cellsIn, treeIn, treesIn, meaningOf, meanings}
+use Rattle.semantics.specs.Answer.{answer}
 use Rattle.printing.specs.Printing.{digits, printed, spaced, lineFeeds, sinceLineFeed, lineOf, columnOf, refusedLine, lineBytes}
 
 numeral : ℕ → Tree

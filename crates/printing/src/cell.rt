@@ -1,6 +1,6 @@
 // Cells by their numbers, and the spelling that a cell names.
 ghost use mathlib.Core.Path.{_≡_};
-ghost use Rattle.rules.specs.Cells.{cellOf};
+ghost use Rattle.semantics.specs.Cells.{cellOf};
 ghost use Rattle.printing.specs.Cells.{namesIn, Read, olderThan, spellingOf};
 use book::name;
 use cells::Numbers;

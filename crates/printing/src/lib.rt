@@ -12,7 +12,7 @@
 // a cell names. What no theorem says: a call takes time in proportion to the room, with the place where the part begins, and to the text and the cells, whatever
 // the value's length; and its calls nest at most 4,096 deep, a cell each.
 //
-// The answer is that of `run`. The crate relies on the promises of `characters`, `book` and `cells` and on the definitions of `rules`, and assumes nothing. specs/ has the line (Printing, with
+// The answer is that of `run`. The crate relies on the promises of `characters`, `book` and `cells` and on the definitions of `semantics`, and assumes nothing. specs/ has the line (Printing, with
 // worked examples in Worked), what the public functions answer (Lines), the window on the line (Laying), what is printed of a cell (Cells), and laws.
 mod cell;
 mod laying;

@@ -1,6 +1,6 @@
 // A value. A cell refers to older ones alone, so the cells' numbers fall along the calls of `item` and `items`; both turn back at once where there is no room
 // left, so that no cell is looked at for nothing but a few bytes past the window.
-ghost use Rattle.rules.specs.Cells.{cellOf};
+ghost use Rattle.semantics.specs.Cells.{cellOf};
 ghost use Rattle.printing.specs.Laying.{Room, Lays};
 ghost use Rattle.printing.specs.Cells.{namesIn, plainBytes, itemBytes, itemsBytes, gapBytes};
 use crate::cell::CHAIN;

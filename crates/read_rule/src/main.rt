@@ -1,9 +1,9 @@
 // Reads `rules.book` and `rule.txt` in its folder and writes one line: the value of the rule, or its refusal. Document 01, "Printing". A missing file counts
 // as empty.
-use rule::BOOK_ROOM;
-use rule::TEXT_ROOM;
-use rule::answer_line;
-use rule::load;
+use program::BOOK_ROOM;
+use program::TEXT_ROOM;
+use program::answer_line;
+use program::load;
 
 fn main() {
     let mut book = [0u8; BOOK_ROOM];

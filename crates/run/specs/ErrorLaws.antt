@@ -13,26 +13,26 @@ use lib.ListN.{getD, List·getD-eq-default}
 use borrow.Author.Tests.{ltb-true, ltb-false}
 use Rattle.characters.specs.Cases.{by-test}
 use Rattle.characters.specs.Skipping.{skipFrom}
-use Rattle.book.specs.Book.{Book, variantNumber, stepNumbered}
+use Rattle.book.specs.Book.{Book, nthVariant, nthStep}
 use Rattle.book.specs.Check.{stepOf}
 use Rattle.book.specs.Index.{upTo, countIn, placeIn, stepFrom, bookIn}
 use Rattle.book.specs.ReadingLaws.{upTo-in, upTo-length}
 use Rattle.book.specs.declared.records.Step.{Step}
-use Rattle.rules.specs.Values.{Parse}
-use Rattle.rules.specs.Uses.{Path, base, hasMark, governor}
-use Rattle.rules.specs.Tokens.{when, freeEnd, claimed}
-use Rattle.rules.specs.Steps.{Taken, stepAt, afterElement, closed, Todo, take′, elements, ending, todoOf}
-use Rattle.rules.specs.Cells.{Cell}
-use Rattle.rules.specs.Errors.{Error, error, stepError}
-use Rattle.rules.specs.Run.{Result, met, ok, _>>=_, State, Parsed, parsed, Call, call, withMine, Runner, Go, Next, allIn, kept, add, addAll, newest, withAsked, spend, make, failedCall, chosen, closingOf, begin, withCell, withToken, complete, variants, oneRun, rounds, runCall, named, runIdentifier, plainNext, listNext, stops, nested, reentry, enter, enterChild, followMore, follow, followed, stepUnit, orAbsent, choice, listing, steps, runner, run}
-use Rattle.rules.specs.Theorem.Results.{option-cases, governor-cases, after-cases}
-use Rattle.progress.specs.Fit.{Fits, Fit}
-use Rattle.progress.specs.TakenLaws.{skip-fits, free-end-fits, closed-fits, goes-fits, halts-fits}
+use Rattle.semantics.specs.Values.{Parse}
+use Rattle.semantics.specs.Uses.{Path, base, hasMark, governor}
+use Rattle.semantics.specs.Tokens.{when, freeEnd, claimed}
+use Rattle.semantics.specs.Steps.{Taken, stepAt, afterElement, closed, Todo, take′, elements, ending, todoOf}
+use Rattle.semantics.specs.Cells.{Cell}
+use Rattle.semantics.specs.Errors.{Error, error, stepError}
+use Rattle.semantics.specs.Run.{Result, met, ok, _>>=_, State, Parsed, parsed, Call, call, withMine, Runner, Go, Next, allIn, kept, add, addAll, newest, withAsked, spend, make, failedCall, chosen, closingOf, begin, withCell, withToken, complete, variants, oneRun, rounds, runCall, named, runIdentifier, plainNext, listNext, stops, nested, reentry, enter, enterChild, followMore, follow, followed, stepUnit, orAbsent, choice, listing, steps, runner, run}
+use Rattle.semantics.specs.Theorem.Results.{option-cases, governor-cases, after-cases}
+use Rattle.transitions.specs.Fit.{Fits, Fit}
+use Rattle.transitions.specs.TakenLaws.{skip-fits, free-end-fits, closed-fits, goes-fits, halts-fits}
 use Rattle.run.specs.Reading.{ErrorFits}
 use Rattle.run.specs.Fitting.{StepArguments, FailFits, Rests, Fine, On, on-bind, on-next, Closing, Todos, CallFits, RunnerFine, GoFine, NextFine, InnerFine, fine, fails, rests-none, rests-one, add-fits, add-all-fits, kept-rests, join-with-fits, either-fits, failed-call-fits, counted-fits, chosen-fine, step-error-fits, TakenIn, step-taken, todos-of, closing, no-error, an-error, limit, result, deepest, deeper}
 
 -- ---- The run
-module _ (book : Book) (text : List ℕ) (fit : Fit book text) (arguments : (k : ℕ) → StepArguments (stepNumbered (book .steps) k)) where
+module _ (book : Book) (text : List ℕ) (fit : Fit book text) (arguments : (k : ℕ) → StepArguments (nthStep (book .steps) k)) where
   complete-fine : (j x items : ℕ) (set : List (Parse ℕ)) (s : State) → Fits x → Rests set → On Fine (complete book text j x items set s)
   unfolding complete
   complete-fine j x items set s h r =
@@ -44,11 +44,11 @@ module _ (book : Book) (text : List ℕ) (fit : Fit book text) (arguments : (k :
     unfolding variants
     variants-fine c m zero j set e s h r k = result (record { set = r; failure = k })
     variants-fine c m (suc n) j set e s h r k =
-        by-test (leb m (variantNumber book j .level))
+        by-test (leb m (nthVariant book j .level))
         (λ t. rw (t, variants) (on-next Fine (begin book text j s) _ (λ b.
-        on-bind Fine Fine (f c j (todoOf book (variantNumber book j)) (c .start) (b .cell) set (b .state)) _
-        (runs c j (todoOf book (variantNumber book j)) (c .start) (b .cell) set (b .state) h
-        (todos-of (book .steps) arguments (variantNumber book j .first) (variantNumber book j .number)) (h .start) r) (λ a q.
+        on-bind Fine Fine (f c j (todoOf book (nthVariant book j)) (c .start) (b .cell) set (b .state)) _
+        (runs c j (todoOf book (nthVariant book j)) (c .start) (b .cell) set (b .state) h
+        (todos-of (book .steps) arguments (nthVariant book j .first) (nthVariant book j .count)) (h .start) r) (λ a q.
         variants-fine c m n (suc j) (a .set) _ (a .state) h (q .set) (join-with-fits e _ k (counted-fits book text c j (a .failure) (q .failure)))))))
         (λ t. rw (t, variants) (variants-fine c m n (suc j) set e s h r k))
 
@@ -276,7 +276,7 @@ step-of kind a b c f g h =
     by true h k = h
     by false h k = k
 
-pub book-arguments : (bytes index : List ℕ) → ((i : ℕ) → getD bytes i 0 ≤ 255) → (k : ℕ) → StepArguments (stepNumbered (bookIn bytes index .steps) k)
+pub book-arguments : (bytes index : List ℕ) → ((i : ℕ) → getD bytes i 0 ≤ 255) → (k : ℕ) → StepArguments (nthStep (bookIn bytes index .steps) k)
 unfolding bookIn
 book-arguments bytes index small k =
     let f : ℕ → Step = λ i. stepFrom bytes (placeIn index 580 i) in

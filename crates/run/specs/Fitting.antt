@@ -13,17 +13,17 @@ use Rattle.characters.specs.Spelling.{same}
 use Rattle.characters.specs.Tokens.{numberAt}
 use Rattle.characters.specs.TokenLaws.{number-bounds}
 use Rattle.characters.specs.declared.lexemes.Number.{Number}
-use Rattle.book.specs.Book.{Book, entryNumber, variantNumber, stepNumbered}
+use Rattle.book.specs.Book.{Book, nthEntry, nthVariant, nthStep}
 use Rattle.book.specs.declared.records.Step.{Step}
-use Rattle.rules.specs.Values.{Parse}
-use Rattle.rules.specs.Uses.{Use, keeps}
-use Rattle.rules.specs.Tokens.{Variable, when, isSome, characterEnd, identifierEnd, spelled, reservedAt, freeEnd, variableAt}
-use Rattle.rules.specs.Steps.{Taken, stepAt, Todo, take′, elements, ending}
-use Rattle.rules.specs.Errors.{Error, error, wins, join, joinWith, beyond, choiceError, identifierError, stepError}
-use Rattle.rules.specs.Run.{Result, met, ok, _>>=_, State, Parsed, parsed, Call, Runner, Go, Next, has, kept, add, addAll, failedCall, either, chosen, closingOf, counted}
-use Rattle.rules.specs.Theorem.Results.{option-cases}
-use Rattle.progress.specs.Fit.{Fits, Fit}
-use Rattle.progress.specs.TakenLaws.{skip-fits, identifier-within, free-end-fits, character-fits, variable-fits}
+use Rattle.semantics.specs.Values.{Parse}
+use Rattle.semantics.specs.Uses.{Use, keeps}
+use Rattle.semantics.specs.Tokens.{Variable, when, isSome, characterEnd, identifierEnd, spelled, reservedAt, freeEnd, variableAt}
+use Rattle.semantics.specs.Steps.{Taken, stepAt, Todo, take′, elements, ending}
+use Rattle.semantics.specs.Errors.{Error, error, wins, join, joinWith, beyond, choiceError, identifierError, stepError}
+use Rattle.semantics.specs.Run.{Result, met, ok, _>>=_, State, Parsed, parsed, Call, Runner, Go, Next, has, kept, add, addAll, failedCall, either, chosen, closingOf, counted}
+use Rattle.semantics.specs.Theorem.Results.{option-cases}
+use Rattle.transitions.specs.Fit.{Fits, Fit}
+use Rattle.transitions.specs.TakenLaws.{skip-fits, identifier-within, free-end-fits, character-fits, variable-fits}
 use Rattle.run.specs.Reading.{ErrorFits}
 
 -- ---- What fits
@@ -198,7 +198,7 @@ failed-call-fits c (some e) h (an-error k) = k
 pub counted-fits : (book : Book) (text : List ℕ) (c : Call) (j : ℕ) (o : Option Error) → FailFits o → FailFits (counted book text c j o)
 unfolding counted
 counted-fits book text c j none no-error = no-error
-counted-fits book text c j (some e) (an-error h) = by (variantNumber book j .committed)
+counted-fits book text c j (some e) (an-error h) = by (nthVariant book j .committed)
   where
     by : (t : Bool) → FailFits (cond t (beyond (c .start) e) none)
     by true = beyond-fits (c .start) e h
@@ -287,7 +287,7 @@ module _ (book : Book) (text : List ℕ) (fit : Fit book text) where
         (λ e. rw (e, stepAt) tt)
         (λ end e. let few = fit .short in
         let fits : Fits end = omega (arith, identifier-within text (skipFrom text x) end e) in
-        by-test (same (spelled text (skipFrom text x) end) (entryNumber (book .words) a .spelling)) (λ t. rw (e, t, stepAt) fits) (λ t. rw (e, t, stepAt) tt))
+        by-test (same (spelled text (skipFrom text x) end) (nthEntry (book .words) a .spelling)) (λ t. rw (e, t, stepAt) fits) (λ t. rw (e, t, stepAt) tt))
     step-taken Step.Identifier f =
         option-cases (freeEnd book text (skipFrom text x))
         (λ e. rw (e, stepAt) tt)
@@ -309,7 +309,7 @@ module _ (book : Book) (text : List ℕ) (fit : Fit book text) where
     step-taken (Step.OptionalDelimited M b c) f =
         option-cases (characterEnd text b x) (λ e. rw (e, stepAt) at-fits) (λ end e. rw (e, stepAt) (f .0, f .2, character-fits text b x end (fit .short) e))
 
-pub todos-of : (l : List Step) → ((k : ℕ) → StepArguments (stepNumbered l k)) → (first n : ℕ) → Todos (map take′ (take n (drop first l)))
+pub todos-of : (l : List Step) → ((k : ℕ) → StepArguments (nthStep l k)) → (first n : ℕ) → Todos (map take′ (take n (drop first l)))
 unfolding Todos
 todos-of [] h zero zero = tt
 todos-of [] h zero (suc n) = tt

@@ -1,10 +1,4 @@
--- What the functions of the cycle and the parts of the call equal, and the laws by which they do.
-pub mod Cycle
-pub mod ResultLaws
-pub mod CallLaws
-pub mod VariantLaws
-pub mod ChildLaws
-pub mod PathLaws
+-- What the call and its parts equal, and the laws by which they do.
 pub mod Reading
 pub mod ListLaws
 pub mod Fitting

@@ -11,14 +11,14 @@ use lib.Seq.{take-suc, drop-cons, length-take-le, take-all}
 use borrow.Author.Tests.{lt-ltb, le-ltb, le-leb, lt-leb}
 use Rattle.characters.specs.Cases.{by-test}
 use Rattle.book.specs.Book.{associativityNumber}
-use Rattle.rules.specs.Values.{Parse, whole}
-use Rattle.rules.specs.Tokens.{when}
-use Rattle.rules.specs.Run.{Parsed}
-use Rattle.rules.specs.Answer.{answer, written, parseNumbers, wholeValues, allAre, firstHigh, filled, byValues}
+use Rattle.semantics.specs.Values.{Parse, whole}
+use Rattle.semantics.specs.Tokens.{when}
+use Rattle.semantics.specs.Run.{Parsed}
+use Rattle.semantics.specs.Answer.{answer, written, parseNumbers, wholeValues, allAre, firstHigh, filled, byValues}
 use Rattle.sets.specs.Sets as sets
 use Rattle.sets.specs.Sets.{noParse}
 use Rattle.sets.specs.PlaceLaws.{set-le}
-use Rattle.rows.specs.Rows.{rowOf}
+use Rattle.run_model.specs.Rows.{rowOf}
 use Rattle.calls.specs.Table.{table}
 use Rattle.calls.specs.TableLaws.{read-set}
 use Rattle.run.specs.declared.whole.Values.{Values}

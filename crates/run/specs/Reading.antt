@@ -10,19 +10,19 @@ use Rattle.characters.specs.Classes.{between}
 use Rattle.book.specs.Book.{Book}
 use Rattle.book.specs.Check.{checkBook}
 use Rattle.book.specs.Check as check
-use Rattle.rules.specs.Values.{Parse, whole}
-use Rattle.rules.specs.Errors.{Error}
-use Rattle.rules.specs.Run.{Result, Parsed}
-use Rattle.rules.specs.Run as definition
-use Rattle.rules.specs.Answer.{Answer, Answered, answer, untouched, answerOf}
-use Rattle.rules.specs.Exact.{Exact}
-use Rattle.rows.specs.Theorem.{seen}
+use Rattle.semantics.specs.Values.{Parse, whole}
+use Rattle.semantics.specs.Errors.{Error}
+use Rattle.semantics.specs.Run.{Result, Parsed}
+use Rattle.semantics.specs.Run as definition
+use Rattle.semantics.specs.Answer.{Answer, Answered, answer, untouched, answerOf}
+use Rattle.semantics.specs.Exact.{Exact}
+use Rattle.run_model.specs.Theorem.{seen}
 use Rattle.calls.specs.Table.{table}
-use Rattle.tokens.specs.declared.errors.Failure.{Failure}
-use Rattle.progress.specs.declared.outcomes.Outcome.{Outcome}
-use Rattle.progress.specs.Outcomes.{cellsOf, Held, given, failureAt}
-use Rattle.progress.specs.Fit.{Fits}
-use Rattle.run.specs.declared.parse.Answer as code
+use Rattle.errors.specs.declared.Failure.{Failure}
+use Rattle.transitions.specs.declared.outcomes.Outcome.{Outcome}
+use Rattle.transitions.specs.Outcomes.{cellsOf, Held, given, failureAt}
+use Rattle.transitions.specs.Fit.{Fits}
+use Rattle.run.specs.declared.reader.Answer as code
 use Rattle.run.specs.declared.whole.Values.{Values}
 
 -- ---- Answers

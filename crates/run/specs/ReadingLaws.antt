@@ -11,31 +11,31 @@ use borrow.Author.Tests.{ltb-false, lt-ltb, le-ltb, le-leb, lt-leb, eq-eqb, ne-e
 use Rattle.characters.specs.Cases.{clash}
 use Rattle.characters.specs.Classes.{between}
 use Rattle.characters.specs.Skipping.{skipFrom}
-use Rattle.book.specs.Book.{Book, stepNumbered}
+use Rattle.book.specs.Book.{Book, nthStep}
 use Rattle.book.specs.Check.{checkBook, Outcome}
 use Rattle.book.specs.Index.{verdict, CheckedInto}
 use Rattle.book.specs.declared.checking.Verdict.{Verdict}
-use Rattle.rules.specs.Cells.{Cell, cellsIn}
-use Rattle.rules.specs.Errors.{Error}
-use Rattle.rules.specs.Run as definition
-use Rattle.rules.specs.Run.{Result, met, ok, Parsed, parsed}
-use Rattle.rules.specs.Answer.{Answer, Answered, answer, written, cellNumbers, parseNumbers, wholeValues, firstHigh, untouched, atEnd, onBook, answerOf}
-use Rattle.rules.specs.Exact.{Exact}
-use Rattle.rules.specs.Theorem.Found.{found-is-exactly-derivable}
-use Rattle.rows.specs.Rows.{rowOf}
-use Rattle.rows.specs.Model.{rowState, enterRows, runnerRows}
-use Rattle.rows.specs.Theorem.{seen, rows-run}
+use Rattle.semantics.specs.Cells.{Cell, cellsIn}
+use Rattle.semantics.specs.Errors.{Error}
+use Rattle.semantics.specs.Run as definition
+use Rattle.semantics.specs.Run.{Result, met, ok, Parsed, parsed}
+use Rattle.semantics.specs.Answer.{Answer, Answered, answer, written, cellNumbers, parseNumbers, wholeValues, firstHigh, untouched, atEnd, onBook, answerOf}
+use Rattle.semantics.specs.Exact.{Exact}
+use Rattle.semantics.specs.Theorem.Found.{found-is-exactly-derivable}
+use Rattle.run_model.specs.Rows.{rowOf}
+use Rattle.run_model.specs.Model.{rowState, enterRows, runnerRows}
+use Rattle.run_model.specs.Theorem.{seen, rows-run}
 use Rattle.calls.specs.Table.{table}
 use Rattle.calls.specs.TableLaws.{table-length}
 use Rattle.cells.specs.Store.{Holds, Cleared}
 use Rattle.cells.specs.StoredLaws.{stored-numbers}
-use Rattle.tokens.specs.Maps.{failureOf}
-use Rattle.tokens.specs.declared.errors.Failure.{Failure}
-use Rattle.tokens.specs.declared.errors.Error as tokens
-use Rattle.progress.specs.declared.outcomes.Outcome as code
-use Rattle.progress.specs.Outcomes.{cellsOf, Held, given, Ran, Runs, failureAt}
-use Rattle.progress.specs.Fit.{Fits, Fit}
-use Rattle.run.specs.declared.parse.Answer as parse
+use Rattle.errors.specs.Maps.{failureOf}
+use Rattle.errors.specs.declared.Failure.{Failure}
+use Rattle.errors.specs.declared.Error as tokens
+use Rattle.transitions.specs.declared.outcomes.Outcome as code
+use Rattle.transitions.specs.Outcomes.{cellsOf, Held, given, Ran, Runs, failureAt}
+use Rattle.transitions.specs.Fit.{Fits, Fit}
+use Rattle.run.specs.declared.reader.Answer as parse
 use Rattle.run.specs.declared.whole.Values.{Values}
 use Rattle.run.specs.Reading.{answerIn, answered, short, noRoom, noAllowance, within, withValues, endAnswer, seenOf, FailureFits, RunsText, Reads, answerWith}
 use Rattle.run.specs.ListLaws.{by-values-is}
@@ -89,7 +89,7 @@ module _ (book : Book) (text store₀ store₁ store₂ rows rows′ : List ℕ)
       ∙ ap (λ (u : ℕ). seen (enterRows book text (runnerRows book text 200) 200 start u (rowState units [] (table rows)))) e
       ∙ sym (rows-run book text units start (table rows) (table-length rows))
 
-  pub run-is : Fit book text → ((k : ℕ) → StepArguments (stepNumbered (book .steps) k)) → Fits start → Cleared store₀ store₁ → 17408 ≤ length store₀ → first ≡ skipFrom text 0 →
+  pub run-is : Fit book text → ((k : ℕ) → StepArguments (nthStep (book .steps) k)) → Fits start → Cleared store₀ store₁ → 17408 ≤ length store₀ → first ≡ skipFrom text 0 →
       Runs text store₁ 0 store₂ (table rows′) o (λ cells. enterRows book text (runnerRows book text 200) 200 start first (rowState units cells (table rows))) →
       RunsText book text units start store₂ rows′ o
   run-is fit arguments h c room e runs =

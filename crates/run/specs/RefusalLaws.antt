@@ -14,7 +14,7 @@ use Rattle.book.specs.Book.{Book}
 use Rattle.book.specs.Check.{Checked, refused, accepted, andThen, Reader, checked, row, section, placed, spelling, entry, nonterminal, variant, step, passes, allPass, ended, whole, Outcome, outcome, checkBook}
 use Rattle.book.specs.declared.records.Step.{Step}
 use Rattle.book.specs.declared.records.Variant.{Variant}
-use Rattle.progress.specs.Fit.{Fits}
+use Rattle.transitions.specs.Fit.{Fits}
 
 -- a refusal is one of 3 to 8 in the first million bytes; what was read has a property, and ends at most at a place
 data Lands {A : Type 0} (P : A → Type 0) (most : ℕ) : Checked A → Type 0 where
@@ -127,9 +127,9 @@ module _ (bytes : List ℕ) (small : (i : ℕ) → getD bytes i 0 ≤ 255) where
       then-lands (All Any) Any 131072 1000000 (section _ _ _ bytes p) _
       (section-lands (λ w. 0) (λ first. entry 7) Any 257 (λ sum place m h l. entry-lands 7 place m h l) _ p 131072 (omega arith) (omega arith)) (λ names q _ q-low.
       then-lands (All Any) Any 131583 1000000 (section _ _ _ bytes q) _
-      (section-lands (λ n. n .number) nonterminal Any 2 (λ sum place m h l. nonterminal-lands sum place m h l) _ q 131583 (omega arith) (omega arith)) (λ nonterminals r _ r-low.
+      (section-lands (λ n. n .count) nonterminal Any 2 (λ sum place m h l. nonterminal-lands sum place m h l) _ q 131583 (omega arith) (omega arith)) (λ nonterminals r _ r-low.
       then-lands (All (λ (x : ℕ × Variant). x .0 ≤ 1000000)) Any 132604 1000000 (section _ _ _ bytes r) _
-      (section-lands (λ v. v .1 .number) (λ first. placed (variant first)) (λ (x : ℕ × Variant). x .0 ≤ 1000000) 4
+      (section-lands (λ v. v .1 .count) (λ first. placed (variant first)) (λ (x : ℕ × Variant). x .0 ≤ 1000000) 4
       (λ sum place m h l. variant-lands sum place m h l) _ r 132604 (omega arith) (omega arith)) (λ variants v placed-all v-low.
       then-lands (All Any) Any 133625 1000000 (section _ _ _ bytes v) _
       (section-lands (λ s. 0) (λ first. step (length words) (length nonterminals)) Any 4

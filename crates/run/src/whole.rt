@@ -2,14 +2,14 @@
 ghost use mathlib.Core.Path.{_≡_};
 ghost use Prim.Native.Nat.{_+_, _-_, _≤_, _<_};
 ghost use lib.ListN.{length};
-ghost use Rattle.rules.specs.Answer.{wholeValues};
-ghost use Rattle.rules.specs.Values.{whole as wholeIn};
-ghost use Rattle.rows.specs.Rows.{rowOf};
+ghost use Rattle.semantics.specs.Answer.{wholeValues};
+ghost use Rattle.semantics.specs.Values.{whole as wholeIn};
+ghost use Rattle.run_model.specs.Rows.{rowOf};
 ghost use Rattle.sets.specs.Sets.{parseOf};
 ghost use Rattle.calls.specs.Table.{table};
 ghost use Rattle.run.specs.Reading.{withValue, withValues, withParse};
 ghost use Rattle.run.specs.declared.whole.Values as values;
-use crate::parse::LEVELS;
+use crate::reader::LEVELS;
 use calls::found;
 use calls::item;
 use characters::skip;

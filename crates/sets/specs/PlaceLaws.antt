@@ -11,7 +11,7 @@ use lib.Seq.{getD-set-same, getD-set-other}
 use borrow.Author.Tests.{ltb-true, ltb-false}
 use Rattle.book.specs.Book.{associativityNumber}
 use Rattle.book.specs.ReadingLaws.{associativity-of-number}
-use Rattle.rules.specs.Values.{Parse}
+use Rattle.semantics.specs.Values.{Parse}
 use Rattle.sets.specs.Sets.{noParse, parseAt, listAt, countOf, setAt, written, Only}
 
 -- ---- Only

@@ -12,10 +12,10 @@ use lib.Seq.{getD-set-same, getD-set-other}
 use borrow.Author.Tests.{lt-ltb, le-ltb}
 use borrow.Author.Count.{below-more}
 use Rattle.book.specs.declared.records.Associativity.{Associativity}
-use Rattle.rules.specs.Values.{Parse}
-use Rattle.rules.specs.Tokens.{when}
-use Rattle.rules.specs.Uses.{Use, keepsLevel}
-use Rattle.rules.specs.Run.{met, ok, _>>=_, State, sameParse, has, allIn, kept, add, addAll}
+use Rattle.semantics.specs.Values.{Parse}
+use Rattle.semantics.specs.Tokens.{when}
+use Rattle.semantics.specs.Uses.{Use, keepsLevel}
+use Rattle.semantics.specs.Run.{met, ok, _>>=_, State, sameParse, has, allIn, kept, add, addAll}
 use Rattle.sets.specs.Sets.{
   parseAt,
   listAt,

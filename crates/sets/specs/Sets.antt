@@ -9,9 +9,9 @@ use lib.ListN.{length, getD, set}
 use Rattle.book.specs.Book.{associativityNumber}
 use Rattle.book.specs.Check.{associativityOf}
 use Rattle.book.specs.declared.records.Associativity.{Associativity}
-use Rattle.rules.specs.Values.{Parse}
-use Rattle.rules.specs.Uses.{Use}
-use Rattle.rules.specs.Run.{Result, met, ok, State, add, addAll, kept}
+use Rattle.semantics.specs.Values.{Parse}
+use Rattle.semantics.specs.Uses.{Use}
+use Rattle.semantics.specs.Run.{Result, met, ok, State, add, addAll, kept}
 use Rattle.sets.specs.declared.Parse as code
 
 abbrev pub parse : ℕ → ℕ → Associativity → ℕ → Parse ℕ

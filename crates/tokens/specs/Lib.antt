@@ -1,3 +1,2 @@
--- How this crate's structs and enums stand for the definitions of `rules`.
+-- How this crate's structs and enums stand for the definitions of `semantics`.
 pub mod Maps
-pub mod Failures

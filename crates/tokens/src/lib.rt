@@ -1,27 +1,14 @@
-// The lowest part of the third layer, the run: what a step of the book takes at a place of the text, and which error counts. Document 01, step
-// kinds 0 to 13, the lists of "Derivations", and "Errors".
+// What a step of the book takes at a place of the text, and its error where it takes nothing. Document 01, step kinds 0 to 13, the lists
+// of "Derivations", and "Errors".
 //
-// Every public function equals a definition of `rules` (Tokens, Steps, Errors, Run) on every book, index, text and place, a place beyond the end
-// included; the book is the one that the index gives (`bookIn`). specs/Maps.antt says what each struct and enum stands for. Where the run's
-// definition takes a whole call, the function takes the call's numbers, and specs/Failures.antt proves that the two agree. No public function has
-// a `requires`.
+// Every public function equals a definition of `semantics` (Tokens, Steps, Errors) on every book, index, text and place, a place beyond
+// the end included; the book is the one that the index gives (`bookIn`). specs/Maps.antt says what each struct and enum stands for. No
+// public function has a `requires`.
 //
-// The crate relies on the promises of `characters` and `book` and on the definitions of `rules`, and assumes nothing.
-mod errors;
+// The crate relies on the promises of `characters`, `book` and `errors` and on the definitions of `semantics`, and assumes nothing.
 mod steps;
 mod tokens;
 
-pub use errors::Error;
-pub use errors::Failure;
-pub use errors::beyond;
-pub use errors::choice_error;
-pub use errors::chosen;
-pub use errors::counted;
-pub use errors::either;
-pub use errors::failed_call;
-pub use errors::join;
-pub use errors::join_with;
-pub use errors::wins;
 pub use steps::After;
 pub use steps::Item;
 pub use steps::Taken;

@@ -2,7 +2,7 @@
 ghost use mathlib.Core.Path.{_≡_};
 ghost use Prim.Native.Nat.{_-_};
 ghost use Rattle.book.specs.Index.{bookIn};
-ghost use Rattle.rules.specs.Tokens.{characterEnd, identifierEnd, reservedAt, freeEnd, variableAt};
+ghost use Rattle.semantics.specs.Tokens.{characterEnd, identifierEnd, reservedAt, freeEnd, variableAt};
 ghost use Rattle.tokens.specs.Maps.{endOf, variableOf};
 use book::Found;
 use book::is_reserved;

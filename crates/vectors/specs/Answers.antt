@@ -9,13 +9,13 @@ use Rattle.characters.specs.Tokens.{identifierAt, decimal, numberOf, numberAt}
 use Rattle.characters.specs.Spelling.{same}
 use Rattle.book.specs.Book.{isReserved, lookupFrom}
 use Rattle.book.specs.Check.{checked, row, spelling, entry, nonterminal, variant, stepOf, step, allPass, ended, whole, checkBook}
-use Rattle.rules.specs.Uses.{outwards, govern, governor}
-use Rattle.rules.specs.Tokens.{isSome, characterEnd, identifierEnd, reservedAt, freeEnd, variableAt, hasClaimant}
-use Rattle.rules.specs.Steps.{stepAt, afterElement, closed}
-use Rattle.rules.specs.Cells.{numbersOf, cellsIn, identityOf, findCell, treeIn, treesIn, meaningOf, meanings}
-use Rattle.rules.specs.Errors.{join, beyond, joinWith, choiceError, identifierError, stepError}
-use Rattle.rules.specs.Run.{_>>=_, sameParse, has, allIn, kept, add, addAll, ask, newest, others, spend, make, itemCell, failedCall, either, chosen, closingOf, begin, withCell, withToken, complete, counted, variants, oneRun, rounds as roundsRun, runCall, named, runIdentifier, plainNext, listNext, stops, nested, reentry, enter, enterChild, followMore, follow, followed, stepUnit, orAbsent, choice, listing, steps, runner, run}
-use Rattle.rules.specs.Answer.{cellNumbers, parseNumbers, written, wholeValues, allAre, firstHigh, byValues, atEnd, onBook, answerOf, Answer, Answered, answer}
+use Rattle.semantics.specs.Uses.{outwards, govern, governor}
+use Rattle.semantics.specs.Tokens.{isSome, characterEnd, identifierEnd, reservedAt, freeEnd, variableAt, hasClaimant}
+use Rattle.semantics.specs.Steps.{stepAt, afterElement, closed}
+use Rattle.semantics.specs.Cells.{numbersOf, cellsIn, identityOf, findCell, treeIn, treesIn, meaningOf, meanings}
+use Rattle.semantics.specs.Errors.{join, beyond, joinWith, choiceError, identifierError, stepError}
+use Rattle.semantics.specs.Run.{_>>=_, sameParse, has, allIn, kept, add, addAll, ask, newest, others, spend, make, itemCell, failedCall, either, chosen, closingOf, begin, withCell, withToken, complete, counted, variants, oneRun, rounds as roundsRun, runCall, named, runIdentifier, plainNext, listNext, stops, nested, reentry, enter, enterChild, followMore, follow, followed, stepUnit, orAbsent, choice, listing, steps, runner, run}
+use Rattle.semantics.specs.Answer.{cellNumbers, parseNumbers, written, wholeValues, allAre, firstHigh, byValues, atEnd, onBook, answerOf, Answer, Answered, answer}
 
 abbrev gives : Answer → List ℕ → List ℕ → Answered
 gives a cells parses = record { answer = a; cells = cells; parses = parses }

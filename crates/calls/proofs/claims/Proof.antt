@@ -1,7 +1,7 @@
 -- `calls::claims` meets its contract, number by number.
 use borrow.Author.Needs.{needs}
 use Rattle.book.specs.Index.{bookIn}
-use Rattle.rows.specs.Rows.{rowOf}
+use Rattle.run_model.specs.Rows.{rowOf}
 use Rattle.calls.specs.Table.{table}
 use Rattle.calls.specs.CallLaws.{claims-live, claims-start, claims-scope, claims-mark}
 use Rattle.calls.proofs.claims.Statement.{statement}

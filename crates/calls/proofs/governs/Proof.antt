@@ -1,6 +1,6 @@
 -- `calls::governs` meets its contract, number by number.
 use borrow.Author.Needs.{needs}
-use Rattle.rows.specs.Rows.{rowOf}
+use Rattle.run_model.specs.Rows.{rowOf}
 use Rattle.calls.specs.Table.{table}
 use Rattle.calls.specs.CallLaws.{not-live, not-same, not-scope, by-child}
 use Rattle.calls.proofs.governs.Statement.{statement}

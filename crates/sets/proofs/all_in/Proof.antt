@@ -3,7 +3,7 @@ use mathlib.Core.Path.{_≡_, sym, _∙_}
 use Prim.Native.Nat.{_+_, _*_, _≤_}
 use native.Mathlib.Omega.{arith}
 use borrow.Author.Tests.{not-true, not-false}
-use Rattle.rules.specs.Run.{allIn}
+use Rattle.semantics.specs.Run.{allIn}
 use Rattle.sets.specs.Sets.{listAt, setAt}
 use Rattle.sets.specs.PlaceLaws.{set-list, size-le}
 use Rattle.sets.specs.SetLaws.{all-on, all-not, all-end}

@@ -3,7 +3,7 @@ use mathlib.Core.Path.{_≡_, sym, _∙_}
 use Prim.Native.Nat.{_+_, _*_, _≤_}
 use native.Mathlib.Omega.{arith}
 use borrow.Author.Needs.{needs}
-use Rattle.rules.specs.Run.{has}
+use Rattle.semantics.specs.Run.{has}
 use Rattle.sets.specs.Sets.{parseOf, listAt, setAt}
 use Rattle.sets.specs.PlaceLaws.{set-list, size-le}
 use Rattle.sets.specs.SetLaws.{has-hit, has-miss, has-none}

@@ -1,7 +1,7 @@
 -- `sets::same_parse` meets its contract, field by field.
 use borrow.Author.Needs.{needs}
 use borrow.Author.Tests.{eq-eqb, ne-eqb}
-use Rattle.rules.specs.Run.{sameParse}
+use Rattle.semantics.specs.Run.{sameParse}
 use Rattle.sets.proofs.same_parse.Statement.{statement}
 use Rattle.sets.proofs.same_parse.Tie as tie
 

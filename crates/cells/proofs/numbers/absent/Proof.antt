@@ -1,6 +1,6 @@
 -- `cells::absent` meets its contract.
 use mathlib.Core.Path.{refl}
-use Rattle.rules.specs.Cells.{numbersOf}
+use Rattle.semantics.specs.Cells.{numbersOf}
 use Rattle.cells.proofs.numbers.absent.Statement.{statement}
 use Rattle.cells.proofs.numbers.absent.Tie as tie
 

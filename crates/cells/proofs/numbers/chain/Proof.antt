@@ -1,6 +1,6 @@
 -- `cells::chain` meets its contract.
 use mathlib.Core.Path.{refl}
-use Rattle.rules.specs.Cells.{numbersOf}
+use Rattle.semantics.specs.Cells.{numbersOf}
 use Rattle.cells.proofs.numbers.chain.Statement.{statement}
 use Rattle.cells.proofs.numbers.chain.Tie as tie
 

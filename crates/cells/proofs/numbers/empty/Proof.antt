@@ -1,6 +1,6 @@
 -- `cells::empty` meets its contract.
 use mathlib.Core.Path.{refl}
-use Rattle.rules.specs.Cells.{numbersOf}
+use Rattle.semantics.specs.Cells.{numbersOf}
 use Rattle.cells.proofs.numbers.empty.Statement.{statement}
 use Rattle.cells.proofs.numbers.empty.Tie as tie
 

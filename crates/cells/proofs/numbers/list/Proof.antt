@@ -1,6 +1,6 @@
 -- `cells::list` meets its contract.
 use mathlib.Core.Path.{refl}
-use Rattle.rules.specs.Cells.{numbersOf}
+use Rattle.semantics.specs.Cells.{numbersOf}
 use Rattle.cells.proofs.numbers.list.Statement.{statement}
 use Rattle.cells.proofs.numbers.list.Tie as tie
 

@@ -1,6 +1,6 @@
 -- `cells::number` meets its contract.
 use mathlib.Core.Path.{refl}
-use Rattle.rules.specs.Cells.{numbersOf}
+use Rattle.semantics.specs.Cells.{numbersOf}
 use borrow.Author.Needs.{needs}
 use Rattle.cells.proofs.numbers.number.Statement.{statement}
 use Rattle.cells.proofs.numbers.number.Tie as tie

@@ -1,6 +1,6 @@
 -- `cells::variable` meets its contract.
 use mathlib.Core.Path.{refl}
-use Rattle.rules.specs.Cells.{numbersOf}
+use Rattle.semantics.specs.Cells.{numbersOf}
 use Rattle.cells.proofs.numbers.variable.Statement.{statement}
 use Rattle.cells.proofs.numbers.variable.Tie as tie
 

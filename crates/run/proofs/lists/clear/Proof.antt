@@ -5,7 +5,7 @@ use Prim.Native.Nat.{ℕ, _-_, _≤_}
 use native.Mathlib.Omega.{arith}
 use lib.ListN.{length, set, length-set}
 use borrow.Author.Needs.{needs}
-use Rattle.rules.specs.Answer.{written}
+use Rattle.semantics.specs.Answer.{written}
 use Rattle.run.specs.ListLaws.{clear-first, clear-again}
 use Rattle.run.proofs.lists.clear.Statement.{statement}
 use Rattle.run.proofs.lists.clear.Tie as tie

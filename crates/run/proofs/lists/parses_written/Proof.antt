@@ -4,9 +4,9 @@ use mathlib.Core.Path.{_≡_, refl, ap, _∙_}
 use Prim.Native.Nat.{ℕ, _-_, _*_}
 use native.Mathlib.Omega.{arith}
 use lib.ListN.{length, take}
-use Rattle.rules.specs.Answer.{parseNumbers}
-use Rattle.rules.specs.Answer as answers
-use Rattle.rows.specs.Rows.{rowOf}
+use Rattle.semantics.specs.Answer.{parseNumbers}
+use Rattle.semantics.specs.Answer as answers
+use Rattle.run_model.specs.Rows.{rowOf}
 use Rattle.sets.specs.Sets.{parseOf}
 use Rattle.sets.specs.Sets as sets
 use Rattle.calls.specs.Table.{table}

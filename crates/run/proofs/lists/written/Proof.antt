@@ -5,7 +5,7 @@ use Prim.Native.Nat.{ℕ, _-_, _≤_}
 use native.Mathlib.Omega.{arith}
 use lib.ListN.{length, getD, set, take, length-set}
 use borrow.Author.Needs.{needs}
-use Rattle.rules.specs.Answer as answers
+use Rattle.semantics.specs.Answer as answers
 use Rattle.run.specs.ListLaws.{copy-again}
 use Rattle.run.proofs.lists.written.Statement.{statement}
 use Rattle.run.proofs.lists.written.Tie as tie

@@ -4,8 +4,8 @@ use Prim.Native.Nat.{_-_}
 use native.Mathlib.Omega.{arith}
 use lib.ListN.{drop}
 use borrow.Author.Needs.{needs}
-use Rattle.rules.specs.Answer.{wholeValues}
-use Rattle.rows.specs.Rows.{rowOf}
+use Rattle.semantics.specs.Answer.{wholeValues}
+use Rattle.run_model.specs.Rows.{rowOf}
 use Rattle.sets.specs.Sets.{parseOf}
 use Rattle.calls.specs.Table.{table}
 use Rattle.run.specs.ListLaws.{values-again, values-end}

@@ -2,7 +2,7 @@
 use mathlib.Core.Path.{sym, ap, _∙_}
 use borrow.Author.Tests.{not-true, not-false}
 use borrow.Author.Needs.{needs}
-use Rattle.rules.specs.Steps.{afterElement}
+use Rattle.semantics.specs.Steps.{afterElement}
 use Rattle.tokens.specs.Maps.{endOf}
 use Rattle.tokens.proofs.steps.after_element.Statement.{statement}
 use Rattle.tokens.proofs.steps.after_element.Tie as tie

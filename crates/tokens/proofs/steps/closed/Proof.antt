@@ -1,6 +1,6 @@
 -- `tokens::closed` meets its contract.
 use borrow.Author.Needs.{needs}
-use Rattle.rules.specs.Steps.{closed}
+use Rattle.semantics.specs.Steps.{closed}
 use Rattle.tokens.proofs.steps.closed.Statement.{statement}
 use Rattle.tokens.proofs.steps.closed.Tie as tie
 

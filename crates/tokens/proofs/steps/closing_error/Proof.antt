@@ -1,7 +1,7 @@
 -- `tokens::closing_error` meets its contract.
 use mathlib.Core.Path.{sym}
 use borrow.Author.Needs.{needs}
-use Rattle.rules.specs.Run.{closingOf}
+use Rattle.semantics.specs.Run.{closingOf}
 use Rattle.tokens.proofs.steps.closing_error.Statement.{statement}
 use Rattle.tokens.proofs.steps.closing_error.Tie as tie
 

@@ -1,7 +1,7 @@
 -- `tokens::identifier` meets its contract.
 use mathlib.Core.Path.{sym, ap, _∙_}
 use borrow.Author.Needs.{needs}
-use Rattle.rules.specs.Steps.{stepAt}
+use Rattle.semantics.specs.Steps.{stepAt}
 use Rattle.tokens.specs.Maps.{endOf}
 use Rattle.tokens.proofs.steps.identifier.Statement.{statement}
 use Rattle.tokens.proofs.steps.identifier.Tie as tie

@@ -2,7 +2,7 @@
 use mathlib.Core.Path.{sym, ap, _∙_}
 use borrow.Author.Tests.{eq-eqb, ne-eqb}
 use borrow.Author.Needs.{needs}
-use Rattle.rules.specs.Errors.{identifierError}
+use Rattle.semantics.specs.Errors.{identifierError}
 use Rattle.tokens.specs.Maps.{endOf}
 use Rattle.tokens.proofs.steps.identifier_error.Statement.{statement}
 use Rattle.tokens.proofs.steps.identifier_error.Tie as tie

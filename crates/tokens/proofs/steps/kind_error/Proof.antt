@@ -1,7 +1,7 @@
 -- `tokens::kind_error` meets its contract.
 use mathlib.Core.Path.{sym, ap, _∙_}
 use borrow.Author.Needs.{needs}
-use Rattle.rules.specs.Tokens.{isSome}
+use Rattle.semantics.specs.Tokens.{isSome}
 use Rattle.tokens.specs.Maps.{variableOf}
 use Rattle.tokens.proofs.steps.kind_error.Statement.{statement}
 use Rattle.tokens.proofs.steps.kind_error.Tie as tie

@@ -1,7 +1,7 @@
 -- `tokens::number` meets its contract.
 use mathlib.Core.Path.{sym, _∙_}
 use borrow.Author.Needs.{needs}
-use Rattle.rules.specs.Steps.{stepAt}
+use Rattle.semantics.specs.Steps.{stepAt}
 use Rattle.tokens.proofs.steps.number.Statement.{statement}
 use Rattle.tokens.proofs.steps.number.Tie as tie
 

@@ -2,7 +2,7 @@
 use mathlib.Core.Path.{sym, _∙_}
 use borrow.Author.Tests.{eq-eqb, ne-eqb}
 use borrow.Author.Needs.{needs}
-use Rattle.rules.specs.Errors.{stepError}
+use Rattle.semantics.specs.Errors.{stepError}
 use Rattle.tokens.proofs.steps.number_error.Statement.{statement}
 use Rattle.tokens.proofs.steps.number_error.Tie as tie
 

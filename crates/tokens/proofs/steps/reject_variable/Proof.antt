@@ -1,7 +1,7 @@
 -- `tokens::reject_variable` meets its contract.
 use mathlib.Core.Path.{sym, ap, _∙_}
 use borrow.Author.Needs.{needs}
-use Rattle.rules.specs.Steps.{stepAt}
+use Rattle.semantics.specs.Steps.{stepAt}
 use Rattle.tokens.specs.Maps.{variableOf}
 use Rattle.tokens.proofs.steps.reject_variable.Statement.{statement}
 use Rattle.tokens.proofs.steps.reject_variable.Tie as tie

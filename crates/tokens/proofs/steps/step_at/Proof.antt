@@ -1,6 +1,6 @@
 -- `tokens::step_at` meets its contract, kind by kind.
 use borrow.Author.Needs.{needs}
-use Rattle.rules.specs.Steps.{stepAt}
+use Rattle.semantics.specs.Steps.{stepAt}
 use Rattle.tokens.proofs.steps.step_at.Statement.{statement}
 use Rattle.tokens.proofs.steps.step_at.Tie as tie
 

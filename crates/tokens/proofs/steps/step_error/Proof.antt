@@ -1,7 +1,7 @@
 -- `tokens::step_error` meets its contract, kind by kind.
 use mathlib.Core.Path.{ap, _∙_}
 use borrow.Author.Needs.{needs}
-use Rattle.rules.specs.Errors.{identifierError, stepError}
+use Rattle.semantics.specs.Errors.{identifierError, stepError}
 use Rattle.tokens.proofs.steps.step_error.Statement.{statement}
 use Rattle.tokens.proofs.steps.step_error.Tie as tie
 

@@ -2,7 +2,7 @@
 use mathlib.Core.Path.{sym, ap, _∙_}
 use borrow.Author.Tests.{eq-eqb, ne-eqb}
 use borrow.Author.Needs.{needs}
-use Rattle.rules.specs.Steps.{stepAt}
+use Rattle.semantics.specs.Steps.{stepAt}
 use Rattle.tokens.specs.Maps.{variableOf}
 use Rattle.tokens.proofs.steps.variable_of_kind.Statement.{statement}
 use Rattle.tokens.proofs.steps.variable_of_kind.Tie as tie

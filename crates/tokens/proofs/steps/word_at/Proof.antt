@@ -1,7 +1,7 @@
 -- `tokens::word_at` meets its contract.
 use mathlib.Core.Path.{sym, ap, _∙_}
 use borrow.Author.Needs.{needs}
-use Rattle.rules.specs.Steps.{stepAt}
+use Rattle.semantics.specs.Steps.{stepAt}
 use Rattle.tokens.specs.Maps.{endOf}
 use Rattle.tokens.proofs.steps.word_at.Statement.{statement}
 use Rattle.tokens.proofs.steps.word_at.Tie as tie

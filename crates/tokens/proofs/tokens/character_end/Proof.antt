@@ -2,7 +2,7 @@
 use mathlib.Core.Path.{sym, _∙_}
 use borrow.Author.Tests.{lt-ltb, le-ltb, eq-eqb, ne-eqb}
 use borrow.Author.Needs.{needs}
-use Rattle.rules.specs.Tokens.{characterEnd}
+use Rattle.semantics.specs.Tokens.{characterEnd}
 use Rattle.tokens.proofs.tokens.character_end.Statement.{statement}
 use Rattle.tokens.proofs.tokens.character_end.Tie as tie
 

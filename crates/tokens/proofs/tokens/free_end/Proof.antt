@@ -1,7 +1,7 @@
 -- `tokens::free_end` meets its contract.
 use mathlib.Core.Path.{sym, _∙_}
 use borrow.Author.Needs.{needs}
-use Rattle.rules.specs.Tokens.{freeEnd}
+use Rattle.semantics.specs.Tokens.{freeEnd}
 use Rattle.tokens.proofs.tokens.free_end.Statement.{statement}
 use Rattle.tokens.proofs.tokens.free_end.Tie as tie
 

@@ -1,7 +1,7 @@
 -- `tokens::identifier_end` meets its contract.
 use mathlib.Core.Path.{sym, _∙_}
 use borrow.Author.Needs.{needs}
-use Rattle.rules.specs.Tokens.{identifierEnd}
+use Rattle.semantics.specs.Tokens.{identifierEnd}
 use Rattle.tokens.proofs.tokens.identifier_end.Statement.{statement}
 use Rattle.tokens.proofs.tokens.identifier_end.Tie as tie
 

@@ -1,7 +1,7 @@
 -- `tokens::reserved_at` meets its contract.
 use mathlib.Core.Path.{sym, ap, _∙_}
 use borrow.Author.Needs.{needs}
-use Rattle.rules.specs.Tokens.{reservedAt}
+use Rattle.semantics.specs.Tokens.{reservedAt}
 use Rattle.tokens.specs.Maps.{endOf}
 use Rattle.tokens.proofs.tokens.reserved_at.Statement.{statement}
 use Rattle.tokens.proofs.tokens.reserved_at.Tie as tie

@@ -1,7 +1,7 @@
 -- `tokens::variable_at` meets its contract.
 use mathlib.Core.Path.{sym, ap, _∙_}
 use borrow.Author.Needs.{needs}
-use Rattle.rules.specs.Tokens.{variableAt}
+use Rattle.semantics.specs.Tokens.{variableAt}
 use Rattle.tokens.specs.Maps.{endOf}
 use Rattle.tokens.proofs.tokens.variable_at.Statement.{statement}
 use Rattle.tokens.proofs.tokens.variable_at.Tie as tie

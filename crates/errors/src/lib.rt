@@ -1,0 +1,166 @@
+// Which error counts: the furthest, carried by value. Document 01, "Errors".
+//
+// Every function equals a definition of `semantics` (Errors, Run) on all errors; specs/Maps.antt says what each struct and enum stands
+// for. Where the run's definition takes a whole call, the function takes the call's numbers, and specs/Failures.antt proves that the two
+// agree. No function has a `requires`. The error of a step that takes nothing is made in `tokens`.
+//
+// The crate relies on the definitions of `semantics`, and assumes nothing.
+ghost use mathlib.Core.Path.{_≡_};
+ghost use Rattle.semantics.specs.Errors.{wins as winsOver, join as joined, beyond as errorBeyond, joinWith, choiceError};
+ghost use Rattle.semantics.specs.Run.{either as eitherOf};
+ghost use Rattle.errors.specs.Failures.{counted as countedOf, failedCall, chosen as chosenOf};
+ghost use Rattle.errors.specs.Maps.{errorOf, failureOf};
+
+// ---- The kinds
+pub const CHARACTER_WANTED: usize = 1;
+
+pub const WORD_WANTED: usize = 2;
+
+pub const IDENTIFIER_WANTED: usize = 3;
+
+pub const TEXT_ENDED: usize = 4;
+
+pub const VARIABLE_FOUND: usize = 5;
+
+pub const RESERVED_FOUND: usize = 6;
+
+pub const UNKNOWN_NAME: usize = 7;
+
+pub const WRONG_KIND: usize = 8;
+
+pub const DIGITS_WANTED: usize = 9;
+
+pub const NUMBER_TOO_LARGE: usize = 10;
+
+pub const NONTERMINAL_WANTED: usize = 11;
+
+pub const MORE_WANTED: usize = 12;
+
+pub struct Error {
+    pub place: usize,
+    pub kind: usize,
+    pub argument: usize,
+}
+
+// `Option Error`: an error, or none where something was found.
+pub enum Failure {
+    Nothing,
+    At(Error),
+}
+
+// "The furthest place wins, then least kind, then least argument".
+pub fn wins(a: Error, b: Error) -> bool
+    ensures { λ r. ⌜ r ≡ winsOver (errorOf a) (errorOf b) ⌝ }
+{
+    if b.place < a.place {
+        return true;
+    }
+    if a.place != b.place {
+        return false;
+    }
+    if a.kind < b.kind {
+        return true;
+    }
+    if a.kind != b.kind {
+        return false;
+    }
+    a.argument <= b.argument
+}
+
+pub fn join(a: Error, b: Error) -> Error
+    ensures { λ r. ⌜ errorOf r ≡ joined (errorOf a) (errorOf b) ⌝ }
+{
+    if wins(a, b) { a } else { b }
+}
+
+// An error that counts only where it lies beyond a place.
+pub fn beyond(place: usize, e: Error) -> Failure
+    ensures { λ r. ⌜ failureOf r ≡ errorBeyond place (errorOf e) ⌝ }
+{
+    if place < e.place {
+        Failure::At(e)
+    } else {
+        Failure::Nothing
+    }
+}
+
+// The errors of two variants: where one has none, the other's counts.
+pub fn join_with(first: Failure, second: Failure) -> Failure
+    ensures { λ r. ⌜ failureOf r ≡ joinWith (failureOf first) (failureOf second) ⌝ }
+{
+    let Failure::At(a) = first else {
+        return second;
+    };
+    let Failure::At(b) = second else {
+        return first;
+    };
+    Failure::At(join(a, b))
+}
+
+// What follows two parses: a parse on either side leaves no error.
+pub fn either(first: Failure, second: Failure) -> Failure
+    ensures { λ r. ⌜ failureOf r ≡ eitherOf (failureOf first) (failureOf second) ⌝ }
+{
+    let Failure::At(e) = first else {
+        return Failure::Nothing;
+    };
+    let Failure::At(f) = second else {
+        return Failure::Nothing;
+    };
+    Failure::At(join(e, f))
+}
+
+// Both sides of a choice failed: their error, where it consumed something since the choice, else that more was wanted there.
+pub fn choice_error(at: usize, nonterminal: usize, a: Error, b: Error) -> Error
+    ensures { λ r. ⌜ errorOf r ≡ choiceError at nonterminal (errorOf a) (errorOf b) ⌝ }
+{
+    let Failure::At(e) = beyond(at, join(a, b)) else {
+        return Error {
+            place: at,
+            kind: MORE_WANTED,
+            argument: nonterminal,
+        };
+    };
+    e
+}
+
+// Both sides of a choice at a place, in a variant of the nonterminal: a parse on either side leaves no error.
+pub fn chosen(at: usize, nonterminal: usize, first: Failure, second: Failure) -> Failure
+    ensures { λ r. ⌜ failureOf r ≡ chosenOf at nonterminal (failureOf first) (failureOf second) ⌝ }
+{
+    let Failure::At(a) = first else {
+        return Failure::Nothing;
+    };
+    let Failure::At(b) = second else {
+        return Failure::Nothing;
+    };
+    Failure::At(choice_error(at, nonterminal, a, b))
+}
+
+// What a variant's failure counts for a call that begins at `start`: a variant that isn't committed counts nothing.
+pub fn counted(committed: bool, start: usize, failure: Failure) -> Failure
+    ensures { λ r. ⌜ failureOf r ≡ countedOf committed start (failureOf failure) ⌝ }
+{
+    let Failure::At(e) = failure else {
+        return Failure::Nothing;
+    };
+    if committed {
+        beyond(start, e)
+    } else {
+        Failure::Nothing
+    }
+}
+
+// What a call without a parse gives: "With none, a call gives 11 at its start".
+pub fn failed_call(start: usize, nonterminal: usize, failure: Failure) -> Error
+    ensures { λ r. ⌜ errorOf r ≡ failedCall start nonterminal (failureOf failure) ⌝ }
+{
+    let Failure::At(e) = failure else {
+        return Error {
+            place: start,
+            kind: NONTERMINAL_WANTED,
+            argument: nonterminal,
+        };
+    };
+    e
+}

@@ -1,0 +1,103 @@
+-- Laws of what the parts of a run give, one after another; a limit ends all that would follow, and a failure what follows a path.
+use mathlib.Core.Path.{_≡_, refl, sym, ap, _∙_}
+use mathlib.Core.Bool.{Bool, true, false, _&&_}
+use mathlib.Core.List.{List}
+use mathlib.Core.Option.{none, some}
+use Prim.Native.Nat.{ℕ, suc, _+_, _-_, _<_, _≤_}
+use native.Mathlib.Omega.{arith}
+use lib.Dec.{eqb}
+use borrow.Author.Tests.{eqb-true, eqb-false}
+use Rattle.characters.specs.Cases.{by-test}
+use Rattle.semantics.specs.Errors.{Error}
+use Rattle.semantics.specs.Cells.{Cell}
+use Rattle.semantics.specs.Run.{Result, met, ok, _>>=_}
+use Rattle.run_model.specs.Rows.{Row}
+use Rattle.run_model.specs.Model as model
+use Rattle.run_model.specs.Model.{RowState, rowState, outcome}
+use Rattle.errors.specs.Maps.{failureOf}
+use Rattle.errors.specs.declared.Failure.{Failure}
+use Rattle.transitions.specs.declared.outcomes.Outcome.{Outcome}
+use Rattle.transitions.specs.Outcomes.{Held, given, goesOn, failureAt}
+use Rattle.transitions.specs.OutcomeLaws.{given-ok, given-met}
+
+-- a loop has gone on: the store holds its cells, and the model from here is the model of the whole
+pub record Going (text store : List ℕ) (count : ℕ) (x y : Result model.Outcome) : Type 0 where
+  pub held : Held text store count
+  pub is : x ≡ y
+
+pub sub-turn : (n i : ℕ) → i < n → n - i ≡ suc (n - (i + 1))
+sub-turn n i h = omega arith
+
+pub sub-end : (n i : ℕ) → n ≤ i → n - i ≡ 0
+sub-end n i h = omega arith
+
+-- ---- One part after another
+pub bind-assoc : {A B C : Type 0} (m : Result A) (f : A → Result B) (g : B → Result C) → ((m >>= f) >>= g) ≡ (m >>= (λ a. f a >>= g))
+unfolding _>>=_
+bind-assoc (met number units) f g = refl
+bind-assoc (ok a) f g = refl
+
+-- a result that is only changed in between
+pub bind-map : {A B C : Type 0} (m : Result A) (f : A → B) (g : B → Result C) → ((m >>= (λ a. ok (f a))) >>= g) ≡ (m >>= (λ a. g (f a)))
+unfolding _>>=_
+bind-map (met number units) f g = refl
+bind-map (ok a) f g = refl
+
+pub bind-assoc-in : {A B C D : Type 0} (m : Result A) (f : A → Result B) (g : B → Result C) (h : C → Result D) →
+    ((m >>= (λ a. f a >>= g)) >>= h) ≡ (m >>= (λ a. f a >>= (λ b. g b >>= h)))
+unfolding _>>=_
+bind-assoc-in (met number units) f g h = refl
+bind-assoc-in (ok a) f g h = bind-assoc (f a) g h
+
+pub bind-map-in : {A B C D : Type 0} (m : Result A) (r : A → Result B) (f : B → C) (g : C → Result D) →
+    ((m >>= (λ a. r a >>= (λ b. ok (f b)))) >>= g) ≡ (m >>= (λ a. r a >>= (λ b. g (f b))))
+unfolding _>>=_
+bind-map-in (met number units) r f g = refl
+bind-map-in (ok a) r f g = bind-map (r a) f g
+
+module _ (o : Outcome) (cells : List Cell) (T : List Row) where
+  -- a limit ends all that would follow
+  pub limit-ends : (K : model.Outcome → Result model.Outcome) → (o .limit ≡ 0 → ⊥) → given o cells T ≡ (given o cells T >>= K)
+  unfolding _>>=_
+  limit-ends K h = rw (given-met o cells T h)
+
+  pub goes-to : (K : model.Outcome → Result model.Outcome) → o .limit ≡ 0 → (given o cells T >>= K) ≡ K (outcome (failureOf (failureAt o)) (rowState (o .state .units) cells T))
+  unfolding _>>=_
+  goes-to K e = rw (given-ok o cells T e)
+
+-- ---- Whether a path goes on
+and-left : (a b : Bool) → (a && b) ≡ true → a ≡ true
+and-left true b e = refl
+and-left false b e = e
+
+and-right : (a b : Bool) → (a && b) ≡ true → b ≡ true
+and-right true b e = e
+and-right false true e = refl
+and-right false false e = e
+
+module _ (o : Outcome) (e : goesOn o ≡ true) where
+  pub goes-without-limit : o .limit ≡ 0
+  unfolding goesOn
+  goes-without-limit = eqb-true (o .limit) 0 (and-left (eqb (o .limit) 0) (eqb (o .failed) 0) e)
+
+  pub goes-without-failure : failureOf (failureAt o) ≡ none
+  unfolding goesOn
+  goes-without-failure = rw (and-right (eqb (o .limit) 0) (eqb (o .failed) 0) e)
+
+module _ (o : Outcome) (cells : List Cell) (T : List Row) where
+  pub goes-on : goesOn o ≡ true → given o cells T ≡ ok (outcome none (rowState (o .state .units) cells T))
+  goes-on e = given-ok o cells T (goes-without-limit o e) ∙ rw (goes-without-failure o e)
+
+  -- what a failure ends
+  pub ended : (K : model.Outcome → Result model.Outcome) → ((e : Error) (s : RowState) → K (outcome (some e) s) ≡ ok (outcome (some e) s)) →
+      goesOn o ≡ false → given o cells T ≡ (given o cells T >>= K)
+  unfolding goesOn _>>=_
+  ended K k h =
+      by-test (eqb (o .limit) 0)
+      (λ t.
+      let f : failureAt o ≡ Failure.At (o .error) = rw (and-false (eqb (o .failed) 0) (rw t at h)) in
+      rw (given-ok o cells T (eqb-true (o .limit) 0 t) ∙ ap (λ (x : Failure). ok (outcome (failureOf x) (rowState (o .state .units) cells T))) f) (sym (k _ _)))
+      (λ t. limit-ends o cells T K (eqb-false (o .limit) 0 t))
+    where
+      and-false : (b : Bool) → (true && b) ≡ false → b ≡ false
+      and-false b e = e

@@ -1,0 +1,56 @@
+// The line of an answer, on standard output.
+ghost use mathlib.Core.Path.{_≡_};
+ghost use Rattle.program.specs.Rule.{Answers};
+use book::INDEX_SIZE;
+use book::check_into;
+use libc::STDOUT_FILENO;
+use printing::print_part;
+use run::Answer;
+use run::read;
+
+const START: u32 = 0;
+
+const ALLOWANCE: u32 = 1000000;
+
+const CELL_NUMBERS: usize = 12288;
+
+const PARSE_NUMBERS: usize = 256;
+
+// No line gets that far; print_part asks for a bound.
+const LONGEST_LINE: usize = 4611686018427387904;
+
+// The line in parts, each as much as `out` holds, until one is empty or can't be written.
+fn write_line<'a>(
+    text: &'a [u8],
+    book: &'a [u8],
+    index: &[usize],
+    cells: &[u32],
+    answer: Answer,
+    out: &mut [u8],
+) {
+    let mut from = 0;
+    while from < LONGEST_LINE {
+        let size = print_part(text, book, index, cells, answer, from, out);
+        if size == 0 {
+            return;
+        }
+        if !io::write_all(STDOUT_FILENO, &out[..size]) {
+            return;
+        }
+        from += size;
+    }
+}
+
+// Reads the text by the book, writes the line of the answer by way of `out`, which needs one byte at least, and gives the answer.
+pub fn answer_line<'a>(book: &'a [u8], text: &'a [u8], out: &mut [u8]) -> Answer
+    ensures { λ r. ⌜ Answers (now (book .entry)) (now (text .entry)) r ⌝ }
+{
+    let mut cells = [0u32; CELL_NUMBERS];
+    let mut parses = [0u32; PARSE_NUMBERS];
+    let answer = read(book, text, START, ALLOWANCE, &mut cells, &mut parses);
+    // the names that variables are spelled by
+    let mut index = [0usize; INDEX_SIZE];
+    check_into(book, &mut index);
+    write_line(text, book, &index, &cells, answer, out);
+    answer
+}

@@ -1,0 +1,51 @@
+-- `run::by_values` meets its contract.
+use borrow.Author.Needs.{needs}
+use Rattle.run.proofs.reader.by_values.Statement.{statement}
+use Rattle.run.proofs.reader.by_values.Tie as tie
+
+enum-told : tie.Need-enum-told
+enum-told c = search needs
+
+at-end-requires : tie.Need-at-end-requires
+at-end-requires c κs = search needs
+
+enum-known-values : tie.Need-enum-known-values
+enum-known-values c = search needs
+
+at-end-requires-2 : tie.Need-at-end-requires-2
+at-end-requires-2 c κs = search needs
+
+enum-told-2 : tie.Need-enum-told-2
+enum-told-2 c = search needs
+
+at-end-requires-3 : tie.Need-at-end-requires-3
+at-end-requires-3 c κs = search needs
+
+returns : tie.Need-returns
+returns c =
+    let enum-told = c .before .enum-told in
+    rw (enum-told .given .1) (c .at-end .ensures)
+
+returns-2 : tie.Need-returns-2
+returns-2 c =
+    let values = c .before .before .values in
+    rw (values .given .1) (c .at-end2 .ensures)
+
+returns-3 : tie.Need-returns-3
+returns-3 c =
+    let enum-told2 = c .before .enum-told2 in
+    rw (enum-told2 .given .1) (c .at-end3 .ensures)
+
+pub by-values-spec : {M : Type 1} → statement M
+by-values-spec =
+    tie.close
+    (tie.spec
+    enum-told
+    at-end-requires
+    enum-known-values
+    at-end-requires-2
+    enum-told-2
+    at-end-requires-3
+    returns
+    returns-2
+    returns-3)

@@ -1,0 +1,365 @@
+// The call of document 01, "The answer": the refusals before the run, the run by `enter`, and the end.
+//
+// `read` keeps working memory of its own, 498,048 bytes; `read_in` is lent it, whatever it holds. The definition of crates/semantics/specs/Answer.antt that a
+// function equals is named in its contract.
+ghost use mathlib.Core.Path.{_≡_};
+ghost use Prim.Native.Nat.{_+_, _-_, _≤_, _<_};
+ghost use lib.ListN.{length};
+ghost use Rattle.book.specs.Index.{bookIn};
+ghost use Rattle.book.specs.Check.{checkBook};
+ghost use Rattle.book.specs.Check as check;
+ghost use Rattle.semantics.specs.Answer as answers;
+ghost use Rattle.semantics.specs.Answer.{answer, firstHigh, answerOf};
+ghost use Rattle.transitions.specs.Fit.{Fit, Fits};
+ghost use Rattle.transitions.specs.Outcomes.{failureAt, Held};
+ghost use Rattle.run.specs.Reading.{answerIn, answered, short, noRoom, noAllowance, within, endAnswer, seenOf, FailureFits, RunsText, Reads, answerWith};
+use crate::lists::CELL_NUMBERS;
+use crate::lists::PARSE_NUMBERS;
+use crate::lists::cleared;
+use crate::lists::filled;
+use crate::whole::Values;
+use crate::whole::whole_values;
+use book::INDEX_SIZE;
+use book::Verdict;
+use book::check_into;
+use calls::found;
+use cells::STORE_SIZE;
+use characters::skip;
+use errors::Error;
+use errors::Failure;
+use parser::enter;
+use transitions::Outcome;
+use transitions::State;
+use transitions::failure_of;
+
+// "nesting beyond 200" is a limit; also the outermost call's row
+pub const LEVELS: usize = 200;
+
+// the numbers of the rows: 201 of 522 numbers
+pub const ROWS_SIZE: usize = 104922;
+
+const MOST_WORK: u32 = 1000000;
+
+const LONGEST_TEXT: usize = 4096;
+
+// "refusal (0 if none), place, kind, argument, work, number of parses, value cell"
+pub struct Answer {
+    pub refusal: u32,
+    pub place: u32,
+    pub kind: u32,
+    pub argument: u32,
+    pub work: u32,
+    pub parses: u32,
+    pub value: u32,
+}
+
+// ---- Answers
+// 1 to 11: "work 0".
+fn refused(refusal: u32, place: u32) -> Answer
+    ensures { λ r. ⌜ answerIn r ≡ answer refusal place 0 0 0 0 0 ⌝ }
+{
+    Answer {
+        refusal,
+        place,
+        kind: 0,
+        argument: 0,
+        work: 0,
+        parses: 0,
+        value: 0,
+    }
+}
+
+// An answer of the end, without an error.
+fn at_end(refusal: u32, work: u32, parses: u32, value: u32) -> Answer
+    ensures { λ r. ⌜ answerIn r ≡ answer refusal 0 0 0 work parses value ⌝ }
+{
+    Answer {
+        refusal,
+        place: 0,
+        kind: 0,
+        argument: 0,
+        work,
+        parses,
+        value,
+    }
+}
+
+// "no parse; kind and argument filled"
+fn failed(e: Error, work: u32) -> Answer
+    requires { ⌜ Fits (e .place) × Fits (e .kind) × Fits (e .argument) ⌝ }
+    ensures { λ r. ⌜ answerIn r ≡ answer 30 (e .place) (e .kind) (e .argument) work 0 0 ⌝ }
+{
+    Answer {
+        refusal: 30,
+        place: e.place as u32,
+        kind: e.kind as u32,
+        argument: e.argument as u32,
+        work,
+        parses: 0,
+        value: 0,
+    }
+}
+
+// 31, 32 or a value.
+fn by_values(values: Values, work: u32, parses: u32) -> Answer
+    ensures { λ r. ⌜ answerIn r ≡ endAnswer values work parses ⌝ }
+{
+    match values {
+        Values::Nothing => at_end(31, work, parses, 0),
+        Values::One(cell) => at_end(0, work, parses, cell),
+        Values::Different => at_end(32, work, parses, 0),
+    }
+}
+
+// What is gone of the allowance. The units left are never more; if they were, none would be gone.
+fn gone(allowance: u32, left: u32) -> u32
+    ensures { λ r. ⌜ r ≡ allowance - left ⌝ }
+{
+    if left <= allowance {
+        allowance - left
+    } else {
+        0
+    }
+}
+
+// The end: 20 to 23, 30, 31, 32 or a value.
+fn ending(
+    text: &[u8],
+    allowance: u32,
+    cells: &mut [u32],
+    parses: &mut [u32],
+    store: &[u32],
+    rows: &[u32],
+    outcome: Outcome,
+) -> Answer
+    requires { ⌜ (12288 ≤ length (now cells)) × (256 ≤ length (now parses)) × (104922 ≤ length (now rows)) ×
+        Held (now text) (now store) (outcome .state .cells) × (outcome .limit ≡ 0 → FailureFits (failureAt outcome)) ⌝ }
+    ensures { λ r. ⌜ answered r (now (cells .exit)) (now (parses .exit)) ≡
+        answers.atEnd (now (cells .entry)) (now (parses .entry)) (now (text .entry)) allowance (seenOf outcome (now (store .entry)) (now (rows .entry))) ⌝ }
+{
+    let state = outcome.state;
+    let work = gone(allowance, state.units);
+    if outcome.limit != 0 {
+        cleared(cells, parses);
+        return at_end(outcome.limit, work, 0, 0);
+    }
+    let failure = failure_of(outcome);
+    match failure {
+        Failure::At(e) => {
+            cleared(cells, parses);
+            failed(e, work)
+        }
+        Failure::Nothing => {
+            filled(cells, parses, store, rows, state.cells);
+            let values = whole_values(text, rows);
+            let number = found(rows, LEVELS) as u32;
+            by_values(values, work, number)
+        }
+    }
+}
+
+// ---- The run
+// The start's use at the text's beginning, with 200 levels of nesting and no cells.
+fn run(
+    book: &[u8],
+    index: &[usize],
+    text: &[u8],
+    store: &mut [u32],
+    rows: &mut [u32],
+    start: u32,
+    units: u32,
+) -> Outcome
+    requires { ⌜ (17408 ≤ length (now store)) × (104922 ≤ length (now rows)) × Fit (bookIn (now book) (now index)) (now text) ⌝ }
+    ensures { λ r. ⌜ RunsText (bookIn (now (book .entry)) (now (index .entry))) (now (text .entry)) units start (now (store .exit)) (now (rows .exit)) r ⌝ }
+{
+    cells::clear(store);
+    let begun = State { units, cells: 0 };
+    let first = skip(text, 0) as u32;
+    enter(book, index, text, store, rows, LEVELS, start, first, begun)
+}
+
+// ---- The text and the start
+// The place of the first byte of 128 or more, or the text's length.
+fn first_high(text: &[u8]) -> usize
+    ensures { λ r. ⌜ within (now (text .entry)) r ≡ firstHigh 0 (now (text .entry)) ⌝ }
+{
+    let mut i = 0;
+    while i < text.len() {
+        if 128 <= text[i] {
+            return i;
+        }
+        i += 1;
+    }
+    i
+}
+
+// The start, then the text: 9, 10, 11; then the run.
+fn on_book(
+    book: &[u8],
+    text: &[u8],
+    start: u32,
+    allowance: u32,
+    cells: &mut [u32],
+    parses: &mut [u32],
+    index: &[usize],
+    store: &mut [u32],
+    rows: &mut [u32],
+) -> Answer
+    requires { ⌜ (12288 ≤ length (now cells)) × (256 ≤ length (now parses)) × (17408 ≤ length (now store)) × (104922 ≤ length (now rows)) ×
+        (checkBook (now book) ≡ check.Outcome.book (bookIn (now book) (now index))) ⌝ }
+    ensures { λ r. ⌜ answered r (now (cells .exit)) (now (parses .exit)) ≡
+        answers.onBook (now (cells .entry)) (now (parses .entry)) (bookIn (now (book .entry)) (now (index .entry))) (now (text .entry)) start allowance ⌝ }
+{
+    if book::nonterminals(index) <= start as usize {
+        return refused(9, 0);
+    }
+    if LONGEST_TEXT < text.len() {
+        return refused(10, 4096);
+    }
+    let high = first_high(text);
+    if high < text.len() {
+        return refused(11, high as u32);
+    }
+    let outcome = run(book, index, text, store, rows, start, allowance);
+    ending(text, allowance, cells, parses, store, rows, outcome)
+}
+
+// ---- The call
+fn too_short(cells: &[u32], parses: &[u32]) -> bool
+    ensures { λ r. ⌜ r ≡ short (now (cells .entry)) (now (parses .entry)) ⌝ }
+{
+    if cells.len() < CELL_NUMBERS {
+        return true;
+    }
+    parses.len() < PARSE_NUMBERS
+}
+
+fn no_room(index: &[usize], store: &[u32], rows: &[u32]) -> bool
+    ensures { λ r. ⌜ r ≡ noRoom (now (index .entry)) (now (store .entry)) (now (rows .entry)) ⌝ }
+{
+    if index.len() < INDEX_SIZE {
+        return true;
+    }
+    if store.len() < STORE_SIZE {
+        return true;
+    }
+    rows.len() < ROWS_SIZE
+}
+
+fn no_allowance(allowance: u32) -> bool
+    ensures { λ r. ⌜ r ≡ noAllowance allowance ⌝ }
+{
+    if allowance == 0 {
+        return true;
+    }
+    MOST_WORK < allowance
+}
+
+// A refusal of the book's check. However long the book is, the check ends within its first million bytes (`refusal-fits`), so that both numbers fit.
+fn book_refused(number: usize, place: usize) -> Answer
+    requires { ⌜ Fits number × Fits place ⌝ }
+    ensures { λ r. ⌜ answerIn r ≡ answer number place 0 0 0 0 0 ⌝ }
+{
+    refused(number as u32, place as u32)
+}
+
+// The call, where the working memory has its sizes.
+fn in_room(
+    book: &[u8],
+    text: &[u8],
+    start: u32,
+    allowance: u32,
+    cells: &mut [u32],
+    parses: &mut [u32],
+    index: &mut [usize],
+    store: &mut [u32],
+    rows: &mut [u32],
+) -> Answer
+    requires { ⌜ (1091 ≤ length (now index)) × (17408 ≤ length (now store)) × (104922 ≤ length (now rows)) ⌝ }
+    ensures { λ r. ⌜ answered r (now (cells .exit)) (now (parses .exit)) ≡
+        answerOf (now (cells .entry)) (now (parses .entry)) (now (book .entry)) (now (text .entry)) start allowance ⌝ }
+{
+    if too_short(cells, parses) {
+        return refused(1, 0);
+    }
+    if no_allowance(allowance) {
+        return refused(2, 0);
+    }
+    let verdict = check_into(book, index);
+    match verdict {
+        Verdict::Refused { number, place } => book_refused(number, place),
+        Verdict::Accepted => on_book(
+            book,
+            text,
+            start,
+            allowance,
+            cells,
+            parses,
+            index,
+            store,
+            rows,
+        ),
+    }
+}
+
+// The call, with working memory that is lent and may hold anything: a book's index, a store of cells, the rows of calls. Too little of it is
+// refused as too short lists are.
+pub fn read_in(
+    book: &[u8],
+    text: &[u8],
+    start: u32,
+    allowance: u32,
+    cells: &mut [u32],
+    parses: &mut [u32],
+    index: &mut [usize],
+    store: &mut [u32],
+    rows: &mut [u32],
+) -> Answer
+    ensures { λ r. ⌜ Reads (now (book .entry)) (now (text .entry)) start
+        (answerWith (now (index .entry)) (now (store .entry)) (now (rows .entry)) (now (cells .entry)) (now (parses .entry)) (now (book .entry)) (now (text .entry)) start allowance)
+        (answered r (now (cells .exit)) (now (parses .exit))) ⌝ }
+{
+    if no_room(index, store, rows) {
+        return refused(1, 0);
+    }
+    in_room(
+        book,
+        text,
+        start,
+        allowance,
+        cells,
+        parses,
+        index,
+        store,
+        rows,
+    )
+}
+
+// The call of document 01, "The answer".
+pub fn read(
+    book: &[u8],
+    text: &[u8],
+    start: u32,
+    allowance: u32,
+    cells: &mut [u32],
+    parses: &mut [u32],
+) -> Answer
+    ensures { λ r. ⌜ Reads (now (book .entry)) (now (text .entry)) start
+        (answerOf (now (cells .entry)) (now (parses .entry)) (now (book .entry)) (now (text .entry)) start allowance)
+        (answered r (now (cells .exit)) (now (parses .exit))) ⌝ }
+{
+    let mut index = [0usize; INDEX_SIZE];
+    let mut store = [0u32; STORE_SIZE];
+    let mut rows = [0u32; ROWS_SIZE];
+    read_in(
+        book,
+        text,
+        start,
+        allowance,
+        cells,
+        parses,
+        &mut index,
+        &mut store,
+        &mut rows,
+    )
+}

@@ -1,0 +1,70 @@
+-- Document 01, "Errors".
+use mathlib.Core.Bool.{Bool, cond, _&&_, _||_}
+use mathlib.Core.List.{List}
+use mathlib.Core.Option.{Option, none, some}
+use Prim.Native.Nat.{ℕ}
+use lib.Dec.{leb, ltb, eqb}
+use lib.ListN.{length}
+use Rattle.characters.specs.Tokens.{numberAt}
+use Rattle.characters.specs.declared.lexemes.Number.{Number}
+use Rattle.book.specs.Book.{Book}
+use Rattle.book.specs.declared.records.Step.{Step}
+use Rattle.semantics.specs.Tokens.{identifierEnd, reservedAt, variableAt, isSome, when}
+
+pub record Error : Type 0 where
+  pub place : ℕ
+  pub kind : ℕ
+  pub argument : ℕ
+
+abbrev pub error : ℕ → ℕ → ℕ → Error
+error place kind argument = record { place = place; kind = kind; argument = argument }
+
+-- "The furthest place wins, then least kind, then least argument"
+abbrev pub wins : Error → Error → Bool
+wins a b =
+    ltb (b .place) (a .place)
+    || (eqb (a .place) (b .place) && (ltb (a .kind) (b .kind) || (eqb (a .kind) (b .kind) && leb (a .argument) (b .argument))))
+
+unfoldable pub join : Error → Error → Error
+join a b = cond (wins a b) a b
+
+-- an error that counts only beyond a skipped place: errors stand at skipped places, so "more than skipped text lies between" is just that
+unfoldable pub beyond : ℕ → Error → Option Error
+beyond place e = cond (ltb place (e .place)) (some e) none
+
+unfoldable pub joinWith : Option Error → Option Error → Option Error
+joinWith none b = b
+joinWith (some a) none = some a
+joinWith (some a) (some b) = some (join a b)
+
+-- "When both sides of a choice fail, errors that consumed nothing since it drop; if none remain, 12 there", with "the variant's nonterminal"
+unfoldable pub choiceError : ℕ → ℕ → Error → Error → Error
+choiceError at N a b = elim (beyond at (join a b)) [ some e ↦ e | none ↦ error at 12 N ]
+
+-- what a step gives where it takes nothing: "1 character (its code); 2 word (number); 3 identifier wanted; 4 text ended where step kinds
+-- 2 to 5 wanted a token; 5 variable found; 6 reserved word found; 7 unknown name; 8 wrong kind (kind wanted); 9 digits wanted; 10 number too large"
+module _ (book : Book) (text : List ℕ) where
+  -- an identifier was wanted: the text ended, it is reserved, or none is there; else another kind of error. Kind 2 has no other
+  unfoldable pub identifierError : ℕ → Error → Error
+  identifierError at other =
+      when (eqb at (length text)) (λ _. error at 4 0)
+      (λ _. when (reservedAt book text at) (λ _. error at 6 0) (λ _. elim (identifierEnd text at) [ some end ↦ other | none ↦ error at 3 0 ]))
+
+  -- at a skipped place. Kinds 8 to 11 and 13 always take something and are never asked for
+  unfoldable pub stepError : Step → ℕ → Error
+  stepError (Step.Character a) at = error at 1 a
+  stepError (Step.Word a) at = error at 2 a
+  stepError Step.Identifier at = identifierError at (error at 3 0)
+  stepError Step.Number at =
+      when (eqb at (length text)) (λ _. error at 4 0)
+      (λ _. elim (numberAt text at) [ Number.Nothing ↦ error at 9 0 | Number.TooLarge ↦ error at 10 0 | Number.Value value end ↦ error at 10 0 ])
+  stepError Step.Variable at = identifierError at (error at 7 0)
+  stepError (Step.VariableOfKind a) at = identifierError at (when (isSome (variableAt book text at)) (λ _. error at 8 a) (λ _. error at 7 0))
+  stepError Step.RejectVariable at = error at 5 0
+  stepError Step.RejectReserved at = error at 6 0
+  stepError (Step.Nonterminal a) at = error at 11 a
+  stepError (Step.Optional a) at = error at 11 a
+  stepError (Step.Many a) at = error at 11 a
+  stepError (Step.CommaList a) at = error at 11 a
+  stepError (Step.Delimited a b c) at = error at 1 b
+  stepError (Step.OptionalDelimited a b c) at = error at 11 a

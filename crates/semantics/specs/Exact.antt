@@ -1,0 +1,77 @@
+-- Demand 3, what an answer has to do with the book's derivations: the parses listed, each once, are exactly those with a finite derivation; a value is returned exactly when
+-- some derivation reaches the end and all that do agree. Parses are alike if they are in rest, level, associativity and value.
+use mathlib.Core.Path.{_≡_}
+use mathlib.Core.Bool.{true, false}
+use mathlib.Core.List.{List, []}
+use mathlib.Core.Logic.{_↔_}
+use Prim.Native.Nat.{ℕ, _+_, _*_, _≤_, _<_}
+use lib.ListN.{getD, take}
+use Rattle.characters.specs.Classes.{between}
+use Rattle.book.specs.Book.{Book, associativityNumber}
+use Rattle.book.specs.Check.{checkBook, Outcome}
+use Rattle.semantics.specs.Values.{Tree, Parse, whole}
+use Rattle.semantics.specs.Cells.{one, nthMeaning, meanings, cellsIn}
+use Rattle.semantics.specs.Derivations.{DerivesText}
+use Rattle.semantics.specs.Answer.{Answered, answerOf}
+
+-- cell n of the cells list stands for a tree
+pub record StandsFor (text cells : List ℕ) (n : ℕ) (t : Tree) : Type 0 where
+  pub least : 0 < n
+  pub most : 3 * n ≤ 12288
+  pub means : nthMeaning (meanings text [] (cellsIn (take 12288 cells))) n ≡ one t
+
+-- entry i of the parses list holds a parse: "rest, level, associativity, cell"
+pub record Holds (text : List ℕ) (a : Answered) (i : ℕ) (p : Parse Tree) : Type 0 where
+  pub rest : getD (a .parses) (4 * i) 0 ≡ p .rest
+  pub level : getD (a .parses) (4 * i + 1) 0 ≡ p .level
+  pub associativity : getD (a .parses) (4 * i + 2) 0 ≡ associativityNumber (p .associativity)
+  pub value : StandsFor text (a .cells) (getD (a .parses) (4 * i + 3) 0) (p .value)
+
+-- "its derivation reaches the end"
+pub record Reaches (book : Book) (text : List ℕ) (start : ℕ) (p : Parse Tree) : Type 0 where
+  pub derived : DerivesText book text start p
+  pub ends : whole text p ≡ true
+
+module _ (book : Book) (text : List ℕ) (start : ℕ) where
+  -- some derivation reaches the end, and all that do have the same value
+  pub record Agree : Type 0 where
+    pub some′ : (p : Parse Tree) × Reaches book text start p
+    pub all : (p q : Parse Tree) → Reaches book text start p → Reaches book text start q → p .value ≡ q .value
+
+  -- there are parses, and none is whole
+  pub record NoneWhole : Type 0 where
+    pub some′ : (p : Parse Tree) × DerivesText book text start p
+    pub all : (p : Parse Tree) → DerivesText book text start p → whole text p ≡ false
+
+  -- two derivations reach the end, with different values
+  pub record Differ : Type 0 where
+    pub one′ : Parse Tree
+    pub other : Parse Tree
+    pub reaches : Reaches book text start one′ × Reaches book text start other
+    pub apart : one′ .value ≡ other .value → ⊥
+
+  -- there is none
+  abbrev pub NoParse : Type 0
+  NoParse = (p : Parse Tree) → DerivesText book text start p → ⊥
+
+  pub record Exact (a : Answered) : Type 0 where
+    -- "exactly those with a finite derivation"
+    pub derivable : (p : Parse Tree) → DerivesText book text start p ↔ ((i : ℕ) × (i < a .answer .parses) × Holds text a i p)
+    -- "each once": a parse stands in one entry, and each entry that counts holds one parse
+    pub once : (p : Parse Tree) (i k : ℕ) → i < a .answer .parses → k < a .answer .parses → Holds text a i p → Holds text a k p → i ≡ k
+    pub each : (i : ℕ) → i < a .answer .parses → (p : Parse Tree) × Holds text a i p × ((q : Parse Tree) → Holds text a i q → q ≡ p)
+    -- a value is returned exactly when .., and its cell stands for it
+    pub value : a .answer .refusal ≡ 0 ↔ Agree
+    pub value-cell : a .answer .refusal ≡ 0 → (p : Parse Tree) → Reaches book text start p → StandsFor text (a .cells) (a .answer .value) (p .value)
+    -- the refusals of the end
+    pub no-parse : a .answer .refusal ≡ 30 ↔ NoParse
+    pub none-whole : a .answer .refusal ≡ 31 ↔ NoneWhole
+    pub differ : a .answer .refusal ≡ 32 ↔ Differ
+
+-- The theorem (Theorem.Found): of every call whose book is accepted, that isn't refused before the run (1 to 11), and that meets no limit (20 to 23), whatever the
+-- lent lists held
+abbrev pub FoundIsExactlyDerivable : Type 0
+FoundIsExactlyDerivable = (cells parses bytes text : List ℕ) (start allowance : ℕ) (book : Book) → checkBook bytes ≡ Outcome.book book →
+    between 1 11 (answerOf cells parses bytes text start allowance .answer .refusal) ≡ false →
+    between 20 23 (answerOf cells parses bytes text start allowance .answer .refusal) ≡ false →
+    Exact book text start (answerOf cells parses bytes text start allowance)

@@ -1,0 +1,74 @@
+-- Document 01, "Derivations": uses, paths and governors.
+use mathlib.Core.Bool.{Bool, true, false, _&&_}
+use mathlib.Core.List.{List, [], _∷_}
+use Prim.Native.Nat.{ℕ, zero, suc}
+use lib.Dec.{leb, ltb, eqb}
+use Rattle.book.specs.Book.{Book, nthNonterminal, nthVariant, markNumber}
+use Rattle.book.specs.declared.records.Associativity.{Associativity}
+use Rattle.semantics.specs.Values.{Parse}
+
+-- an enclosing use: its nonterminal, scope and start, the level and associativity of its variant, and where its current child begins
+pub record Use : Type 0 where
+  pub nonterminal : ℕ
+  pub scope : ℕ
+  pub start : ℕ
+  pub level : ℕ
+  pub associativity : Associativity
+  pub child : ℕ
+
+-- "the base has one" scope
+abbrev pub base : ℕ
+base = 0
+
+-- a use of N at u, with variant j, whose child begins at x
+abbrev pub useOf : Book → ℕ → ℕ → ℕ → ℕ → Use
+useOf book N u j x =
+    record { nonterminal = N; scope = base; start = u; level = nthVariant book j .level; associativity = nthVariant book j .associativity; child = x }
+
+-- "Mark 0 plain; 1 calls `try_claim_as_var` first; 2 is `identifier_nonterminal`"
+abbrev pub hasMark : Book → ℕ → ℕ → Bool
+hasMark book mark N = eqb (markNumber (nthNonterminal book N .mark)) mark
+
+-- "Its path lists the enclosing uses", the nearest first
+abbrev pub Path : Type 0
+Path = List Use
+
+-- what the governor of a use says: the minimum, or, for a child at the governor's own start, the governor: its number in the path,
+-- which only the run asks for, itself and its own path
+pub data Governor : Type 0 where
+  minimum : ℕ → Governor
+  same-start : ℕ → Use → Path → Governor
+
+-- "minimum is the governor's variant level plus 1 for Left and None, the level for Right, 0 for Both"
+abbrev pub minimumOf : Associativity → ℕ → ℕ
+minimumOf Associativity.Left level = suc level
+minimumOf Associativity.Right level = level
+minimumOf Associativity.None level = suc level
+minimumOf Associativity.Both level = 0
+
+-- one enclosing use more
+unfoldable pub outwards : Governor → Governor
+outwards (minimum m) = minimum m
+outwards (same-start i f path) = same-start (suc i) f path
+
+-- whether the use f governs, and whether the child begins at its start; else what the uses around it say
+unfoldable pub govern : Bool → Bool → Use → Path → Governor → Governor
+govern true true f path around = same-start zero f path
+govern true false f path around = minimum (minimumOf (f .associativity) (f .level))
+govern false b f path around = outwards around
+
+-- "Its governor is the nearest enclosing use of N, in the same scope .., whose current child begins at u. No governor: minimum 0"
+unfoldable pub governor : Path → ℕ → ℕ → ℕ → Governor
+governor [] scope N u = minimum 0
+governor (f ∷ path) scope N u =
+    govern (eqb (f .nonterminal) N && (eqb (f .scope) scope && eqb (f .child) u)) (eqb (f .start) u) f path (governor path scope N u)
+
+-- "kept when level is at least (Left) or above (Right, None) the governor's variant level; Both keeps all"
+abbrev pub keepsLevel : Associativity → ℕ → ℕ → Bool
+keepsLevel Associativity.Left level found = leb level found
+keepsLevel Associativity.Right level found = ltb level found
+keepsLevel Associativity.None level found = ltb level found
+keepsLevel Associativity.Both level found = true
+
+abbrev pub keeps : {Value : Type 0} → Use → Parse Value → Bool
+keeps f p = keepsLevel (f .associativity) (f .level) (p .level)

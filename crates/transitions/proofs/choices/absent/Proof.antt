@@ -1,0 +1,69 @@
+-- `transitions::absent` meets its contract.
+use borrow.Author.Needs.{needs}
+use Rattle.book.specs.Index.{bookIn}
+use Rattle.semantics.specs.Cells.{Cell}
+use Rattle.transitions.specs.NextLaws.{absent-limit, absent-goes}
+use Rattle.transitions.proofs.choices.absent.Statement.{statement}
+use Rattle.transitions.proofs.choices.absent.Tie as tie
+
+absent-requires : tie.Need-absent-requires
+absent-requires c κs = search needs
+
+make-requires : tie.Need-make-requires
+make-requires c κs = search needs
+
+reached-with-requires : tie.Need-reached-with-requires
+reached-with-requires c κs = search needs
+
+same-length : tie.Need-same-length
+same-length c = search needs
+
+returns : tie.Need-returns
+returns c =
+    let args = c .before .before .before .before .before .before .before .before .before .before .before .before .args in
+    let book = bookIn (args .book .now) (args .index .now) in
+    let text = args .text .now in
+    let store = args .store .now in
+    let here = args .here in
+    let absent = c .before .before .before .before .before .before .absent in
+    let make = c .before .before .before .before .before .make in
+    let if1 = c .before .if1 in
+    absent-limit book text store _ (here .variant) (here .at) (here .items) (args .state) _
+    (make .ensures Cell.absent (absent .ensures)) _ (if1 .taken) (c .reached-with .ensures)
+
+with-cell-requires : tie.Need-with-cell-requires
+with-cell-requires c κs = search needs
+
+reached-with-requires-2 : tie.Need-reached-with-requires-2
+reached-with-requires-2 c κs = search needs
+
+same-length-2 : tie.Need-same-length-2
+same-length-2 c = search needs
+
+returns-2 : tie.Need-returns-2
+returns-2 c =
+    let args = c .before .before .before .before .before .before .before .before .before .before .before .before .before .before .before .before .before .args in
+    let book = bookIn (args .book .now) (args .index .now) in
+    let text = args .text .now in
+    let store = args .store .now in
+    let here = args .here in
+    let absent = c .before .before .before .before .before .before .before .before .before .before .before .absent in
+    let make = c .before .before .before .before .before .before .before .before .before .before .make in
+    let if1 = c .before .before .before .before .before .before .if1 in
+    let with-cell = c .before .before .before .with-cell in
+    absent-goes book text store _ (here .variant) (here .at) (here .items) (args .state) _
+    (make .ensures Cell.absent (absent .ensures)) _ _ _ (if1 .left) (with-cell .ensures) (c .reached-with2 .ensures)
+
+pub absent-spec : {M : Type 1} → statement M
+absent-spec =
+    tie.close
+    (tie.spec
+    absent-requires
+    make-requires
+    reached-with-requires
+    same-length
+    returns
+    with-cell-requires
+    reached-with-requires-2
+    same-length-2
+    returns-2)

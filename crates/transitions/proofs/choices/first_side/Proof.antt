@@ -1,0 +1,61 @@
+-- `transitions::first_side` meets its contract.
+use borrow.Author.Needs.{needs}
+use Rattle.book.specs.Index.{bookIn}
+use Rattle.transitions.specs.NextLaws.{first-next}
+use Rattle.transitions.proofs.choices.first_side.Statement.{statement}
+use Rattle.transitions.proofs.choices.first_side.Tie as tie
+
+enum-told : tie.Need-enum-told
+enum-told c = search needs
+
+absent-requires : tie.Need-absent-requires
+absent-requires c κs = search needs
+
+enum-known-next : tie.Need-enum-known-next
+enum-known-next c = search needs
+
+first-stop-requires : tie.Need-first-stop-requires
+first-stop-requires c κs = c .before .before .before .before .before .before .before .before .pre
+
+same-length : tie.Need-same-length
+same-length c = search needs
+
+returns : tie.Need-returns
+returns c =
+    let args = c .before .before .before .before .before .before .before .before .before .before .args in
+    let book = bookIn (args .book .now) (args .index .now) in
+    let text = args .text .now in
+    let store = args .store .now in
+    let here = args .here in
+    let enum-told = c .before .before .before .before .enum-told in
+    let absent = c .before .before .absent in
+    first-next book text store _ (here .variant) (here .at) (here .items) (args .next) _ (args .state) _
+    (enum-told .given .1) (absent .ensures)
+
+same-length-2 : tie.Need-same-length-2
+same-length-2 c = search needs
+
+returns-2 : tie.Need-returns-2
+returns-2 c =
+    let args = c .before .before .before .before .before .before .before .before .before .before .before .args in
+    let book = bookIn (args .book .now) (args .index .now) in
+    let text = args .text .now in
+    let store = args .store .now in
+    let here = args .here in
+    let next = c .before .before .before .before .before .next in
+    let first-stop = c .before .before .first-stop in
+    first-next book text store _ (here .variant) (here .at) (here .items) (args .next) _ (args .state) _
+    (next .given .1) (first-stop .ensures)
+
+pub first-side-spec : {M : Type 1} → statement M
+first-side-spec =
+    tie.close
+    (tie.spec
+    enum-told
+    absent-requires
+    enum-known-next
+    first-stop-requires
+    same-length
+    returns
+    same-length-2
+    returns-2)

@@ -1,0 +1,47 @@
+-- `transitions::after_first` meets its contract.
+use Rattle.calls.specs.Table.{table}
+use Rattle.transitions.specs.EndingLaws.{first-limit, first-settled}
+use borrow.Author.Needs.{needs}
+use Rattle.transitions.proofs.entering.after_first.Statement.{statement}
+use Rattle.transitions.proofs.entering.after_first.Tie as tie
+
+over-requires : tie.Need-over-requires
+over-requires c κs = search needs
+
+returns : tie.Need-returns
+returns c =
+    let args = c .before .before .before .before .args in
+    let if1 = c .before .if1 in
+    first-limit (table (args .rows .now)) (args .n) (args .o) _ (if1 .taken) (c .over .ensures)
+
+settle-first-requires : tie.Need-settle-first-requires
+settle-first-requires c κs = search needs
+
+failure-of-requires : tie.Need-failure-of-requires
+failure-of-requires c κs = search needs
+
+ended-by-requires : tie.Need-ended-by-requires
+ended-by-requires c κs = search needs
+
+same-length : tie.Need-same-length
+same-length c = search needs
+
+returns-2 : tie.Need-returns-2
+returns-2 c =
+    let args = c .before .before .before .before .before .before .before .before .before .before .args in
+    let if1 = c .before .before .before .before .before .before .before .if1 in
+    let settle-first = c .before .before .before .before .before .settle-first in
+    let failure-of = c .before .before .failure-of in
+    first-settled (table (args .rows .now)) (args .n) (args .o) _ _ _ (if1 .left) (settle-first .ensures) (failure-of .result) (failure-of .ensures) (c .ended-by .ensures)
+
+pub after-first-spec : {M : Type 1} → statement M
+after-first-spec =
+    tie.close
+    (tie.spec
+    over-requires
+    returns
+    settle-first-requires
+    failure-of-requires
+    ended-by-requires
+    same-length
+    returns-2)

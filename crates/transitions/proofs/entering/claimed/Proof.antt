@@ -1,0 +1,39 @@
+-- `transitions::claimed` meets its contract.
+use borrow.Author.Needs.{needs}
+use Rattle.book.specs.Index.{bookIn}
+use Rattle.calls.specs.Table.{table}
+use Rattle.transitions.specs.EnteringLaws.{claimed-named, claimed-nothing}
+use Rattle.transitions.proofs.entering.claimed.Statement.{statement}
+use Rattle.transitions.proofs.entering.claimed.Tie as tie
+
+variable-at-requires : tie.Need-variable-at-requires
+variable-at-requires c κs = search needs
+
+enum-told : tie.Need-enum-told
+enum-told c = search needs
+
+any-claims-requires : tie.Need-any-claims-requires
+any-claims-requires c κs = search needs
+
+enum-told-2 : tie.Need-enum-told-2
+enum-told-2 c = search needs
+
+returns : tie.Need-returns
+returns c =
+    let args = c .before .before .before .before .before .before .before .before .args in
+    let variable-at = c .before .before .before .variable-at in
+    let enum-told = c .before .enum-told in
+    claimed-named (bookIn (args .book .now) (args .index .now)) (args .text .now) (table (args .rows .now)) (args .n) (args .u) _
+    (variable-at .ensures) _ _ _ _ (enum-told .given .1) (c .any-claims .ensures)
+
+returns-2 : tie.Need-returns-2
+returns-2 c =
+    let args = c .before .before .before .before .before .before .before .args in
+    let variable-at = c .before .before .variable-at in
+    claimed-nothing (bookIn (args .book .now) (args .index .now)) (args .text .now) (table (args .rows .now)) (args .n) (args .u) _
+    (variable-at .ensures) (c .enum-told2 .given .1)
+
+pub claimed-spec : {M : Type 1} → statement M
+claimed-spec =
+    tie.close
+    (tie.spec variable-at-requires enum-told any-claims-requires enum-told-2 returns returns-2)

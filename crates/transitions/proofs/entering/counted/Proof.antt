@@ -1,0 +1,55 @@
+-- `transitions::counted` meets its contract.
+use mathlib.Core.Path.{refl}
+use Rattle.book.specs.Index.{bookIn}
+use Rattle.transitions.specs.EndingLaws.{counted-limit, counted-done}
+use borrow.Author.Needs.{needs}
+use Rattle.transitions.proofs.entering.counted.Statement.{statement}
+use Rattle.transitions.proofs.entering.counted.Tie as tie
+
+returns : tie.Need-returns
+returns c =
+    let args = c .before .before .before .before .args in
+    counted-limit (bookIn (args .book .now) (args .index .now)) (args .j) (args .start) (args .before) (args .o) _ (c .if1 .taken) refl
+
+variant-requires : tie.Need-variant-requires
+variant-requires c κs = search needs
+
+failure-of-requires : tie.Need-failure-of-requires
+failure-of-requires c κs = search needs
+
+failure-of-requires-2 : tie.Need-failure-of-requires-2
+failure-of-requires-2 c κs = search needs
+
+counted-requires : tie.Need-counted-requires
+counted-requires c κs = search needs
+
+join-with-requires : tie.Need-join-with-requires
+join-with-requires c κs = search needs
+
+done-requires : tie.Need-done-requires
+done-requires c κs = search needs
+
+returns-2 : tie.Need-returns-2
+returns-2 c =
+    let args = c .before .before .before .before .before .before .before .before .before .before .args in
+    let if1 = c .before .before .before .before .before .before .if1 in
+    let variant = c .before .before .before .before .before .variant in
+    let first = c .before .before .before .before .failure-of in
+    let second = c .before .before .before .failure-of2 in
+    let counted = c .before .before .counted in
+    let join-with = c .before .join-with in
+    counted-done (bookIn (args .book .now) (args .index .now)) (args .j) (args .start) (args .before) (args .o) _ _ (first .result) (second .result)
+    (counted .result) (join-with .result) (if1 .left) (first .ensures) (second .ensures) (variant .ensures) (counted .ensures) (join-with .ensures) (c .done .ensures)
+
+pub counted-spec : {M : Type 1} → statement M
+counted-spec =
+    tie.close
+    (tie.spec
+    returns
+    variant-requires
+    failure-of-requires
+    failure-of-requires-2
+    counted-requires
+    join-with-requires
+    done-requires
+    returns-2)

@@ -1,0 +1,113 @@
+-- `transitions::ended_by` meets its contract.
+use mathlib.Core.Path.{refl}
+use borrow.Author.Needs.{needs}
+use Rattle.calls.specs.Table.{table}
+use Rattle.transitions.specs.EndingLaws.{ended-failed, ended-over, ended-full, ended-again}
+use Rattle.transitions.proofs.entering.ended_by.Statement.{statement}
+use Rattle.transitions.proofs.entering.ended_by.Tie as tie
+
+enum-told : tie.Need-enum-told
+enum-told c = search needs
+
+start-of-requires : tie.Need-start-of-requires
+start-of-requires c κs = search needs
+
+cast-start : tie.Need-cast-start
+cast-start c = search needs
+
+nonterminal-of-requires : tie.Need-nonterminal-of-requires
+nonterminal-of-requires c κs = search needs
+
+cast-nonterminal : tie.Need-cast-nonterminal
+cast-nonterminal c = search needs
+
+failed-call-requires : tie.Need-failed-call-requires
+failed-call-requires c κs = search needs
+
+done-requires : tie.Need-done-requires
+done-requires c κs = search needs
+
+over-requires : tie.Need-over-requires
+over-requires c κs = search needs
+
+enum-told-2 : tie.Need-enum-told-2
+enum-told-2 c = search needs
+
+done-requires-2 : tie.Need-done-requires-2
+done-requires-2 c κs = search needs
+
+over-requires-2 : tie.Need-over-requires-2
+over-requires-2 c κs = search needs
+
+enum-told-3 : tie.Need-enum-told-3
+enum-told-3 c = search needs
+
+at-limit-requires : tie.Need-at-limit-requires
+at-limit-requires c κs = search needs
+
+over-requires-3 : tie.Need-over-requires-3
+over-requires-3 c κs = search needs
+
+enum-told-4 : tie.Need-enum-told-4
+enum-told-4 c = search needs
+
+done-requires-3 : tie.Need-done-requires-3
+done-requires-3 c κs = search needs
+
+returns : tie.Need-returns
+returns c =
+    let args = c .before .before .before .before .before .before .before .before .args in
+    let enum-told = c .before .before .before .before .before .enum-told in
+    let start-of = c .before .before .before .before .start-of in
+    let nonterminal-of = c .before .before .before .nonterminal-of in
+    let failed-call = c .before .before .failed-call in
+    let done = c .before .done in
+    ended-failed (table (args .rows .now)) (args .n) (args .failure) (args .state) _ _ (args .how) _ _ _ (enum-told .given .1) (start-of .ensures)
+    (nonterminal-of .ensures) (failed-call .ensures) (done .ensures) (c .over .ensures)
+
+returns-2 : tie.Need-returns-2
+returns-2 c =
+    let args = c .before .before .before .before .before .args in
+    let enum-told2 = c .before .before .enum-told2 in
+    let done2 = c .before .done2 in
+    ended-over (table (args .rows .now)) (args .n) (args .failure) (args .state) _ _ (args .how) (enum-told2 .given .1) (done2 .ensures)
+    (c .over2 .ensures)
+
+returns-3 : tie.Need-returns-3
+returns-3 c =
+    let args = c .before .before .before .before .before .args in
+    let enum-told3 = c .before .before .enum-told3 in
+    let at-limit = c .before .at-limit in
+    ended-full (table (args .rows .now)) (args .n) (args .failure) (args .state) _ _ (args .how) (enum-told3 .given .1) (at-limit .ensures)
+    (c .over3 .ensures)
+
+returns-4 : tie.Need-returns-4
+returns-4 c =
+    let args = c .before .before .before .before .args in
+    let enum-told4 = c .before .enum-told4 in
+    ended-again (table (args .rows .now)) (args .n) (args .failure) (args .state) _ _ (args .how) (enum-told4 .given .1) (c .done3 .ensures) refl
+
+pub ended-by-spec : {M : Type 1} → statement M
+ended-by-spec =
+    tie.close
+    (tie.spec
+    enum-told
+    start-of-requires
+    cast-start
+    nonterminal-of-requires
+    cast-nonterminal
+    failed-call-requires
+    done-requires
+    over-requires
+    enum-told-2
+    done-requires-2
+    over-requires-2
+    enum-told-3
+    at-limit-requires
+    over-requires-3
+    enum-told-4
+    done-requires-3
+    returns
+    returns-2
+    returns-3
+    returns-4)

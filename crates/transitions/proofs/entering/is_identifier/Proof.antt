@@ -1,0 +1,42 @@
+-- `transitions::is_identifier` meets its contract.
+use borrow.Author.Needs.{needs}
+use Rattle.book.specs.declared.records.Mark.{Mark}
+use Rattle.book.specs.Index.{bookIn}
+use Rattle.transitions.specs.EnteringLaws.{is-marked}
+use Rattle.transitions.proofs.entering.is_identifier.Statement.{statement}
+use Rattle.transitions.proofs.entering.is_identifier.Tie as tie
+
+nonterminal-requires : tie.Need-nonterminal-requires
+nonterminal-requires c κs = search needs
+
+enum-told : tie.Need-enum-told
+enum-told c = search needs
+
+enum-told-2 : tie.Need-enum-told-2
+enum-told-2 c = search needs
+
+enum-told-3 : tie.Need-enum-told-3
+enum-told-3 c = search needs
+
+returns : tie.Need-returns
+returns c =
+    let args = c .before .before .before .before .before .args in
+    let nonterminal = c .before .before .nonterminal in
+    is-marked (bookIn (args .book .now) (args .index .now)) _ _ Mark.Plain (nonterminal .ensures) (c .enum-told .given .1)
+
+returns-2 : tie.Need-returns-2
+returns-2 c =
+    let args = c .before .before .before .before .before .args in
+    let nonterminal = c .before .before .nonterminal in
+    is-marked (bookIn (args .book .now) (args .index .now)) _ _ Mark.Variable (nonterminal .ensures) (c .enum-told2 .given .1)
+
+returns-3 : tie.Need-returns-3
+returns-3 c =
+    let args = c .before .before .before .before .before .args in
+    let nonterminal = c .before .before .nonterminal in
+    is-marked (bookIn (args .book .now) (args .index .now)) _ _ Mark.Identifier (nonterminal .ensures) (c .enum-told3 .given .1)
+
+pub is-identifier-spec : {M : Type 1} → statement M
+is-identifier-spec =
+    tie.close
+    (tie.spec nonterminal-requires enum-told enum-told-2 enum-told-3 returns returns-2 returns-3)

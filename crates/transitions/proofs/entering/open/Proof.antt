@@ -1,0 +1,76 @@
+-- `transitions::open` meets its contract.
+use mathlib.Core.Path.{refl}
+use borrow.Author.Needs.{needs}
+use Rattle.book.specs.Index.{bookIn}
+use Rattle.calls.specs.Table.{table}
+use Rattle.transitions.specs.EnteringLaws.{opens-deep, opens-identifier, opens-runs}
+use Rattle.transitions.proofs.entering.open.Statement.{statement}
+use Rattle.transitions.proofs.entering.open.Tie as tie
+
+at-limit-requires : tie.Need-at-limit-requires
+at-limit-requires c κs = search needs
+
+without-runs-requires : tie.Need-without-runs-requires
+without-runs-requires c κs = search needs
+
+returns : tie.Need-returns
+returns c =
+    let args = c .before .before .before .before .before .before .before .before .args in
+    let if1 = c .before .before .if1 in
+    let at-limit = c .before .at-limit in
+    opens-deep (bookIn (args .book .now) (args .index .now)) (args .text .now) (args .n) (args .nonterminal) (args .u) (args .minimum) (args .state) _
+    (args .store .now) (table (args .rows .now)) _ (if1 .taken) (at-limit .ensures) (c .without-runs .ensures)
+
+is-identifier-requires : tie.Need-is-identifier-requires
+is-identifier-requires c κs = search needs
+
+run-identifier-requires : tie.Need-run-identifier-requires
+run-identifier-requires c κs = search needs
+
+without-runs-requires-2 : tie.Need-without-runs-requires-2
+without-runs-requires-2 c κs = search needs
+
+same-length : tie.Need-same-length
+same-length c = search needs
+
+same-length-2 : tie.Need-same-length-2
+same-length-2 c = search needs
+
+returns-2 : tie.Need-returns-2
+returns-2 c =
+    let args = c .before .before .before .before .before .before .before .before .before .before .before .before .before .before .before .before .args in
+    let if1 = c .before .before .before .before .before .before .before .before .before .before .if1 in
+    let is-identifier = c .before .before .before .before .before .before .before .before .before .is-identifier in
+    let if2 = c .before .before .before .before .before .before .before .before .if2 in
+    let run-identifier = c .before .before .before .before .before .run-identifier in
+    opens-identifier (bookIn (args .book .now) (args .index .now)) (args .text .now) (args .n) (args .nonterminal) (args .u) (args .minimum)
+    (args .state) _ (args .store .now) _ (table (args .rows .now)) _ _ _ (if1 .left) (is-identifier .ensures) (if2 .taken) (run-identifier .ensures)
+    (c .without-runs2 .ensures)
+
+done-requires : tie.Need-done-requires
+done-requires c κs = search needs
+
+returns-3 : tie.Need-returns-3
+returns-3 c =
+    let args = c .before .before .before .before .before .before .before .before .before .args in
+    let if1 = c .before .before .before .if1 in
+    let is-identifier = c .before .before .is-identifier in
+    let if2 = c .before .if2 in
+    opens-runs (bookIn (args .book .now) (args .index .now)) (args .text .now) (args .n) (args .nonterminal) (args .u) (args .minimum) (args .state) _
+    (args .store .now) (table (args .rows .now)) _ _ (if1 .left) (is-identifier .ensures) (if2 .left) (c .done .ensures) refl
+
+pub open-spec : {M : Type 1} → statement M
+open-spec =
+    tie.close
+    (tie.spec
+    at-limit-requires
+    without-runs-requires
+    returns
+    is-identifier-requires
+    run-identifier-requires
+    without-runs-requires-2
+    same-length
+    same-length-2
+    returns-2
+    done-requires
+    returns-3)

@@ -1,0 +1,215 @@
+-- `transitions::run_identifier` meets its contract.
+use mathlib.Core.Path.{sym, ap, _∙_}
+use native.Mathlib.Omega.{arith}
+use borrow.Author.Needs.{needs}
+use Rattle.book.specs.Index.{bookIn}
+use Rattle.tokens.specs.Maps.{endOf}
+use Rattle.calls.specs.TableLaws.{table-below}
+use Rattle.calls.specs.Table.{table}
+use Rattle.transitions.specs.EnteringLaws.{identifier-claimed, identifier-nothing, identifier-full, identifier-named}
+use Rattle.transitions.specs.TakenLaws.{free-end-fits}
+use Rattle.transitions.proofs.entering.run_identifier.Statement.{statement}
+use Rattle.transitions.proofs.entering.run_identifier.Tie as tie
+
+clear-set-requires : tie.Need-clear-set-requires
+clear-set-requires c κs = search needs
+
+end-call-requires : tie.Need-end-call-requires
+end-call-requires c κs = search needs
+
+claimed-requires : tie.Need-claimed-requires
+claimed-requires c κs = search needs
+
+no-parse-requires : tie.Need-no-parse-requires
+no-parse-requires c κs = search needs
+
+done-requires : tie.Need-done-requires
+done-requires c κs = search needs
+
+same-length : tie.Need-same-length
+same-length c = search needs
+
+returns : tie.Need-returns
+returns c =
+    let args = c .before .before .before .before .before .before .before .before .before .before .before .before .before .before .before .before .before .before .args in
+    let pre = c .before .before .before .before .before .before .before .before .before .before .before .before .before .before .before .before .before .before .pre in
+    let clear-set = c .before .before .before .before .before .before .before .before .before .before .before .clear-set in
+    let end-call = c .before .before .before .before .before .before .before .end-call in
+    let claimed = c .before .before .before .claimed in
+    let if1 = c .before .before .if1 in
+    let no-parse = c .before .no-parse in
+    identifier-claimed (bookIn (args .book .now) (args .index .now)) (args .text .now) (args .store .now) (table (args .rows .now)) _ _ (args .n)
+    (args .nonterminal) (args .u) (args .state) _ (table-below (args .rows .now) (args .n) (pre .0)) (clear-set .ensures) (end-call .ensures)
+    (claimed .ensures) (no-parse .result) _ (if1 .taken) (no-parse .ensures) (c .done .ensures)
+
+free-end-requires : tie.Need-free-end-requires
+free-end-requires c κs = search needs
+
+enum-known-end : tie.Need-enum-known-end
+enum-known-end c = search needs
+
+enum-told : tie.Need-enum-told
+enum-told c = search needs
+
+no-parse-requires-2 : tie.Need-no-parse-requires-2
+no-parse-requires-2 c κs = search needs
+
+done-requires-2 : tie.Need-done-requires-2
+done-requires-2 c κs = search needs
+
+same-length-2 : tie.Need-same-length-2
+same-length-2 c = search needs
+
+returns-2 : tie.Need-returns-2
+returns-2 c =
+    let args = c .before .before .before .before .before .before .before .before .before .before .before .before .before .before .before .before .before .before .before .before .before .args in
+    let pre = c .before .before .before .before .before .before .before .before .before .before .before .before .before .before .before .before .before .before .before .before .before .pre in
+    let clear-set = c .before .before .before .before .before .before .before .before .before .before .before .before .before .before .clear-set in
+    let end-call = c .before .before .before .before .before .before .before .before .before .before .end-call in
+    let claimed = c .before .before .before .before .before .before .claimed in
+    let if1 = c .before .before .before .before .before .if1 in
+    let free-end = c .before .before .before .before .free-end in
+    let enum-told = c .before .before .enum-told in
+    let no-parse2 = c .before .no-parse2 in
+    identifier-nothing (bookIn (args .book .now) (args .index .now)) (args .text .now) (args .store .now) (table (args .rows .now)) _ _ (args .n)
+    (args .nonterminal) (args .u) (args .state) _ (table-below (args .rows .now) (args .n) (pre .0)) (clear-set .ensures) (end-call .ensures)
+    (claimed .ensures) _ (no-parse2 .result) _ (if1 .left) (free-end .ensures) (enum-told .given .1) (no-parse2 .ensures) (c .done2 .ensures)
+
+length-requires : tie.Need-length-requires
+length-requires c κs = search needs
+
+cast-name : tie.Need-cast-name
+cast-name c =
+    let args = c .before .before .before .before .before .before .before .before .before .before .before .before .before .before .before .before .before .before .before .before .before .before .args in
+    let pre = c .before .before .before .before .before .before .before .before .before .before .before .before .before .before .before .before .before .before .before .before .before .before .pre in
+    let free-end = c .before .before .before .before .before .free-end in
+    let end = c .before .before .before .end in
+    let length = c .before .length in
+    omega (
+      arith,
+      free-end-fits (bookIn (args .book .now) (args .index .now)) (args .text .now) (args .u) _
+          (pre .2 .short) (sym (sym (ap endOf (end .given .1)) ∙ free-end .ensures)),
+      length .ensures,
+    )
+
+name-requires : tie.Need-name-requires
+name-requires c κs = search needs
+
+make-requires : tie.Need-make-requires
+make-requires c κs = search needs
+
+at-limit-requires : tie.Need-at-limit-requires
+at-limit-requires c κs = search needs
+
+same-length-3 : tie.Need-same-length-3
+same-length-3 c = search needs
+
+same-length-4 : tie.Need-same-length-4
+same-length-4 c =
+    let clear-set = c .before .before .before .before .before .before .before .before .before .before .before .before .before .before .before .before .before .before .before .before .before .before .before .clear-set in
+    let end-call = c .before .before .before .before .before .before .before .before .before .before .before .before .before .before .before .before .before .before .before .end-call in
+    end-call .kept .0 ∙ clear-set .kept .0
+
+returns-3 : tie.Need-returns-3
+returns-3 c =
+    let args = c .before .before .before .before .before .before .before .before .before .before .before .before .before .before .before .before .before .before .before .before .before .before .before .before .before .before .before .before .before .before .args in
+    let pre = c .before .before .before .before .before .before .before .before .before .before .before .before .before .before .before .before .before .before .before .before .before .before .before .before .before .before .before .before .before .before .pre in
+    let clear-set = c .before .before .before .before .before .before .before .before .before .before .before .before .before .before .before .before .before .before .before .before .before .before .before .clear-set in
+    let end-call = c .before .before .before .before .before .before .before .before .before .before .before .before .before .before .before .before .before .before .before .end-call in
+    let claimed = c .before .before .before .before .before .before .before .before .before .before .before .before .before .before .before .claimed in
+    let if1 = c .before .before .before .before .before .before .before .before .before .before .before .before .before .before .if1 in
+    let free-end = c .before .before .before .before .before .before .before .before .before .before .before .before .before .free-end in
+    let end = c .before .before .before .before .before .before .before .before .before .before .before .end in
+    let length = c .before .before .before .before .before .before .before .before .before .length in
+    let name = c .before .before .before .before .before .before .before .name in
+    let make = c .before .before .before .before .before .before .make in
+    let if2 = c .before .if2 in
+    identifier-full (bookIn (args .book .now) (args .index .now)) (args .text .now) (args .store .now) (table (args .rows .now)) _ _ (args .n)
+    (args .nonterminal) (args .u) (args .state) _ (table-below (args .rows .now) (args .n) (pre .0)) (clear-set .ensures) (end-call .ensures)
+    (claimed .ensures) _ _ _ _ _ _ (if1 .left) (free-end .ensures) (end .given .1) (length .ensures) (name .ensures) (make .ensures) _ (if2 .taken)
+    (c .at-limit .ensures)
+
+cast-t29 : tie.Need-cast-t29
+cast-t29 c =
+    let args = c .before .before .before .before .before .before .before .before .before .before .before .before .before .before .before .before .before .before .before .before .before .before .before .before .before .before .before .before .before .before .args in
+    let pre = c .before .before .before .before .before .before .before .before .before .before .before .before .before .before .before .before .before .before .before .before .before .before .before .before .before .before .before .before .before .before .pre in
+    let free-end = c .before .before .before .before .before .before .before .before .before .before .before .before .before .free-end in
+    let end = c .before .before .before .before .before .before .before .before .before .before .before .end in
+    omega (
+      arith,
+      free-end-fits (bookIn (args .book .now) (args .index .now)) (args .text .now) (args .u) _
+          (pre .2 .short) (sym (sym (ap endOf (end .given .1)) ∙ free-end .ensures)),
+    )
+
+put-one-requires : tie.Need-put-one-requires
+put-one-requires c κs =
+    let pre = c .before .before .before .before .before .before .before .before .before .before .before .before .before .before .before .before .before .before .before .before .before .before .before .before .before .before .before .before .before .before .pre in
+    let clear-set = c .before .before .before .before .before .before .before .before .before .before .before .before .before .before .before .before .before .before .before .before .before .before .before .clear-set in
+    let end-call = c .before .before .before .before .before .before .before .before .before .before .before .before .before .before .before .before .before .before .before .end-call in
+    (pre .0, omega (arith, end-call .kept .0, clear-set .kept .0, pre .1))
+
+done-requires-3 : tie.Need-done-requires-3
+done-requires-3 c κs = search needs
+
+same-length-5 : tie.Need-same-length-5
+same-length-5 c = search needs
+
+same-length-6 : tie.Need-same-length-6
+same-length-6 c =
+    let clear-set = c .before .before .before .before .before .before .before .before .before .before .before .before .before .before .before .before .before .before .before .before .before .before .before .before .before .before .before .clear-set in
+    let end-call = c .before .before .before .before .before .before .before .before .before .before .before .before .before .before .before .before .before .before .before .before .before .before .before .end-call in
+    let put-one = c .before .before .before .put-one in
+    put-one .kept .0 ∙ end-call .kept .0 ∙ clear-set .kept .0
+
+returns-4 : tie.Need-returns-4
+returns-4 c =
+    let args = c .before .before .before .before .before .before .before .before .before .before .before .before .before .before .before .before .before .before .before .before .before .before .before .before .before .before .before .before .before .before .before .before .before .before .args in
+    let pre = c .before .before .before .before .before .before .before .before .before .before .before .before .before .before .before .before .before .before .before .before .before .before .before .before .before .before .before .before .before .before .before .before .before .before .pre in
+    let clear-set = c .before .before .before .before .before .before .before .before .before .before .before .before .before .before .before .before .before .before .before .before .before .before .before .before .before .before .before .clear-set in
+    let end-call = c .before .before .before .before .before .before .before .before .before .before .before .before .before .before .before .before .before .before .before .before .before .before .before .end-call in
+    let claimed = c .before .before .before .before .before .before .before .before .before .before .before .before .before .before .before .before .before .before .before .claimed in
+    let if1 = c .before .before .before .before .before .before .before .before .before .before .before .before .before .before .before .before .before .before .if1 in
+    let free-end = c .before .before .before .before .before .before .before .before .before .before .before .before .before .before .before .before .before .free-end in
+    let end = c .before .before .before .before .before .before .before .before .before .before .before .before .before .before .before .end in
+    let length = c .before .before .before .before .before .before .before .before .before .before .before .before .before .length in
+    let name = c .before .before .before .before .before .before .before .before .before .before .before .name in
+    let make = c .before .before .before .before .before .before .before .before .before .before .make in
+    let if2 = c .before .before .before .before .before .if2 in
+    let put-one = c .before .before .before .put-one in
+    identifier-named (bookIn (args .book .now) (args .index .now)) (args .text .now) (args .store .now) (table (args .rows .now)) _ _ (args .n)
+    (args .nonterminal) (args .u) (args .state) _ (table-below (args .rows .now) (args .n) (pre .0)) (clear-set .ensures) (end-call .ensures)
+    (claimed .ensures) _ _ _ _ _ _ (if1 .left) (free-end .ensures) (end .given .1) (length .ensures) (name .ensures) (make .ensures) _ _ (if2 .left)
+    (put-one .ensures) (c .done3 .ensures)
+
+pub run-identifier-spec : {M : Type 1} → statement M
+run-identifier-spec =
+    tie.close
+    (tie.spec
+    clear-set-requires
+    end-call-requires
+    claimed-requires
+    no-parse-requires
+    done-requires
+    same-length
+    returns
+    free-end-requires
+    enum-known-end
+    enum-told
+    no-parse-requires-2
+    done-requires-2
+    same-length-2
+    returns-2
+    length-requires
+    cast-name
+    name-requires
+    make-requires
+    at-limit-requires
+    same-length-3
+    same-length-4
+    returns-3
+    cast-t29
+    put-one-requires
+    done-requires-3
+    same-length-5
+    same-length-6
+    returns-4)

@@ -1,0 +1,103 @@
+-- `transitions::item_numbers` meets its contract.
+use native.Mathlib.Omega.{arith}
+use borrow.Author.Needs.{needs}
+use Rattle.transitions.specs.OutcomeLaws.{name-fit, variable-fit, item-nothing, item-name, item-number, item-variable}
+use Rattle.transitions.proofs.items.item_numbers.Statement.{statement}
+use Rattle.transitions.proofs.items.item_numbers.Tie as tie
+
+enum-told : tie.Need-enum-told
+enum-told c = search needs
+
+empty-requires : tie.Need-empty-requires
+empty-requires c κs = search needs
+
+enum-known-item : tie.Need-enum-known-item
+enum-known-item c = search needs
+
+cast-name : tie.Need-cast-name
+cast-name c =
+    let args = c .before .before .before .args in
+    let pre = c .before .before .before .pre in
+    let item = c .before .item in
+    omega (arith, name-fit (args .item) _ _ (item .given .1) (pre))
+
+cast-name-2 : tie.Need-cast-name-2
+cast-name-2 c =
+    let args = c .before .before .before .args in
+    let pre = c .before .before .before .pre in
+    let item = c .before .item in
+    omega (arith, name-fit (args .item) _ _ (item .given .1) (pre))
+
+name-requires : tie.Need-name-requires
+name-requires c κs = search needs
+
+enum-known-item-2 : tie.Need-enum-known-item-2
+enum-known-item-2 c = search needs
+
+number-requires : tie.Need-number-requires
+number-requires c κs = search needs
+
+enum-known-item-3 : tie.Need-enum-known-item-3
+enum-known-item-3 c = search needs
+
+cast-variable : tie.Need-cast-variable
+cast-variable c =
+    let args = c .before .before .before .args in
+    let pre = c .before .before .before .pre in
+    let item3 = c .before .item3 in
+    omega (arith, variable-fit (args .item) _ _ (item3 .given .1) (pre))
+
+cast-variable-2 : tie.Need-cast-variable-2
+cast-variable-2 c =
+    let args = c .before .before .before .args in
+    let pre = c .before .before .before .pre in
+    let item3 = c .before .item3 in
+    omega (arith, variable-fit (args .item) _ _ (item3 .given .1) (pre))
+
+variable-requires : tie.Need-variable-requires
+variable-requires c κs = search needs
+
+returns : tie.Need-returns
+returns c =
+    let args = c .before .before .before .args in
+    let enum-told = c .before .enum-told in
+    λ i e. item-nothing (args .item) _ i e (enum-told .given .1)
+
+returns-2 : tie.Need-returns-2
+returns-2 c =
+    let args = c .before .before .before .before .args in
+    let item = c .before .before .item in
+    λ i e. item-name (args .item) _ i e _ _ (item .given .1) (c .name .ensures)
+
+returns-3 : tie.Need-returns-3
+returns-3 c =
+    let args = c .before .before .before .before .args in
+    let item2 = c .before .before .item2 in
+    λ i e. item-number (args .item) _ i e _ (item2 .given .1) (c .number .ensures)
+
+returns-4 : tie.Need-returns-4
+returns-4 c =
+    let args = c .before .before .before .before .args in
+    let item3 = c .before .before .item3 in
+    λ i e. item-variable (args .item) _ i e _ _ (item3 .given .1) (c .variable .ensures)
+
+pub item-numbers-spec : {M : Type 1} → statement M
+item-numbers-spec =
+    tie.close
+    (tie.spec
+    enum-told
+    empty-requires
+    enum-known-item
+    cast-name
+    cast-name-2
+    name-requires
+    enum-known-item-2
+    number-requires
+    enum-known-item-3
+    cast-variable
+    cast-variable-2
+    variable-requires
+    returns
+    returns-2
+    returns-3
+    returns-4)

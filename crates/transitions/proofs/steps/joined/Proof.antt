@@ -1,0 +1,51 @@
+-- `transitions::joined` meets its contract.
+use Rattle.transitions.specs.NextLaws.{joined-limit, joined-first, joined-both}
+use borrow.Author.Needs.{needs}
+use Rattle.transitions.proofs.steps.joined.Statement.{statement}
+use Rattle.transitions.proofs.steps.joined.Tie as tie
+
+returns : tie.Need-returns
+returns c =
+    let args = c .before .before .args in
+    joined-limit (args .i) (args .before) (args .o) (c .if1 .taken)
+
+returns-2 : tie.Need-returns-2
+returns-2 c =
+    let args = c .before .before .before .args in
+    let if1 = c .before .if1 in
+    joined-first (args .i) (args .before) (args .o) (if1 .left) (c .if2 .taken)
+
+failure-of-requires : tie.Need-failure-of-requires
+failure-of-requires c κs = search needs
+
+failure-of-requires-2 : tie.Need-failure-of-requires-2
+failure-of-requires-2 c κs = search needs
+
+either-requires : tie.Need-either-requires
+either-requires c κs = search needs
+
+done-requires : tie.Need-done-requires
+done-requires c κs = search needs
+
+returns-3 : tie.Need-returns-3
+returns-3 c =
+    let args = c .before .before .before .before .before .before .before .args in
+    let if1 = c .before .before .before .before .before .if1 in
+    let if2 = c .before .before .before .before .if2 in
+    let first = c .before .before .before .failure-of in
+    let second = c .before .before .failure-of2 in
+    let either = c .before .either in
+    joined-both (args .i) (args .before) (args .o) _ (first .result) (second .result) (either .result) (if1 .left) (if2 .left) (first .ensures) (second .ensures)
+    (either .ensures) (c .done .ensures)
+
+pub joined-spec : {M : Type 1} → statement M
+joined-spec =
+    tie.close
+    (tie.spec
+    returns
+    returns-2
+    failure-of-requires
+    failure-of-requires-2
+    either-requires
+    done-requires
+    returns-3)

@@ -1,0 +1,14 @@
+-- What the parts of a run promise, by the model of the crate run_model.
+pub mod Outcomes
+pub mod Fit
+pub mod TakenLaws
+pub mod OutcomeLaws
+pub mod Steps
+pub mod ResumeLaws
+pub mod StepsLaws
+pub mod NextLaws
+pub mod Entering
+pub mod GivenLaws
+pub mod EnteringLaws
+pub mod EndingLaws
+pub mod FitLaws

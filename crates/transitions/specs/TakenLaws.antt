@@ -1,0 +1,280 @@
+-- What a step takes fits into 32 bits: places of a short text, and the numbers of a book that fit.
+use mathlib.Core.Path.{_≡_, refl, ap, _∙_}
+use mathlib.Core.Bool.{Bool, true, false, cond}
+use mathlib.Core.List.{List, [], _∷_}
+use mathlib.Core.Option.{Option, none, some}
+use Prim.Native.Nat.{ℕ, suc, _+_, _-_, _≤_, _<_}
+use native.Mathlib.Omega.{arith}
+use lib.Dec.{ltb, eqb}
+use lib.ListN.{length, getD}
+use borrow.Author.Tests.{ltb-true, ltb-false}
+use Rattle.characters.specs.Cases.{by-test}
+use Rattle.characters.specs.Skipping.{skipFrom}
+use Rattle.characters.specs.SkippingLaws.{skip-within, skip-out}
+use Rattle.characters.specs.Tokens.{identifierAt, numberAt}
+use Rattle.characters.specs.TokenLaws.{identifier-bounds, number-bounds}
+use Rattle.characters.specs.declared.lexemes.Identifier.{Identifier}
+use Rattle.characters.specs.declared.lexemes.Number.{Number}
+use Rattle.characters.specs.Spelling.{same}
+use Rattle.book.specs.Book.{Book, Entry, nthEntry, lookupFrom, lookupName, nthStep}
+use Rattle.book.specs.declared.names.Found.{Found}
+use Rattle.book.specs.declared.records.Step.{Step}
+use Rattle.semantics.specs.Tokens.{Variable, characterEnd, identifierEnd, spelled, reservedAt, freeEnd, variableAt}
+use Rattle.semantics.specs.Steps as steps
+use Rattle.semantics.specs.Steps.{After, goes, halts, afterElement, closed, stepAt}
+use Rattle.tokens.specs.Maps.{itemOf, takenOf}
+use Rattle.tokens.specs.declared.steps.Item.{Item}
+use Rattle.tokens.specs.declared.steps.Taken.{Taken}
+use Rattle.tokens.specs.declared.tokens.End.{End}
+use Rattle.transitions.specs.Fit.{Fits, StepFits, Fit, ItemFits, TakenFits}
+
+pub by-option : {A P : Type 0} (o : Option A) → ((a : A) → o ≡ some a → P) → (o ≡ none → P) → P
+by-option none f g = g refl
+by-option (some a) f g = f a refl
+
+-- ---- Places
+pub skip-fits : (text : List ℕ) (x : ℕ) → length text ≤ 4096 → x < 4294967296 → skipFrom text x < 4294967296
+skip-fits text x short h =
+    by-test (ltb x (length text))
+    (λ t. let inside = ltb-true x (length text) t in omega (arith, skip-within text x (omega arith)))
+    (λ t. omega (arith, skip-out text x (ltb-false x (length text) t)))
+
+identifier-told : (text : List ℕ) (at end : ℕ) (i : Identifier) → identifierAt text at ≡ i → identifierEnd text at ≡ some end → (at < end) × (end ≤ length text)
+unfolding identifierEnd
+identifier-told text at end (Identifier.Ends y) e q =
+    let p : some y ≡ some end = rw (e, identifierEnd) at q in
+    let s : y ≡ end = cc in
+    identifier-bounds text at end (e ∙ ap Identifier.Ends s)
+identifier-told text at end Identifier.Nothing e q = let p : none ≡ some end = rw (e, identifierEnd) at q in let z : _≡_ {A = ℕ} 0 1 = cc in absurd (omega arith)
+
+-- an identifier ends behind its place, within the text
+pub identifier-within : (text : List ℕ) (at end : ℕ) → identifierEnd text at ≡ some end → (at < end) × (end ≤ length text)
+identifier-within text at end q = identifier-told text at end (identifierAt text at) refl q
+
+pub free-end-within : (book : Book) (text : List ℕ) (at end : ℕ) → freeEnd book text at ≡ some end → (at < end) × (end ≤ length text)
+unfolding freeEnd
+free-end-within book text at end q =
+    by-test (reservedAt book text at)
+    (λ t. let p : none ≡ some end = rw (t, freeEnd) at q in let z : _≡_ {A = ℕ} 0 1 = cc in absurd (omega arith))
+    (λ t. identifier-within text at end (rw (t, freeEnd) at q))
+
+pub free-end-fits : (book : Book) (text : List ℕ) (at end : ℕ) → length text ≤ 4096 → freeEnd book text at ≡ some end → end < 4294967296
+free-end-fits book text at end short q = omega (arith, free-end-within book text at end q)
+
+-- ---- Characters
+pub character-within : (text : List ℕ) (a x end : ℕ) → characterEnd text a x ≡ some end → end ≤ length text
+unfolding characterEnd
+character-within text a x end q =
+    by-test (ltb (skipFrom text x) (length text))
+    (λ t. by-test (eqb (getD text (skipFrom text x) 0) a)
+    (λ u. let p : some (skipFrom text x + 1) ≡ some end = rw (t, u, characterEnd) at q in
+    let s : skipFrom text x + 1 ≡ end = cc in
+    omega (arith, ltb-true (skipFrom text x) (length text) t))
+    (λ u. let p : none ≡ some end = rw (t, u, characterEnd) at q in let z : _≡_ {A = ℕ} 0 1 = cc in absurd (omega arith)))
+    (λ t. let p : none ≡ some end = rw (t, characterEnd) at q in let z : _≡_ {A = ℕ} 0 1 = cc in absurd (omega arith))
+
+pub character-fits : (text : List ℕ) (a x end : ℕ) → length text ≤ 4096 → characterEnd text a x ≡ some end → Fits end
+character-fits text a x end short q = omega (arith, character-within text a x end q)
+
+-- where a list is closed
+pub closed-fits : (text : List ℕ) (close : Option ℕ) (x y : ℕ) → length text ≤ 4096 → Fits x → closed text close x ≡ some y → Fits y
+unfolding closed
+closed-fits text none x y short h q = let s : x ≡ y = cc in omega arith
+closed-fits text (some c) x y short h q = character-fits text c x y short q
+
+abbrev AfterFits : After → Type 0
+AfterFits (goes y) = Fits y
+AfterFits (halts y) = Fits y
+
+-- where a list is after an element
+pub after-fits : (text : List ℕ) (comma : Bool) (x : ℕ) → length text ≤ 4096 → Fits x → AfterFits (afterElement text comma x)
+unfolding afterElement
+after-fits text false x short h = h
+after-fits text true x short h =
+    by-option (characterEnd text 44 x)
+    (λ y e. rw (e, afterElement) (character-fits text 44 x y short e))
+    (λ e. rw (e, afterElement) (skip-fits text x short h))
+
+pub goes-fits : (text : List ℕ) (comma : Bool) (x y : ℕ) → length text ≤ 4096 → Fits x → goes y ≡ afterElement text comma x → Fits y
+goes-fits text comma x y short h e = rw (← e) at (after-fits text comma x short h)
+
+pub halts-fits : (text : List ℕ) (comma : Bool) (x y : ℕ) → length text ≤ 4096 → Fits x → halts y ≡ afterElement text comma x → Fits y
+halts-fits text comma x y short h e = rw (← e) at (after-fits text comma x short h)
+
+-- ---- Names
+found-fits : (t : Bool) (bound i label : ℕ) (found : Found) → i < bound → Fits label →
+    ((j k : ℕ) → found ≡ Found.Name j k → (j < bound) × Fits k) →
+    (j k : ℕ) → cond t (Found.Name i label) found ≡ Found.Name j k → (j < bound) × Fits k
+found-fits true bound i label found l f h j k e = let p : i ≡ j = cc in let q : label ≡ k = cc in (omega arith, omega arith)
+found-fits false bound i label found l f h j k e = h j k e
+
+lookup-fits : (bound i : ℕ) (found : Found) (names : List Entry) (spelling : List ℕ) → i + length names ≤ bound →
+    ((m : ℕ) → Fits (nthEntry names m .label)) → ((j k : ℕ) → found ≡ Found.Name j k → (j < bound) × Fits k) →
+    (j k : ℕ) → lookupFrom found i names spelling ≡ Found.Name j k → (j < bound) × Fits k
+unfolding lookupFrom
+lookup-fits bound i found [] spelling room kinds h j k e = h j k e
+lookup-fits bound i found (n ∷ names) spelling room kinds h j k e =
+    lookup-fits bound (suc i) (cond (same spelling (n .spelling)) (Found.Name i (n .label)) found) names spelling (omega arith) (λ m. kinds (suc m))
+    (found-fits (same spelling (n .spelling)) bound i (n .label) found (omega arith) (kinds 0) h) j k e
+
+-- a name's number is below the number of names, and its kind fits as theirs do
+pub name-fits : (names : List Entry) (spelling : List ℕ) → ((m : ℕ) → Fits (nthEntry names m .label)) →
+    (j k : ℕ) → lookupName names spelling ≡ Found.Name j k → (j < length names) × Fits k
+name-fits names spelling kinds j k e =
+    lookup-fits (length names) 0 Found.Nothing names spelling (omega arith) kinds
+    (λ j k n. let z : _≡_ {A = ℕ} 0 1 = cc in absurd (omega arith)) j k e
+
+-- ---- Variables
+module _ (book : Book) (text : List ℕ) (fit : Fit book text) where
+  variable-named : (at end : ℕ) (v : Variable) → freeEnd book text at ≡ some end → (f : Found) → lookupName (book .names) (spelled text at end) ≡ f →
+      elim f [ Found.Name i kind ↦ some (record { end = end; number = i; kind = kind }) | Found.Nothing ↦ none ] ≡ some v →
+      Fits (v .end) × Fits (v .number) × Fits (v .kind)
+  variable-named at end v e (Found.Name i kind) q p =
+      let s : record { end = end; number = i; kind = kind } ≡ v = cc in
+      let low = name-fits (book .names) (spelled text at end) (fit .kinds) i kind q in
+      let all : Fits end × Fits i × Fits kind = (free-end-fits book text at end (fit .short) e, omega (arith, fit .names), low .1) in
+      rw (← s) all
+  variable-named at end v e Found.Nothing q p = let z : _≡_ {A = ℕ} 0 1 = cc in absurd (omega arith)
+
+  pub variable-fits : (at : ℕ) (v : Variable) → variableAt book text at ≡ some v → Fits (v .end) × Fits (v .number) × Fits (v .kind)
+  unfolding variableAt
+  variable-fits at v q =
+      by-option (freeEnd book text at)
+      (λ end e. variable-named at end v e (lookupName (book .names) (spelled text at end)) refl (rw (e, variableAt) at q))
+      (λ e. let p : none ≡ some v = rw (e, variableAt) at q in let z : _≡_ {A = ℕ} 0 1 = cc in absurd (omega arith))
+
+-- ---- What a step takes
+abbrev ItemIn : Option steps.Item → Type 0
+ItemIn none = Unit {0}
+ItemIn (some (steps.Item.name place size)) = Fits place × Fits size
+ItemIn (some (steps.Item.number value)) = Unit {0}
+ItemIn (some (steps.Item.variable number kind)) = Fits number × Fits kind
+
+abbrev TakenIn : steps.Taken → Type 0
+TakenIn (steps.Taken.token t) = Fits (t .next) × ItemIn (t .item)
+TakenIn (steps.Taken.child N) = Fits N
+TakenIn (steps.Taken.optional N) = Fits N
+TakenIn (steps.Taken.list comma N close place) = Fits N × Fits place
+TakenIn (steps.Taken.unopened place) = Fits place
+TakenIn steps.Taken.nothing = Unit {0}
+
+module _ (book : Book) (text : List ℕ) (fit : Fit book text) (x : ℕ) (h : Fits x) where
+  at-fits : Fits (skipFrom text x)
+  at-fits = skip-fits text x (fit .short) h
+
+  character-taken : (a : ℕ) → TakenIn (stepAt book text (Step.Character a) x)
+  unfolding stepAt
+  character-taken a =
+      by-option (characterEnd text a x) (λ end e. rw (e, stepAt) (character-fits text a x end (fit .short) e, tt)) (λ e. rw (e, stepAt) tt)
+
+  word-taken : (a : ℕ) → TakenIn (stepAt book text (Step.Word a) x)
+  unfolding stepAt
+  word-taken a =
+      by-option (identifierEnd text (skipFrom text x))
+      (λ end e. let short = fit .short in
+      let fits : Fits end = omega (arith, identifier-within text (skipFrom text x) end e) in
+      by-test (same (spelled text (skipFrom text x) end) (nthEntry (book .words) a .spelling)) (λ t. rw (e, t, stepAt) (fits, tt)) (λ t. rw (e, t, stepAt) tt))
+      (λ e. rw (e, stepAt) tt)
+
+  identifier-taken : TakenIn (stepAt book text Step.Identifier x)
+  unfolding stepAt
+  identifier-taken =
+      by-option (freeEnd book text (skipFrom text x))
+      (λ end e. let fits = free-end-fits book text (skipFrom text x) end (fit .short) e in rw (e, stepAt) (fits, (at-fits, omega arith)))
+      (λ e. rw (e, stepAt) tt)
+
+  number-told : (n : Number) → numberAt text (skipFrom text x) ≡ n → TakenIn (stepAt book text Step.Number x)
+  unfolding stepAt
+  number-told (Number.Value value end) e =
+      let short = fit .short in
+      let fits : Fits end = omega (arith, number-bounds text (skipFrom text x) value end e .1) in
+      rw (e, stepAt) (fits, tt)
+  number-told Number.TooLarge e = rw (e, stepAt) tt
+  number-told Number.Nothing e = rw (e, stepAt) tt
+
+  variable-taken : TakenIn (stepAt book text Step.Variable x)
+  unfolding stepAt
+  variable-taken =
+      by-option (variableAt book text (skipFrom text x))
+      (λ v e. let f = variable-fits book text fit (skipFrom text x) v e in rw (e, stepAt) (f .0, (f .1, f .2)))
+      (λ e. rw (e, stepAt) tt)
+
+  kind-taken : (a : ℕ) → TakenIn (stepAt book text (Step.VariableOfKind a) x)
+  unfolding stepAt
+  kind-taken a =
+      by-option (variableAt book text (skipFrom text x))
+      (λ v e. let f = variable-fits book text fit (skipFrom text x) v e in
+      by-test (eqb (v .kind) a) (λ t. rw (e, t, stepAt) (f .0, (f .1, f .2))) (λ t. rw (e, t, stepAt) tt))
+      (λ e. rw (e, stepAt) tt)
+
+  reject-variable-taken : TakenIn (stepAt book text Step.RejectVariable x)
+  unfolding stepAt
+  reject-variable-taken = by-option (variableAt book text (skipFrom text x)) (λ v e. rw (e, stepAt) tt) (λ e. rw (e, stepAt) (h, tt))
+
+  reject-reserved-taken : TakenIn (stepAt book text Step.RejectReserved x)
+  unfolding stepAt
+  reject-reserved-taken = by-test (reservedAt book text (skipFrom text x)) (λ e. rw (e, stepAt) tt) (λ e. rw (e, stepAt) (h, tt))
+
+  delimited-taken : (M b c : ℕ) → Fits M → TakenIn (stepAt book text (Step.Delimited M b c) x)
+  unfolding stepAt
+  delimited-taken M b c f =
+      by-option (characterEnd text b x) (λ end e. rw (e, stepAt) (f, character-fits text b x end (fit .short) e)) (λ e. rw (e, stepAt) tt)
+
+  optional-taken : (M b c : ℕ) → Fits M → TakenIn (stepAt book text (Step.OptionalDelimited M b c) x)
+  unfolding stepAt
+  optional-taken M b c f =
+      by-option (characterEnd text b x) (λ end e. rw (e, stepAt) (f, character-fits text b x end (fit .short) e)) (λ e. rw (e, stepAt) at-fits)
+
+  step-taken : (step : Step) → StepFits step → TakenIn (stepAt book text step x)
+  unfolding stepAt
+  step-taken (Step.Character a) f = character-taken a
+  step-taken (Step.Word a) f = word-taken a
+  step-taken Step.Identifier f = identifier-taken
+  step-taken Step.Number f = number-told (numberAt text (skipFrom text x)) refl
+  step-taken Step.Variable f = variable-taken
+  step-taken (Step.VariableOfKind a) f = kind-taken a
+  step-taken Step.RejectVariable f = reject-variable-taken
+  step-taken Step.RejectReserved f = reject-reserved-taken
+  step-taken (Step.Nonterminal M) f = f
+  step-taken (Step.Optional M) f = f
+  step-taken (Step.Many M) f = (f, h)
+  step-taken (Step.CommaList M) f = (f, h)
+  step-taken (Step.Delimited M b c) f = delimited-taken M b c f
+  step-taken (Step.OptionalDelimited M b c) f = optional-taken M b c f
+
+item-in : (i : Item) → ItemIn (itemOf i) → ItemFits i
+item-in Item.Nothing f = f
+item-in (Item.Name place size) f = f
+item-in (Item.Number value) f = f
+item-in (Item.Variable number kind) f = f
+
+taken-in : (t : Taken) → TakenIn (takenOf t) → TakenFits t
+taken-in Taken.Nothing f = f
+taken-in (Taken.Token next item) f = (f .0, item-in item (f .1))
+taken-in (Taken.Child N) f = f
+taken-in (Taken.Optional N) f = f
+taken-in (Taken.List comma N closing place) f = f
+taken-in (Taken.Unopened place) f = f
+
+pub taken-fits : (book : Book) (text : List ℕ) → Fit book text → (k x : ℕ) → Fits x → (step : Step) → step ≡ nthStep (book .steps) k →
+    (t : Taken) → takenOf t ≡ stepAt book text step x → TakenFits t
+taken-fits book text fit k x h step es t e =
+    let f : StepFits step = rw es (fit .arguments k) in
+    taken-in t (rw e (step-taken book text fit x h step f))
+
+-- ---- The same by what was taken
+module _ (t : Taken) (f : TakenFits t) where
+  pub token-fits : (next : ℕ) (item : Item) → t ≡ Taken.Token next item → Fits next × ItemFits item
+  token-fits next item e = rw e at f
+
+  pub child-fits : (N : ℕ) → t ≡ Taken.Child N → Fits N
+  child-fits N e = rw e at f
+
+  pub optional-fits : (N : ℕ) → t ≡ Taken.Optional N → Fits N
+  optional-fits N e = rw e at f
+
+  pub list-fits : (comma : Bool) (N : ℕ) (closing : End) (place : ℕ) → t ≡ Taken.List comma N closing place → Fits N × Fits place
+  list-fits comma N closing place e = rw e at f
+
+  pub unopened-fits : (place : ℕ) → t ≡ Taken.Unopened place → Fits place
+  unopened-fits place e = rw e at f

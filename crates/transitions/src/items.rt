@@ -1,0 +1,172 @@
+// The cells of a variant: the chain of its items, and its own.
+ghost use mathlib.Core.Path.{_≡_};
+ghost use mathlib.Core.Option.{some};
+ghost use Rattle.book.specs.Book.{nthVariant};
+ghost use Rattle.book.specs.Index.{bookIn};
+ghost use Rattle.semantics.specs.Tokens.{isSome};
+ghost use Rattle.semantics.specs.Steps as steps;
+ghost use Rattle.semantics.specs.Cells.{Cell, numbersOf};
+ghost use Rattle.semantics.specs.Run as run;
+ghost use Rattle.run_model.specs.Model.{valueCell};
+ghost use Rattle.cells.specs.Store.{listed};
+ghost use Rattle.tokens.specs.Maps.{itemOf};
+ghost use Rattle.transitions.specs.Outcomes.{MadeBy};
+ghost use Rattle.transitions.specs.Fit.{ItemFits};
+use crate::outcomes::NO_CELL;
+use crate::outcomes::State;
+use cells::Numbers;
+use tokens::Item;
+
+// A cell that was asked for, or the limit.
+pub struct Made {
+    pub limit: u32,
+    pub cell: u32,
+    pub state: State,
+}
+
+fn got(cell: u32, state: State) -> Made
+    ensures { λ r. ⌜ r ≡ record { limit = 0; cell = cell; state = state } ⌝ }
+{
+    Made {
+        limit: 0,
+        cell,
+        state,
+    }
+}
+
+// The equal cell, or one more.
+pub fn make(text: &[u8], store: &mut [u32], c: Numbers, state: State) -> Made
+    ensures { λ r. ⌜ ((cell : Cell) → listed c ≡ numbersOf cell →
+        MadeBy (now (text .entry)) (now (store .entry)) (now (store .exit)) state r (run.make (now (text .entry)) cell)) ⌝ }
+{
+    match cells::make(text, store, state.cells, c) {
+        cells::Made::At { cell, count } => got(
+            cell,
+            State {
+                units: state.units,
+                cells: count,
+            },
+        ),
+        cells::Made::Full => Made {
+            limit: NO_CELL,
+            cell: 0,
+            state,
+        },
+    }
+}
+
+fn passes(book: &[u8], index: &[usize], j: u32) -> bool
+    ensures { λ r. ⌜ r ≡ nthVariant (bookIn (now (book .entry)) (now (index .entry))) j .passing ⌝ }
+{
+    let w = book::variant(book, index, j as usize);
+    w.passing
+}
+
+// "1 empty chain (made as a variant begins)"; "Passing variants make no cell".
+pub fn begin(
+    book: &[u8],
+    index: &[usize],
+    text: &[u8],
+    store: &mut [u32],
+    j: u32,
+    state: State,
+) -> Made
+    ensures { λ r. ⌜ MadeBy (now (text .entry)) (now (store .entry)) (now (store .exit)) state r
+        (run.begin (bookIn (now (book .entry)) (now (index .entry))) (now (text .entry)) j) ⌝ }
+{
+    if passes(book, index, j) {
+        got(0, state)
+    } else {
+        make(text, store, cells::empty(), state)
+    }
+}
+
+// One item more; of a passing variant, its value.
+pub fn with_cell(
+    book: &[u8],
+    index: &[usize],
+    text: &[u8],
+    store: &mut [u32],
+    j: u32,
+    items: u32,
+    item: u32,
+    state: State,
+) -> Made
+    ensures { λ r. ⌜ MadeBy (now (text .entry)) (now (store .entry)) (now (store .exit)) state r
+        (run.withCell (bookIn (now (book .entry)) (now (index .entry))) (now (text .entry)) j items item) ⌝ }
+{
+    if passes(book, index, j) {
+        got(item, state)
+    } else {
+        make(text, store, cells::chain(items, item), state)
+    }
+}
+
+// The numbers of what a token adds; of nothing, none are asked for.
+fn item_numbers(item: Item) -> Numbers
+    requires { ⌜ ItemFits item ⌝ }
+    ensures { λ r. ⌜ ((i : steps.Item) → itemOf item ≡ some i → listed r ≡ numbersOf (run.itemCell i)) ⌝ }
+{
+    match item {
+        Item::Nothing => cells::empty(),
+        Item::Name { place, size } => cells::name(place as u32, size as u32),
+        Item::Number(value) => cells::number(value),
+        Item::Variable { number, kind } => cells::variable(number as u32, kind as u32),
+    }
+}
+
+// The item of a token, if it adds one.
+pub fn with_token(
+    book: &[u8],
+    index: &[usize],
+    text: &[u8],
+    store: &mut [u32],
+    j: u32,
+    items: u32,
+    item: Item,
+    state: State,
+) -> Made
+    requires { ⌜ ItemFits item ⌝ }
+    ensures { λ r. ⌜ MadeBy (now (text .entry)) (now (store .entry)) (now (store .exit)) state r
+        (run.withToken (bookIn (now (book .entry)) (now (index .entry))) (now (text .entry)) j items (itemOf item)) ⌝ }
+{
+    if adds(item) {
+        let m = make(text, store, item_numbers(item), state);
+        if m.limit != 0 {
+            return m;
+        }
+        let s = m.state;
+        with_cell(book, index, text, store, j, items, m.cell, s)
+    } else {
+        got(items, state)
+    }
+}
+
+fn adds(item: Item) -> bool
+    ensures { λ r. ⌜ r ≡ isSome (itemOf item) ⌝ }
+{
+    match item {
+        Item::Nothing => false,
+        _ => true,
+    }
+}
+
+// The variant's own; of a passing one, the child's.
+pub fn value(
+    book: &[u8],
+    index: &[usize],
+    text: &[u8],
+    store: &mut [u32],
+    j: u32,
+    items: u32,
+    state: State,
+) -> Made
+    ensures { λ r. ⌜ MadeBy (now (text .entry)) (now (store .entry)) (now (store .exit)) state r
+        (valueCell (bookIn (now (book .entry)) (now (index .entry))) (now (text .entry)) j items) ⌝ }
+{
+    if passes(book, index, j) {
+        got(items, state)
+    } else {
+        make(text, store, cells::variant(j, items), state)
+    }
+}

@@ -1,0 +1,41 @@
+// The parts of a run that call no other call: what a step, a variant and a call do before and after what they call. Document 01, "The run".
+//
+// Each function equals a part of the model of the run in the crate run_model (specs/Model.antt there), on the table that the rows give and on the cells that
+// the store holds (`Held` of specs/Outcomes.antt). Where the model runs what is left of a variant, a part that calls nothing says what the path does next,
+// and promises that whatever does that gives what the model gives (specs/Steps.antt, specs/Entering.antt). The contracts ask only that the rows
+// have their 104,922 numbers, that row numbers are at most 200, and that the numbers of the book and the text fit into 32 bits (`Fit` of specs/Fit.antt).
+//
+// The crate relies on the promises of calls, cells, tokens, book and characters, and assumes nothing.
+mod choices;
+mod entering;
+mod items;
+mod outcomes;
+mod stages;
+mod steps;
+
+pub use choices::both;
+pub use choices::first_side;
+pub use entering::Ended;
+pub use entering::Entered;
+pub use entering::after_first;
+pub use entering::after_round;
+pub use entering::begin_child;
+pub use entering::begin_use;
+pub use entering::begin_variant;
+pub use entering::counted;
+pub use outcomes::Outcome;
+pub use outcomes::State;
+pub use outcomes::at_limit;
+pub use outcomes::done;
+pub use outcomes::failure_of;
+pub use outcomes::goes_on;
+pub use stages::Doing;
+pub use stages::List;
+pub use stages::Next;
+pub use stages::Progress;
+pub use stages::Reached;
+pub use stages::Stage;
+pub use steps::finish;
+pub use steps::joined;
+pub use steps::next_of;
+pub use steps::take_step;

@@ -1,0 +1,92 @@
+// How far a path through a variant is, and what it does next.
+ghost use mathlib.Core.Path.{_≡_};
+ghost use Rattle.transitions.specs.Outcomes.{limitOf};
+ghost use Rattle.transitions.specs.declared.stages.Doing.{Doing};
+use crate::items::Made;
+use crate::outcomes::Outcome;
+use crate::outcomes::at_limit;
+use tokens::End;
+
+// How far a path through a variant is: the row of its call, the variant's number, its next step and how many are left, the place reached, and
+// the chain of the items so far (of a passing variant, its value).
+pub struct Progress {
+    pub call: usize,
+    pub variant: u32,
+    pub step: u32,
+    pub left: u32,
+    pub at: u32,
+    pub items: u32,
+}
+
+// A list that is being read: with commas or not, of a nonterminal, the chain of the elements already read, and the closing.
+pub struct List {
+    pub comma: bool,
+    pub nonterminal: u32,
+    pub values: u32,
+    pub closing: End,
+}
+
+// What a path does next: the steps that are left, a child, perhaps a child, or the elements of a list.
+pub enum Doing {
+    Steps,
+    Child(u32),
+    Optional(u32),
+    Elements(List),
+}
+
+// What follows each parse of a child: the steps that are left, or the list.
+pub enum Next {
+    Steps,
+    Elements(List),
+}
+
+// How a part ended and, where neither a limit nor a failure ended it, the place reached and the items so far.
+pub struct Reached {
+    pub outcome: Outcome,
+    pub at: u32,
+    pub items: u32,
+}
+
+// The same, and what the path does next.
+pub struct Stage {
+    pub outcome: Outcome,
+    pub at: u32,
+    pub items: u32,
+    pub doing: Doing,
+}
+
+// A limit or a failure ends the path.
+pub fn ended(outcome: Outcome) -> Reached
+    ensures { λ r. ⌜ r ≡ record { outcome = outcome; at = 0; items = 0 } ⌝ }
+{
+    Reached {
+        outcome,
+        at: 0,
+        items: 0,
+    }
+}
+
+// At a place, with the items that were made; or at a limit.
+pub fn reached_with(m: Made, at: u32) -> Reached
+    ensures { λ r. ⌜ r ≡ record { outcome = limitOf (m .limit) (m .state); at = at; items = m .cell } ⌝ }
+{
+    let outcome = at_limit(m.limit, m.state);
+    Reached {
+        outcome,
+        at,
+        items: m.cell,
+    }
+}
+
+// The steps that are left come next.
+pub fn then_steps(r: Reached) -> Stage
+    ensures { λ g. ⌜ g ≡ record { outcome = r .outcome; at = r .at; items = r .items; doing = Doing.Steps } ⌝ }
+{
+    let outcome = r.outcome;
+    Stage {
+        outcome,
+        at: r.at,
+        items: r.items,
+        doing: Doing::Steps,
+    }
+}
