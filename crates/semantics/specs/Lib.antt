@@ -8,6 +8,6 @@ pub mod Errors
 pub mod Run
 pub mod RoundLaws
 pub mod Answer
-pub mod Rows
+pub mod ExampleBook
 pub mod Exact
 pub mod Theorem
