@@ -6,6 +6,7 @@ use mathlib.Core.Path.{_≡_}
 use Prim.Native.Nat.{ℕ, zero, suc, _+_, _-_, _*_, _%_, _≤_, _<_}
 use lib.Dec.{leb, ltb, eqb}
 use lib.ListN.{length, getD}
+use Rattle.characters.specs.Slices.{Lent, atEntry}
 use Rattle.characters.specs.Classes.{between}
 use Rattle.characters.specs.Spelling.{partOf}
 use Rattle.book.specs.Book.{Entry, Book}
@@ -96,6 +97,10 @@ bookIn book index =
       variants = upTo (countIn index 323) (λ j. variantFrom book (placeIn index 323 j) (firstIn index 323 j));
       steps = upTo (countIn index 580) (λ k. stepFrom book (placeIn index 580 k));
     }
+
+-- the book of two slices that a function is lent
+abbrev pub bookAt : Lent → Lent → Book
+bookAt book index = bookIn (atEntry book) (atEntry index)
 
 -- ---- The ranges of a step's arguments
 abbrev pub belowRange : ℕ → Range

@@ -2,10 +2,12 @@
 use mathlib.Core.Path.{_≡_}
 use mathlib.Core.Bool.{Bool, cond}
 use mathlib.Core.List.{List, [], _∷_}
-use Prim.Native.Nat.{ℕ, zero, suc, _+_}
+use Prim.Native.Nat.{ℕ, zero, suc, _+_, _<_, _≤_}
 use lib.Dec.{eqb}
-use lib.ListN.{getD}
+use lib.ListN.{getD, length}
+use denote.Ref.{now}
 use mathlib.Core.Option.{Option, none, some}
+use Rattle.characters.specs.Slices.{Slice, Lent, atEntry, atExit, rowsSize}
 use Rattle.book.specs.Book.{Book}
 use Rattle.semantics.specs.Values.{Parse}
 use Rattle.semantics.specs.Cells.{Cell}
@@ -30,6 +32,33 @@ rowsFrom f b (suc k) = rowAt f b ∷ rowsFrom f (b + 522) k
 
 unfoldable pub table : List ℕ → List Row
 table f = rowsFrom f 0 201
+
+-- ---- The slice that a function is lent
+-- the slice has its table, and the row is one of it
+abbrev pub InTable : ℕ → Slice → Type 0
+InTable row rows = (row ≤ 200) × (rowsSize ≤ length (now rows))
+
+-- the same, with another number besides
+abbrev pub NumberIn : ℕ → ℕ → Slice → Type 0
+NumberIn row number rows = (row ≤ 200) × (number < 8) × (rowsSize ≤ length (now rows))
+
+-- row `from` is one of the table, and `into` one below it
+abbrev pub Below : ℕ → ℕ → Slice → Type 0
+Below into from rows = (into < from) × (from ≤ 200) × (rowsSize ≤ length (now rows))
+
+abbrev pub tableAt : Lent → List Row
+tableAt rows = table (atEntry rows)
+
+abbrev pub tableAfter : Lent → List Row
+tableAfter rows = table (atExit rows)
+
+-- a row at entry
+abbrev pub rowIn : Lent → ℕ → Row
+rowIn rows i = rowOf (tableAt rows) i
+
+-- one row changes
+abbrev pub Changes : Lent → ℕ → (Row → Row) → Type 0
+Changes rows i f = tableAfter rows ≡ onRow (tableAt rows) i f
 
 -- ---- The numbers of a row
 -- a row whose j-th number is x

@@ -1,32 +1,39 @@
 // The open calls, and what calls found, in a lent slice of numbers. Document 01, "The run".
 //
-// The slice is a table of 201 rows, one for each level of nesting, of 522 numbers each. A row's number is the levels of nesting left: the outermost call
-// has row 200. A row is eight numbers (live, nonterminal, scope, start, level, associativity, child, asked) and two sets: what the call has stored or found,
-// and what the run at hand has found. Every slice of 104,922 numbers gives a table (`table` of specs/Table.antt), so nothing needs to be cleared: a row
-// is written before it is read.
+// The slice is a table of 201 rows, one for each level of nesting, of 522 numbers each. A row's number is the levels of nesting
+// left: the outermost call has row 200. A row is eight numbers (live, nonterminal, scope, start, level, associativity, child, asked)
+// and two sets: what the call has stored or found, and what the run at hand has found. Every slice of 104,922 numbers gives a table
+// (`table` of specs/Table.antt), so nothing needs to be cleared: a row is written before it is read.
 //
-// Each function equals the definition of the same name in the crate run_model (specs/Rows.antt and specs/Model.antt there), on the table that the slice
-// gives, and changes at most one row of it, `answer` two. It asks only that the slice has 104,922 numbers and that its rows are at most 200.
+// Each function equals the definition of the same name in the crate run_model (specs/Rows.antt and specs/Model.antt there), on the
+// table that the slice gives, and changes at most one row of it, `answer` two. It asks only that the slice has its numbers and that
+// the row is one of the table (`InTable`).
 //
-// The crate relies on the promises of sets and book and on the definitions of book, semantics and run_model, and assumes nothing. specs/ has the definitions (Table) and laws.
+// The crate relies on the promises of sets and book and on the definitions of book, semantics and run_model, and assumes nothing.
+// specs/ has the definitions (Table) and laws.
 ghost use mathlib.Core.Path.{_≡_};
 ghost use mathlib.Core.List.{[], _∷_};
-ghost use Prim.Native.Nat.{suc, _+_, _-_, _<_, _≤_};
+ghost use Prim.Native.Nat.{suc, _-_};
 ghost use lib.ListN.{getD, length};
 ghost use Rattle.book.specs.Book.{associativityNumber};
-ghost use Rattle.book.specs.Index.{bookIn};
+ghost use Rattle.book.specs.Index.{bookAt};
 ghost use Rattle.semantics.specs.Uses.{hasMark, minimumOf};
 ghost use Rattle.semantics.specs.Run.{allIn, kept};
 ghost use Rattle.sets.specs.Sets.{parseOf, noParse};
 ghost use Rattle.run_model.specs.Rows as model;
-ghost use Rattle.run_model.specs.Rows.{rowOf, onRow, useAt, withSet};
-ghost use Rattle.calls.specs.Table.{table, field, fieldOf, RunAdded, RunJoined, governorIn, answeredIn, SettledFirst, SettledNext};
+ghost use Rattle.run_model.specs.Rows.{useAt, withSet};
+ghost use Rattle.calls.specs.Table.{InTable, NumberIn, Below, tableAt, tableAfter, rowIn, Changes, field, fieldOf};
+ghost use Rattle.calls.specs.Table.{RunAdded, RunJoined, governorIn, answeredIn, SettledFirst, SettledNext};
 use book::Associativity;
 use book::Mark;
 use sets::Parse;
+use sets::SET_SIZE;
 
-// the outermost call's row; "nesting beyond 200" is a limit
-const LEVELS: usize = 200;
+// "nesting beyond 200" is a limit; so the outermost call has this row
+pub const LEVELS: usize = 200;
+
+// the numbers of the table
+pub const ROWS_SIZE: usize = (LEVELS + 1) * WIDTH;
 
 // the numbers of a row
 const LIVE: usize = 0;
@@ -48,9 +55,9 @@ const ASKED: usize = 7;
 // its sets
 const SET: usize = 8;
 
-const RUN: usize = 265;
+const RUN: usize = SET + SET_SIZE;
 
-const WIDTH: usize = 522;
+const WIDTH: usize = RUN + SET_SIZE;
 
 // What the governor of a use says: the minimum, or, for a child at the governor's own start, the governor's row.
 pub enum Governor {
@@ -72,101 +79,101 @@ pub enum Settled {
 
 // ---- Numbers of a row
 fn get(rows: &[u32], row: usize, number: usize) -> u32
-    requires { ⌜ (row ≤ 200) × (number < 8) × (104922 ≤ length (now rows)) ⌝ }
-    ensures { λ r. ⌜ r ≡ fieldOf number (rowOf (table (now (rows .entry))) row) ⌝ }
+    requires { ⌜ NumberIn row number rows ⌝ }
+    ensures { λ r. ⌜ r ≡ fieldOf number (rowIn rows row) ⌝ }
 {
     rows[row * WIDTH + number]
 }
 
 fn put(rows: &mut [u32], row: usize, number: usize, x: u32)
-    requires { ⌜ (row ≤ 200) × (number < 8) × (104922 ≤ length (now rows)) ⌝ }
-    ensures { λ _. ⌜ table (now (rows .exit)) ≡ onRow (table (now (rows .entry))) row (field number x) ⌝ }
+    requires { ⌜ NumberIn row number rows ⌝ }
+    ensures { λ _. ⌜ Changes rows row (field number x) ⌝ }
 {
     rows[row * WIDTH + number] = x;
 }
 
 pub fn nonterminal_of(rows: &[u32], row: usize) -> u32
-    requires { ⌜ (row ≤ 200) × (104922 ≤ length (now rows)) ⌝ }
-    ensures { λ r. ⌜ r ≡ rowOf (table (now (rows .entry))) row .nonterminal ⌝ }
+    requires { ⌜ InTable row rows ⌝ }
+    ensures { λ r. ⌜ r ≡ rowIn rows row .nonterminal ⌝ }
 {
     get(rows, row, NONTERMINAL)
 }
 
 pub fn start_of(rows: &[u32], row: usize) -> u32
-    requires { ⌜ (row ≤ 200) × (104922 ≤ length (now rows)) ⌝ }
-    ensures { λ r. ⌜ r ≡ rowOf (table (now (rows .entry))) row .start ⌝ }
+    requires { ⌜ InTable row rows ⌝ }
+    ensures { λ r. ⌜ r ≡ rowIn rows row .start ⌝ }
 {
     get(rows, row, START)
 }
 
 // ---- Sets of a row
 pub fn clear_set(rows: &mut [u32], row: usize)
-    requires { ⌜ (row ≤ 200) × (104922 ≤ length (now rows)) ⌝ }
-    ensures { λ _. ⌜ table (now (rows .exit)) ≡ onRow (table (now (rows .entry))) row (withSet []) ⌝ }
+    requires { ⌜ InTable row rows ⌝ }
+    ensures { λ _. ⌜ Changes rows row (withSet []) ⌝ }
 {
     sets::clear(rows, row * WIDTH + SET);
 }
 
 pub fn clear_run(rows: &mut [u32], row: usize)
-    requires { ⌜ (row ≤ 200) × (104922 ≤ length (now rows)) ⌝ }
-    ensures { λ _. ⌜ table (now (rows .exit)) ≡ onRow (table (now (rows .entry))) row (model.withRun []) ⌝ }
+    requires { ⌜ InTable row rows ⌝ }
+    ensures { λ _. ⌜ Changes rows row (model.withRun []) ⌝ }
 {
     sets::clear(rows, row * WIDTH + RUN);
 }
 
 // A row's set becomes one parse.
 pub fn put_one(rows: &mut [u32], row: usize, p: Parse)
-    requires { ⌜ (row ≤ 200) × (104922 ≤ length (now rows)) ⌝ }
-    ensures { λ _. ⌜ table (now (rows .exit)) ≡ onRow (table (now (rows .entry))) row (withSet (parseOf p ∷ [])) ⌝ }
+    requires { ⌜ InTable row rows ⌝ }
+    ensures { λ _. ⌜ Changes rows row (withSet (parseOf p ∷ [])) ⌝ }
 {
     sets::clear(rows, row * WIDTH + SET);
     sets::append(rows, row * WIDTH + SET, p);
 }
 
 // The row's set becomes what its run found.
-pub fn copy_run(rows: &mut [u32], row: usize)
-    requires { ⌜ (row ≤ 200) × (104922 ≤ length (now rows)) ⌝ }
-    ensures { λ _. ⌜ table (now (rows .exit)) ≡ onRow (table (now (rows .entry))) row model.copied ⌝ }
+fn copy_run(rows: &mut [u32], row: usize)
+    requires { ⌜ InTable row rows ⌝ }
+    ensures { λ _. ⌜ Changes rows row model.copied ⌝ }
 {
     sets::copy(rows, row * WIDTH + SET, row * WIDTH + RUN);
 }
 
 // How many parses a row found.
 pub fn found(rows: &[u32], row: usize) -> usize
-    requires { ⌜ (row ≤ 200) × (104922 ≤ length (now rows)) ⌝ }
-    ensures { λ r. ⌜ r ≡ length (rowOf (table (now (rows .entry))) row .set) ⌝ }
+    requires { ⌜ InTable row rows ⌝ }
+    ensures { λ r. ⌜ r ≡ length (rowIn rows row .set) ⌝ }
 {
     sets::size(rows, row * WIDTH + SET)
 }
 
 // The i-th parse that a row found, and a parse of zeros past the last.
 pub fn item(rows: &[u32], row: usize, i: usize) -> Parse
-    requires { ⌜ (row ≤ 200) × (104922 ≤ length (now rows)) ⌝ }
-    ensures { λ r. ⌜ parseOf r ≡ getD (rowOf (table (now (rows .entry))) row .set) i noParse ⌝ }
+    requires { ⌜ InTable row rows ⌝ }
+    ensures { λ r. ⌜ parseOf r ≡ getD (rowIn rows row .set) i noParse ⌝ }
 {
     sets::item(rows, row * WIDTH + SET, i)
 }
 
 // A parse joins the run's set; false for a 65th.
 pub fn add_run(rows: &mut [u32], row: usize, p: Parse) -> bool
-    requires { ⌜ (row ≤ 200) × (104922 ≤ length (now rows)) ⌝ }
-    ensures { λ r. ⌜ RunAdded r (table (now (rows .entry))) (table (now (rows .exit))) row (parseOf p) ⌝ }
+    requires { ⌜ InTable row rows ⌝ }
+    ensures { λ r. ⌜ RunAdded r (tableAt rows) (tableAfter rows) row (parseOf p) ⌝ }
 {
     sets::add(rows, row * WIDTH + RUN, p)
 }
 
 // The run added nothing to the row's set.
-pub fn run_in_set(rows: &[u32], row: usize) -> bool
-    requires { ⌜ (row ≤ 200) × (104922 ≤ length (now rows)) ⌝ }
-    ensures { λ r. ⌜ r ≡ allIn (rowOf (table (now (rows .entry))) row .set) (rowOf (table (now (rows .entry))) row .run) ⌝ }
+fn run_in_set(rows: &[u32], row: usize) -> bool
+    requires { ⌜ InTable row rows ⌝ }
+    ensures { λ r. ⌜ r ≡ allIn (rowIn rows row .set) (rowIn rows row .run) ⌝ }
 {
     sets::all_in(rows, row * WIDTH + SET, row * WIDTH + RUN)
 }
 
 // The run's set joins the row's set; false for a 65th.
-pub fn add_run_to_set(rows: &mut [u32], row: usize) -> bool
-    requires { ⌜ (row ≤ 200) × (104922 ≤ length (now rows)) ⌝ }
-    ensures { λ r. ⌜ RunJoined r (table (now (rows .entry))) (table (now (rows .exit))) row ⌝ }
+fn add_run_to_set(rows: &mut [u32], row: usize) -> bool
+    requires { ⌜ InTable row rows ⌝ }
+    ensures { λ r. ⌜ RunJoined r (tableAt rows) (tableAfter rows) row ⌝ }
 {
     sets::add_all(rows, row * WIDTH + SET, row * WIDTH + RUN)
 }
@@ -174,8 +181,8 @@ pub fn add_run_to_set(rows: &mut [u32], row: usize) -> bool
 // ---- Open calls
 // The call of a row is opened; the base has one scope, 0.
 pub fn open_call(rows: &mut [u32], row: usize, nonterminal: u32, at: u32)
-    requires { ⌜ (row ≤ 200) × (104922 ≤ length (now rows)) ⌝ }
-    ensures { λ _. ⌜ table (now (rows .exit)) ≡ onRow (table (now (rows .entry))) row (model.opened nonterminal at) ⌝ }
+    requires { ⌜ InTable row rows ⌝ }
+    ensures { λ _. ⌜ Changes rows row (model.opened nonterminal at) ⌝ }
 {
     put(rows, row, LIVE, 1);
     put(rows, row, NONTERMINAL, nonterminal);
@@ -187,17 +194,16 @@ pub fn open_call(rows: &mut [u32], row: usize, nonterminal: u32, at: u32)
 
 // The call of a row is over.
 pub fn end_call(rows: &mut [u32], row: usize)
-    requires { ⌜ (row ≤ 200) × (104922 ≤ length (now rows)) ⌝ }
-    ensures { λ _. ⌜ table (now (rows .exit)) ≡ onRow (table (now (rows .entry))) row model.ended ⌝ }
+    requires { ⌜ InTable row rows ⌝ }
+    ensures { λ _. ⌜ Changes rows row model.ended ⌝ }
 {
     put(rows, row, LIVE, 0);
 }
 
 // The call of a row takes a variant.
 pub fn take_variant(rows: &mut [u32], row: usize, level: u32, associativity: Associativity)
-    requires { ⌜ (row ≤ 200) × (104922 ≤ length (now rows)) ⌝ }
-    ensures { λ _. ⌜ table (now (rows .exit)) ≡
-        onRow (table (now (rows .entry))) row (model.withVariant level (associativityNumber associativity)) ⌝ }
+    requires { ⌜ InTable row rows ⌝ }
+    ensures { λ _. ⌜ Changes rows row (model.withVariant level (associativityNumber associativity)) ⌝ }
 {
     put(rows, row, LEVEL, level);
     put(
@@ -210,16 +216,16 @@ pub fn take_variant(rows: &mut [u32], row: usize, level: u32, associativity: Ass
 
 // The current child of a row's call begins at a place.
 pub fn put_child(rows: &mut [u32], row: usize, child: u32)
-    requires { ⌜ (row ≤ 200) × (104922 ≤ length (now rows)) ⌝ }
-    ensures { λ _. ⌜ table (now (rows .exit)) ≡ onRow (table (now (rows .entry))) row (model.withChild child) ⌝ }
+    requires { ⌜ InTable row rows ⌝ }
+    ensures { λ _. ⌜ Changes rows row (model.withChild child) ⌝ }
 {
     put(rows, row, CHILD, child);
 }
 
 // The stored parses of a row's call were asked for.
-pub fn mark(rows: &mut [u32], row: usize)
-    requires { ⌜ (row ≤ 200) × (104922 ≤ length (now rows)) ⌝ }
-    ensures { λ _. ⌜ table (now (rows .exit)) ≡ onRow (table (now (rows .entry))) row model.wasAsked ⌝ }
+fn mark(rows: &mut [u32], row: usize)
+    requires { ⌜ InTable row rows ⌝ }
+    ensures { λ _. ⌜ Changes rows row model.wasAsked ⌝ }
 {
     put(rows, row, ASKED, 1);
 }
@@ -238,8 +244,8 @@ fn minimum_of(associativity: Associativity, level: u32) -> usize
 
 // The call of a row is open, of the nonterminal and the base's scope, and its current child begins at u.
 fn governs(rows: &[u32], row: usize, nonterminal: u32, u: u32) -> bool
-    requires { ⌜ (row ≤ 200) × (104922 ≤ length (now rows)) ⌝ }
-    ensures { λ r. ⌜ r ≡ model.governs (rowOf (table (now (rows .entry))) row) nonterminal u ⌝ }
+    requires { ⌜ InTable row rows ⌝ }
+    ensures { λ r. ⌜ r ≡ model.governs (rowIn rows row) nonterminal u ⌝ }
 {
     if get(rows, row, LIVE) != 1 {
         return false;
@@ -255,8 +261,8 @@ fn governs(rows: &[u32], row: usize, nonterminal: u32, u: u32) -> bool
 
 // The newest row above n that governs, or 201.
 fn newest_governor(rows: &[u32], n: usize, nonterminal: u32, u: u32) -> usize
-    requires { ⌜ (n ≤ 200) × (104922 ≤ length (now rows)) ⌝ }
-    ensures { λ r. ⌜ r ≡ model.newestGovernor (table (now (rows .entry))) nonterminal u (200 - n) (suc n) ⌝ }
+    requires { ⌜ InTable n rows ⌝ }
+    ensures { λ r. ⌜ r ≡ model.newestGovernor (tableAt rows) nonterminal u (200 - n) (suc n) ⌝ }
 {
     let mut row = n + 1;
     while row <= LEVELS {
@@ -270,8 +276,8 @@ fn newest_governor(rows: &[u32], n: usize, nonterminal: u32, u: u32) -> usize
 
 // The governor of a use of the nonterminal at u, in row n.
 pub fn governor_of(rows: &[u32], n: usize, nonterminal: u32, u: u32) -> Governor
-    requires { ⌜ (n ≤ 200) × (104922 ≤ length (now rows)) ⌝ }
-    ensures { λ r. ⌜ governorIn r ≡ model.governorOf (table (now (rows .entry))) n nonterminal u ⌝ }
+    requires { ⌜ InTable n rows ⌝ }
+    ensures { λ r. ⌜ governorIn r ≡ model.governorOf (tableAt rows) n nonterminal u ⌝ }
 {
     let row = newest_governor(rows, n, nonterminal, u);
     if LEVELS < row {
@@ -285,10 +291,9 @@ pub fn governor_of(rows: &[u32], n: usize, nonterminal: u32, u: u32) -> Governor
 }
 
 // The set of row `into` becomes what the use of row `from` keeps of that row's set.
-pub fn kept_of(rows: &mut [u32], into: usize, from: usize)
-    requires { ⌜ (into < from) × (from ≤ 200) × (104922 ≤ length (now rows)) ⌝ }
-    ensures { λ _. ⌜ table (now (rows .exit)) ≡ onRow (table (now (rows .entry))) into
-        (withSet (kept (useAt (rowOf (table (now (rows .entry))) from)) (rowOf (table (now (rows .entry))) from .set))) ⌝ }
+fn kept_of(rows: &mut [u32], into: usize, from: usize)
+    requires { ⌜ Below into from rows ⌝ }
+    ensures { λ _. ⌜ Changes rows into (withSet (kept (useAt (rowIn rows from)) (rowIn rows from .set))) ⌝ }
 {
     let associativity = sets::associativity_of(get(rows, from, ASSOCIATIVITY));
     let level = get(rows, from, LEVEL);
@@ -303,8 +308,8 @@ pub fn kept_of(rows: &mut [u32], into: usize, from: usize)
 
 // What row n found are the parses that its governor has stored, filtered; the governor is asked.
 pub fn answer(rows: &mut [u32], n: usize, governor: usize)
-    requires { ⌜ (n < governor) × (governor ≤ 200) × (104922 ≤ length (now rows)) ⌝ }
-    ensures { λ _. ⌜ table (now (rows .exit)) ≡ answeredIn (table (now (rows .entry))) n governor ⌝ }
+    requires { ⌜ Below n governor rows ⌝ }
+    ensures { λ _. ⌜ tableAfter rows ≡ answeredIn (tableAt rows) n governor ⌝ }
 {
     mark(rows, governor);
     kept_of(rows, n, governor);
@@ -312,10 +317,11 @@ pub fn answer(rows: &mut [u32], n: usize, governor: usize)
 }
 
 // ---- The end of a run
-// After the first run: its set is the call's. "If a first run found parses and asked for the call's stored ones, .. it is run again"
+// After the first run: its set is the call's. "If a first run found parses and asked for the call's stored ones, .. it is run
+// again"
 pub fn settle_first(rows: &mut [u32], row: usize) -> Settled
-    requires { ⌜ (row ≤ 200) × (104922 ≤ length (now rows)) ⌝ }
-    ensures { λ r. ⌜ SettledFirst r (table (now (rows .entry))) (table (now (rows .exit))) row ⌝ }
+    requires { ⌜ InTable row rows ⌝ }
+    ensures { λ r. ⌜ SettledFirst r (tableAt rows) (tableAfter rows) row ⌝ }
 {
     copy_run(rows, row);
     if found(rows, row) == 0 {
@@ -331,8 +337,8 @@ pub fn settle_first(rows: &mut [u32], row: usize) -> Settled
 
 // After a further run: "until a run fails or adds nothing".
 pub fn settle(rows: &mut [u32], row: usize) -> Settled
-    requires { ⌜ (row ≤ 200) × (104922 ≤ length (now rows)) ⌝ }
-    ensures { λ r. ⌜ SettledNext r (table (now (rows .entry))) (table (now (rows .exit))) row ⌝ }
+    requires { ⌜ InTable row rows ⌝ }
+    ensures { λ r. ⌜ SettledNext r (tableAt rows) (tableAfter rows) row ⌝ }
 {
     if run_in_set(rows, row) {
         end_call(rows, row);
@@ -347,7 +353,7 @@ pub fn settle(rows: &mut [u32], row: usize) -> Settled
 
 // ---- Claims
 fn is_variable(book: &[u8], index: &[usize], nonterminal: usize) -> bool
-    ensures { λ r. ⌜ r ≡ hasMark (bookIn (now (book .entry)) (now (index .entry))) 1 nonterminal ⌝ }
+    ensures { λ r. ⌜ r ≡ hasMark (bookAt book index) 1 nonterminal ⌝ }
 {
     let called = book::nonterminal(book, index, nonterminal);
     let mark = called.mark;
@@ -360,8 +366,8 @@ fn is_variable(book: &[u8], index: &[usize], nonterminal: usize) -> bool
 
 // The call of a row is open, of mark 1 and the base's scope, and begins at u.
 fn claims(book: &[u8], index: &[usize], rows: &[u32], row: usize, u: u32) -> bool
-    requires { ⌜ (row ≤ 200) × (104922 ≤ length (now rows)) ⌝ }
-    ensures { λ r. ⌜ r ≡ model.claims (bookIn (now (book .entry)) (now (index .entry))) (rowOf (table (now (rows .entry))) row) u ⌝ }
+    requires { ⌜ InTable row rows ⌝ }
+    ensures { λ r. ⌜ r ≡ model.claims (bookAt book index) (rowIn rows row) u ⌝ }
 {
     if get(rows, row, LIVE) != 1 {
         return false;
@@ -377,8 +383,8 @@ fn claims(book: &[u8], index: &[usize], rows: &[u32], row: usize, u: u32) -> boo
 
 // A call above row n claims.
 pub fn any_claims(book: &[u8], index: &[usize], rows: &[u32], n: usize, u: u32) -> bool
-    requires { ⌜ (n ≤ 200) × (104922 ≤ length (now rows)) ⌝ }
-    ensures { λ r. ⌜ r ≡ model.anyClaims (bookIn (now (book .entry)) (now (index .entry))) (table (now (rows .entry))) u (200 - n) (suc n) ⌝ }
+    requires { ⌜ InTable n rows ⌝ }
+    ensures { λ r. ⌜ r ≡ model.anyClaims (bookAt book index) (tableAt rows) u (200 - n) (suc n) ⌝ }
 {
     let mut row = n + 1;
     while row <= LEVELS {

@@ -1,4 +1,4 @@
-// The three numbers of a cell, whether two cells are equal, and the hash of a cell.
+// The three numbers of a cell by its form, whether two cells are equal, and the hash of a cell.
 ghost use mathlib.Core.Path.{_≡_};
 ghost use Prim.Native.Nat.{_<_, _/_, _%_, _^_};
 ghost use Rattle.semantics.specs.Cells.{Cell, numbersOf};
@@ -12,15 +12,33 @@ pub struct Numbers {
     pub b: u32,
 }
 
-const NAME: u32 = 4;
+// ---- The forms
+// "1 empty chain (made as a variant begins); 2 chain, item; 3 variant .., chain; 4 name place, length ..; 5 number high, low half; 6 name
+// number, kind; 7 absent; 8 list, chain"
+pub const EMPTY_FORM: u32 = 1;
 
-const HASHES: usize = 1024;
+pub const CHAIN_FORM: u32 = 2;
+
+pub const VARIANT_FORM: u32 = 3;
+
+pub const NAME_FORM: u32 = 4;
+
+pub const NUMBER_FORM: u32 = 5;
+
+pub const VARIABLE_FORM: u32 = 6;
+
+pub const ABSENT_FORM: u32 = 7;
+
+pub const LIST_FORM: u32 = 8;
+
+// how many there are
+pub const HASHES: usize = 1024;
 
 pub fn empty() -> Numbers
     ensures { λ r. ⌜ listed r ≡ numbersOf Cell.empty ⌝ }
 {
     Numbers {
-        form: 1,
+        form: EMPTY_FORM,
         a: 0,
         b: 0,
     }
@@ -30,7 +48,7 @@ pub fn chain(items: u32, item: u32) -> Numbers
     ensures { λ r. ⌜ listed r ≡ numbersOf (Cell.chain items item) ⌝ }
 {
     Numbers {
-        form: 2,
+        form: CHAIN_FORM,
         a: items,
         b: item,
     }
@@ -40,7 +58,7 @@ pub fn variant(variant: u32, items: u32) -> Numbers
     ensures { λ r. ⌜ listed r ≡ numbersOf (Cell.variant variant items) ⌝ }
 {
     Numbers {
-        form: 3,
+        form: VARIANT_FORM,
         a: variant,
         b: items,
     }
@@ -50,7 +68,7 @@ pub fn name(place: u32, size: u32) -> Numbers
     ensures { λ r. ⌜ listed r ≡ numbersOf (Cell.name place size) ⌝ }
 {
     Numbers {
-        form: NAME,
+        form: NAME_FORM,
         a: place,
         b: size,
     }
@@ -60,7 +78,7 @@ pub fn number(value: u64) -> Numbers
     ensures { λ r. ⌜ listed r ≡ numbersOf (Cell.number (value / 2 ^ 32) (value % 2 ^ 32)) ⌝ }
 {
     Numbers {
-        form: 5,
+        form: NUMBER_FORM,
         a: (value / 4294967296) as u32,
         b: (value % 4294967296) as u32,
     }
@@ -70,7 +88,7 @@ pub fn variable(number: u32, kind: u32) -> Numbers
     ensures { λ r. ⌜ listed r ≡ numbersOf (Cell.variable number kind) ⌝ }
 {
     Numbers {
-        form: 6,
+        form: VARIABLE_FORM,
         a: number,
         b: kind,
     }
@@ -80,7 +98,7 @@ pub fn absent() -> Numbers
     ensures { λ r. ⌜ listed r ≡ numbersOf Cell.absent ⌝ }
 {
     Numbers {
-        form: 7,
+        form: ABSENT_FORM,
         a: 0,
         b: 0,
     }
@@ -90,7 +108,7 @@ pub fn list(items: u32) -> Numbers
     ensures { λ r. ⌜ listed r ≡ numbersOf (Cell.list items) ⌝ }
 {
     Numbers {
-        form: 8,
+        form: LIST_FORM,
         a: items,
         b: 0,
     }
@@ -103,7 +121,7 @@ pub fn same_cell(text: &[u8], c: Numbers, d: Numbers) -> bool
     if c.form != d.form {
         return false;
     }
-    if c.form == NAME {
+    if c.form == NAME_FORM {
         return same_spelling(
             text,
             c.a as usize,
@@ -144,8 +162,8 @@ fn mix_bytes(first: usize, bytes: &[u8]) -> usize
 pub fn hash(text: &[u8], cell: Numbers) -> usize
     ensures { λ r. ⌜ (r ≡ hashOf (now (text .entry)) cell) × (r < 1024) ⌝ }
 {
-    if cell.form == NAME {
-        return mix_bytes(4, part(text, cell.a as usize, cell.b as usize));
+    if cell.form == NAME_FORM {
+        return mix_bytes(NAME_FORM as usize, part(text, cell.a as usize, cell.b as usize));
     }
     mix(
         mix(mix(0, cell.form as usize), cell.a as usize),

@@ -4,18 +4,24 @@ ghost use mathlib.Core.List.{List, []};
 ghost use Prim.Native.Nat.{ℕ, _≤_, _<_};
 ghost use lib.ListN.{length, getD, set};
 ghost use Rattle.cells.specs.Store.{numbersAt, findIn, pushed, Makes, Cleared};
+use crate::numbers::HASHES;
 use crate::numbers::Numbers;
 use crate::numbers::hash;
 use crate::numbers::same_cell;
 
-const MOST_CELLS: u32 = 4096;
+// "a 4,097th cell" is a limit
+pub const MOST_CELLS: u32 = 4096;
+
+// three for each cell
+pub const CELL_NUMBERS: usize = 12288;
 
 // The link of cell n stands at LINKS + n.
-const LINKS: usize = 12287;
+const LINKS: usize = CELL_NUMBERS - 1;
 
+// behind the links of all cells
 const HEADS: usize = 16384;
 
-pub const STORE_SIZE: usize = 17408;
+pub const STORE_SIZE: usize = HEADS + HASHES;
 
 // A cell that was asked for: its number, and how many cells there are now; or limit 23.
 pub enum Made {

@@ -11,7 +11,7 @@ use Rattle.book.specs.Check.{checkBook, Outcome}
 use Rattle.book.specs.Index.{verdict}
 use Rattle.book.specs.declared.checking.Verdict.{Verdict}
 use Rattle.semantics.specs.Answer.{Answer, answer, answerOf}
-use Rattle.run.specs.Reading.{Reads}
+use Rattle.run.specs.Promise.{Reads}
 use Rattle.run.specs.declared.reader.Answer as code
 use Rattle.printing.specs.Printing.{lineBytes}
 use Rattle.printing.specs.declared.line.Length.{Length}

@@ -13,7 +13,7 @@ use Rattle.book.specs.Check.{checkBook, Outcome}
 use Rattle.book.specs.Index.{bookIn, verdict, CheckedInto}
 use Rattle.book.specs.declared.checking.Verdict.{Verdict}
 use Rattle.semantics.specs.Answer.{Answer, answerOf}
-use Rattle.run.specs.Reading.{answerIn, answered, Reads}
+use Rattle.run.specs.Promise.{answerIn, answered, Reads}
 use Rattle.run.specs.declared.reader.Answer as code
 use Rattle.printing.specs.Printing.{lineBytes, refusedLine}
 use Rattle.printing.specs.Lines.{Prints}

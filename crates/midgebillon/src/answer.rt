@@ -3,7 +3,7 @@ ghost use mathlib.Core.Path.{_≡_};
 ghost use Prim.Native.Nat.{_≤_};
 ghost use lib.ListN.{length};
 ghost use Rattle.characters.specs.Classes.{between};
-ghost use Rattle.run.specs.Reading.{answerIn};
+ghost use Rattle.run.specs.Promise.{answerIn};
 ghost use Rattle.midgebillon.specs.Library.{answerAt, storing, hasCell, isRefusal, isAnswer, lengthOf};
 use book::Verdict;
 use printing::Length;

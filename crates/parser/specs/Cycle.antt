@@ -1,28 +1,41 @@
--- What the cycle's functions equal, where the model of the crate run_model has no function of its own for it.
+-- What the cycle's functions ask and equal. Scaffolding: no definition of document 01.
+--
+-- First what the model of the crate run_model has no function of its own for; then what the contracts ask (CanRun, CanTry, OnPath) and
+-- which part of the model each function is; then the measure's rank.
+use mathlib.Core.Path.{_≡_}
 use mathlib.Core.List.{List}
 use mathlib.Core.Option.{Option}
 use Prim.Native.Nat.{ℕ, _+_, _≤_, _<_}
 use lib.Dec.{leb}
 use lib.ListN.{length}
+use denote.Ref.{now}
+use Rattle.characters.specs.Slices.{Slice, rowsSize}
 use Rattle.book.specs.Book.{Book, nthVariant}
+use Rattle.book.specs.Index.{bookIn}
 use Rattle.semantics.specs.Tokens.{when}
 use Rattle.semantics.specs.Steps.{Todo, todoOf}
 use Rattle.semantics.specs.Errors.{Error, joinWith}
 use Rattle.semantics.specs.Run.{Result, ok, _>>=_, begin, counted}
 use Rattle.run_model.specs.Rows.{rowOf}
 use Rattle.run_model.specs.Model.{RowState, Outcome, outcome, RowRunner, makes, atRow, bareCall, takeVariant, followedRows, orChild}
+use Rattle.run_model.specs.Model.{oneRunRows, roundsRows, runCallRows, enterRows, runnerRows}
+use Rattle.errors.specs.Maps.{failureOf}
+use Rattle.transitions.specs.declared.outcomes.Outcome as code
 use Rattle.transitions.specs.declared.stages.Doing.{Doing}
 use Rattle.transitions.specs.declared.stages.Next.{Next}
 use Rattle.transitions.specs.declared.stages.Progress.{Progress}
-use Rattle.transitions.specs.Steps.{todoFrom, nextRows, sideRows}
+use Rattle.transitions.specs.Outcomes.{failureAt}
+use Rattle.transitions.specs.Entering.{within}
+use Rattle.transitions.specs.Steps.{todoFrom, nextRows, sideRows, descendsRows, resumes}
+use Rattle.transitions.specs.Contracts.{Fitting}
 
 -- a path's row is one of the table, and its steps are some of the book's, no more than a byte can say
 abbrev pub InRange : Book → Progress → Type 0
-InRange book here = (here .call ≤ 200) × (here .left ≤ 255) × (here .step + here .left ≤ length (book .steps))
+InRange book here = (here .call ≤ 200) × (here .remaining ≤ 255) × (here .step + here .remaining ≤ length (book .steps))
 
 -- the steps that are left
 abbrev pub todoAt : Book → Progress → List (Todo ℕ)
-todoAt book here = todoFrom book (here .step) (here .left)
+todoAt book here = todoFrom book (here .step) (here .remaining)
 
 -- one variant, after those before it failed with e; `variantsRows` are these one after the other
 unfoldable pub variantRows : Book → List ℕ → RowRunner → ℕ → ℕ → ℕ → Option Error → RowState → Result Outcome
@@ -44,6 +57,59 @@ unfoldable pub sidesRows : Book → List ℕ → Option RowRunner → ℕ → �
 sidesRows book text inner n c j rest next M at items s =
     sideRows book text inner n c j rest next at items s >>= (λ a. orChild book text inner n c M (nextRows book text c j rest next items) at a)
 
+-- ---- What the contracts ask
+-- the call of row n, which has its level of nesting
+abbrev pub CanRun : Slice → Slice → Slice → Slice → ℕ → Type 0
+CanRun book index text rows n = (n ≤ 200) × (rowsSize ≤ length (now rows)) × Fitting book index text × (0 < n)
+
+-- its variants before this one met no limit
+abbrev pub CanTry : Slice → Slice → Slice → Slice → ℕ → code.Outcome → Type 0
+CanTry book index text rows n before =
+    (n ≤ 200) × (rowsSize ≤ length (now rows)) × Fitting book index text × (0 < n) × (before .limit ≡ 0)
+
+-- a path, with n levels of nesting left
+abbrev pub OnPath : Slice → Slice → Slice → Slice → ℕ → Progress → Type 0
+OnPath book index text rows n here =
+    (n ≤ 200) × (rowsSize ≤ length (now rows)) × Fitting book index text × InRange (bookIn (now book) (now index)) here
+
+-- ---- Which part of the model each function is
+module _ (n : ℕ) where
+  abbrev pub enters : ℕ → ℕ → Book → List ℕ → RowState → Result Outcome
+  enters N u book text s = enterRows book text (runnerRows book text n) n N u s
+
+  abbrev pub runsCall : ℕ → ℕ → ℕ → Book → List ℕ → RowState → Result Outcome
+  runsCall N u m book text s = runCallRows book text (within book text n) n N u m s
+
+  abbrev pub runsAgain : ℕ → Book → List ℕ → RowState → Result Outcome
+  runsAgain m book text s = roundsRows book text 65 (within book text n) n m s
+
+  abbrev pub runsOnce : ℕ → Book → List ℕ → RowState → Result Outcome
+  runsOnce m book text s = oneRunRows book text (within book text n) n m s
+
+  -- variant j, after the outcome of those before it
+  abbrev pub tries : ℕ → ℕ → code.Outcome → Book → List ℕ → RowState → Result Outcome
+  tries m j before book text s = variantRows book text (within book text n) n m j (failureOf (failureAt before)) s
+
+  module _ (here : Progress) where
+    abbrev pub descends : Next → ℕ → Book → List ℕ → RowState → Result Outcome
+    descends next N book text s =
+        descendsRows book text (runnerRows book text n) n (here .call) (here .variant) (todoAt book here) next N (here .at)
+        (here .items) s
+
+    abbrev pub followsEach : Next → Book → List ℕ → Result Outcome → Result Outcome
+    followsEach next book text z =
+        followsRows book text (runnerRows book text n) n (here .call) (here .variant) (todoAt book here) next (here .items) z
+
+    abbrev pub chooses : Next → ℕ → Book → List ℕ → RowState → Result Outcome
+    chooses next N book text s =
+        sidesRows book text (runnerRows book text n) n (here .call) (here .variant) (todoAt book here) next N (here .at)
+        (here .items) s
+
+    abbrev pub goesOn : Doing → Book → List ℕ → Result Outcome → Result Outcome
+    goesOn first book text z =
+        resumes book text (runnerRows book text n) n (here .call) (here .variant) (todoAt book here) first (here .at) (here .items) z
+
+-- ---- The measure
 -- a path that is to do something else before the steps left is further from its end
 abbrev pub rankOf : Doing → ℕ
 rankOf Doing.Steps = 0

@@ -6,7 +6,7 @@ use Prim.Native.Nat.{ℕ}
 use lib.Dec.{leb}
 use lib.ListN.{length, drop}
 use Rattle.characters.specs.Spelling.{partOf}
-use Rattle.run.specs.Reading.{answerIn}
+use Rattle.run.specs.Promise.{answerIn}
 use Rattle.printing.specs.Printing.{lineBytes}
 use Rattle.printing.specs.Cells.{namesIn}
 use Rattle.run.specs.declared.reader.Answer.{Answer}

@@ -5,7 +5,7 @@ ghost use mathlib.Core.List.{_++_};
 ghost use lib.ListN.{length, take};
 ghost use Rattle.printing.specs.Printing.{decimal, lineOf, columnOf, hasLine, refusedLine};
 ghost use Rattle.printing.specs.Laying.{Room, Lays};
-ghost use Rattle.run.specs.Reading.{answerIn};
+ghost use Rattle.run.specs.Promise.{answerIn};
 ghost use Rattle.printing.specs.Lines.{lineIn, lengthWithin, Prints, Window};
 use crate::laying::byte;
 use crate::laying::bytes;

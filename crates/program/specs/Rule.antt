@@ -4,7 +4,7 @@ use mathlib.Core.List.{List}
 use Prim.Native.Nat.{ℕ}
 use lib.ListN.{replicate}
 use Rattle.semantics.specs.Answer.{Answer, Answered, answerOf}
-use Rattle.run.specs.Reading.{answerIn}
+use Rattle.run.specs.Promise.{answerIn}
 use Rattle.run.specs.declared.reader.Answer as code
 
 abbrev pub ruleAnswer : List ℕ → List ℕ → Answered

@@ -3,8 +3,8 @@
 mod cases;
 
 fn main() {
-    layer_cases::rows();
-    layer_cases::forms();
-    layer_cases::places();
-    layer_cases::files();
+    cases::rows();
+    cases::forms();
+    cases::places();
+    cases::files();
 }

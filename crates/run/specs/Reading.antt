@@ -1,47 +1,37 @@
--- The call of document 01, "The answer", in the code's terms: what each part of it equals. `Reads` is the promise of the call itself.
+-- The parts of the call, in the code's terms: what each asks and equals. The promise of the call itself stands in Promise. Scaffolding:
+-- no definition of document 01.
 use mathlib.Core.Path.{_≡_}
-use mathlib.Core.Bool.{Bool, false, cond, _||_}
+use mathlib.Core.Bool.{Bool, cond, _||_}
 use mathlib.Core.List.{List, [], _∷_}
 use mathlib.Core.Option.{Option, none, some}
-use Prim.Native.Nat.{ℕ}
+use Prim.Native.Nat.{ℕ, _≤_}
 use lib.Dec.{ltb, eqb}
 use lib.ListN.{length}
-use Rattle.characters.specs.Classes.{between}
+use denote.Ref.{now}
+use Rattle.characters.specs.Slices.{Slice, Lent, atEntry, atExit, indexSize, storeSize, rowsSize}
 use Rattle.book.specs.Book.{Book}
 use Rattle.book.specs.Check.{checkBook}
 use Rattle.book.specs.Check as check
+use Rattle.book.specs.Index.{bookIn}
 use Rattle.semantics.specs.Values.{Parse, whole}
 use Rattle.semantics.specs.Errors.{Error}
 use Rattle.semantics.specs.Run.{Result, Parsed}
 use Rattle.semantics.specs.Run as definition
-use Rattle.semantics.specs.Answer.{Answer, Answered, answer, untouched, answerOf}
-use Rattle.semantics.specs.Exact.{Exact}
+use Rattle.semantics.specs.Answer.{Answer, Answered, answer, written, parseNumbers}
 use Rattle.run_model.specs.Theorem.{seen}
-use Rattle.calls.specs.Table.{table}
+use Rattle.calls.specs.Table.{table, rowIn}
 use Rattle.errors.specs.declared.Failure.{Failure}
 use Rattle.transitions.specs.declared.outcomes.Outcome.{Outcome}
 use Rattle.transitions.specs.Outcomes.{cellsOf, Held, given, failureAt}
-use Rattle.transitions.specs.Fit.{Fits}
+use Rattle.transitions.specs.Fit.{Fit, Fits}
+use Rattle.run.specs.Promise.{answered}
 use Rattle.run.specs.declared.reader.Answer as code
 use Rattle.run.specs.declared.whole.Values.{Values}
-
--- ---- Answers
--- the code's answer, as document 01 has it
-abbrev pub answerIn : code.Answer → Answer
-answerIn a = answer (a .refusal) (a .place) (a .kind) (a .argument) (a .work) (a .parses) (a .value)
-
--- the same with both lists
-abbrev pub answered : code.Answer → List ℕ → List ℕ → Answered
-answered a cells parses = record { answer = answerIn a; cells = cells; parses = parses }
 
 -- ---- What is refused before the run
 -- cells or parses under their size
 abbrev pub short : List ℕ → List ℕ → Bool
 short cells parses = ltb (length cells) 12288 || ltb (length parses) 256
-
--- working memory under its size: the book's index, the store of cells, the rows of calls
-abbrev pub noRoom : List ℕ → List ℕ → List ℕ → Bool
-noRoom index store rows = ltb (length index) 1091 || (ltb (length store) 17408 || ltb (length rows) 104922)
 
 -- "allowance 0 or above 1,000,000"
 abbrev pub noAllowance : ℕ → Bool
@@ -92,15 +82,49 @@ pub record RunsText (book : Book) (text : List ℕ) (units start : ℕ) (store r
   pub held : Held text store (o .state .cells)
   pub fits : o .limit ≡ 0 → FailureFits (failureAt o)
 
--- ---- The call
--- The promise of the call. Its answer and both lists are what document 01 says they are; and demand 3 of that very answer and those very lists: of every
--- call whose book is accepted, that isn't refused before the run (1 to 11), and that meets no limit (20 to 23)
-pub record Reads (bytes text : List ℕ) (start : ℕ) (expected a : Answered) : Type 0 where
-  pub is : a ≡ expected
-  pub exact : (book : Book) → checkBook bytes ≡ check.Outcome.book book →
-      between 1 11 (a .answer .refusal) ≡ false → between 20 23 (a .answer .refusal) ≡ false → Exact book text start a
+-- ---- The lists
+-- the first `size` numbers of a lent list become these and zeros
+abbrev pub Writes : Lent → ℕ → List ℕ → Type 0
+Writes lent size numbers = atExit lent ≡ written size numbers (atEntry lent)
 
--- what is expected where working memory is lent: too little of it is refused as too short lists are
-abbrev pub answerWith : List ℕ → List ℕ → List ℕ → List ℕ → List ℕ → List ℕ → List ℕ → ℕ → ℕ → Answered
-answerWith index store rows cells parses bytes text start allowance =
-    cond (noRoom index store rows) (untouched cells parses 1 0) (answerOf cells parses bytes text start allowance)
+-- they become the parses that the outermost row found
+abbrev pub WritesParses : Lent → Lent → Type 0
+WritesParses parses rows = Writes parses 256 (parseNumbers (rowIn rows 200 .set))
+
+-- the answer and both lists at exit, from the lists at entry
+abbrev pub Gives : Lent → Lent → code.Answer → (List ℕ → List ℕ → Answered) → Type 0
+Gives cells parses r expected = answered r (atExit cells) (atExit parses) ≡ expected (atEntry cells) (atEntry parses)
+
+-- ---- What the parts ask
+abbrev pub LongLists : Slice → Slice → Type 0
+LongLists cells parses = (12288 ≤ length (now cells)) × (256 ≤ length (now parses))
+
+abbrev pub HasParses : Slice → Slice → Type 0
+HasParses parses rows = (256 ≤ length (now parses)) × (rowsSize ≤ length (now rows))
+
+-- there are `count` cells
+abbrev pub CanFill : Slice → Slice → Slice → Slice → ℕ → Type 0
+CanFill cells parses store rows count =
+    (12288 ≤ length (now cells)) × (256 ≤ length (now parses)) × (storeSize ≤ length (now store)) × (rowsSize ≤ length (now rows)) ×
+    (count ≤ 4096)
+
+-- the run is over
+abbrev pub CanEnd : Slice → Slice → Slice → Slice → Slice → Outcome → Type 0
+CanEnd text cells parses store rows o =
+    (12288 ≤ length (now cells)) × (256 ≤ length (now parses)) × (rowsSize ≤ length (now rows)) ×
+    Held (now text) (now store) (o .state .cells) × (o .limit ≡ 0 → FailureFits (failureAt o))
+
+-- the run can begin
+abbrev pub CanStart : Slice → Slice → Slice → Slice → Slice → Type 0
+CanStart book index text store rows =
+    (storeSize ≤ length (now store)) × (rowsSize ≤ length (now rows)) × Fit (bookIn (now book) (now index)) (now text)
+
+-- the book is accepted
+abbrev pub CanRead : Slice → Slice → Slice → Slice → Slice → Slice → Type 0
+CanRead book cells parses index store rows =
+    (12288 ≤ length (now cells)) × (256 ≤ length (now parses)) × (storeSize ≤ length (now store)) × (rowsSize ≤ length (now rows)) ×
+    (checkBook (now book) ≡ check.Outcome.book (bookIn (now book) (now index)))
+
+-- the working memory has its sizes
+abbrev pub HasRoom : Slice → Slice → Slice → Type 0
+HasRoom index store rows = (indexSize ≤ length (now index)) × (storeSize ≤ length (now store)) × (rowsSize ≤ length (now rows))

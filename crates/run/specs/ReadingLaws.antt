@@ -37,7 +37,8 @@ use Rattle.transitions.specs.Outcomes.{cellsOf, Held, given, Ran, Runs, failure
 use Rattle.transitions.specs.Fit.{Fits, Fit}
 use Rattle.run.specs.declared.reader.Answer as parse
 use Rattle.run.specs.declared.whole.Values.{Values}
-use Rattle.run.specs.Reading.{answerIn, answered, short, noRoom, noAllowance, within, withValues, endAnswer, seenOf, FailureFits, RunsText, Reads, answerWith}
+use Rattle.run.specs.Promise.{answerIn, answered, noRoom, Reads, answerWith}
+use Rattle.run.specs.Reading.{short, noAllowance, within, withValues, endAnswer, seenOf, FailureFits, RunsText}
 use Rattle.run.specs.ListLaws.{by-values-is}
 use Rattle.run.specs.Fitting.{StepArguments, FailFits, no-error, an-error, Fine, On, result}
 use Rattle.run.specs.ErrorLaws.{run-fine}

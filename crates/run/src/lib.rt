@@ -9,9 +9,13 @@
 // (ReadingLaws), and that the numbers of an error and of a refusal fit into 32 bits (Fitting, ErrorLaws, RefusalLaws).
 mod lists;
 mod reader;
+mod refusals;
 mod whole;
 
+pub use calls::ROWS_SIZE;
 pub use reader::Answer;
-pub use reader::ROWS_SIZE;
 pub use reader::read;
 pub use reader::read_in;
+pub use refusals::HIGH_BYTE;
+pub use refusals::MOST_WORK;
+pub use refusals::NO_PARSE;

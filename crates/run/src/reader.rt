@@ -1,46 +1,47 @@
 // The call of document 01, "The answer": the refusals before the run, the run by `enter`, and the end.
 //
-// `read` keeps working memory of its own, 498,048 bytes; `read_in` is lent it, whatever it holds. The definition of crates/semantics/specs/Answer.antt that a
-// function equals is named in its contract.
+// `read` keeps working memory of its own, 498,048 bytes; `read_in` is lent it, whatever it holds. Its contract says nothing of that
+// memory at exit: it is no part of the answer, and the next call may find anything in it.
 ghost use mathlib.Core.Path.{_≡_};
-ghost use Prim.Native.Nat.{_+_, _-_, _≤_, _<_};
+ghost use Prim.Native.Nat.{_-_};
 ghost use lib.ListN.{length};
-ghost use Rattle.book.specs.Index.{bookIn};
-ghost use Rattle.book.specs.Check.{checkBook};
-ghost use Rattle.book.specs.Check as check;
+ghost use Rattle.book.specs.Index.{bookAt};
 ghost use Rattle.semantics.specs.Answer as answers;
 ghost use Rattle.semantics.specs.Answer.{answer, firstHigh, answerOf};
-ghost use Rattle.transitions.specs.Fit.{Fit, Fits};
-ghost use Rattle.transitions.specs.Outcomes.{failureAt, Held};
-ghost use Rattle.run.specs.Reading.{answerIn, answered, short, noRoom, noAllowance, within, endAnswer, seenOf, FailureFits, RunsText, Reads, answerWith};
-use crate::lists::CELL_NUMBERS;
-use crate::lists::PARSE_NUMBERS;
+ghost use Rattle.transitions.specs.Fit.{Fits};
+ghost use Rattle.run.specs.Promise.{answerIn, noRoom, Read, ReadIn};
+ghost use Rattle.run.specs.Reading.{short, noAllowance, within, endAnswer, seenOf, ErrorFits, Gives};
+ghost use Rattle.run.specs.Reading.{CanEnd, CanStart, CanRead, HasRoom, RunsText};
 use crate::lists::cleared;
 use crate::lists::filled;
+use crate::refusals::BAD_ALLOWANCE;
+use crate::refusals::DIFFERENT_VALUES;
+use crate::refusals::HIGH_BYTE;
+use crate::refusals::LONGEST_TEXT;
+use crate::refusals::LONG_TEXT;
+use crate::refusals::MOST_WORK;
+use crate::refusals::NONE_WHOLE;
+use crate::refusals::NO_PARSE;
+use crate::refusals::NO_START;
+use crate::refusals::TOO_SHORT;
 use crate::whole::Values;
 use crate::whole::whole_values;
 use book::INDEX_SIZE;
 use book::Verdict;
 use book::check_into;
+use calls::LEVELS;
+use calls::ROWS_SIZE;
 use calls::found;
+use cells::CELL_NUMBERS;
 use cells::STORE_SIZE;
 use characters::skip;
 use errors::Error;
 use errors::Failure;
 use parser::enter;
+use sets::PARSE_NUMBERS;
 use transitions::Outcome;
 use transitions::State;
 use transitions::failure_of;
-
-// "nesting beyond 200" is a limit; also the outermost call's row
-pub const LEVELS: usize = 200;
-
-// the numbers of the rows: 201 of 522 numbers
-pub const ROWS_SIZE: usize = 104922;
-
-const MOST_WORK: u32 = 1000000;
-
-const LONGEST_TEXT: usize = 4096;
 
 // "refusal (0 if none), place, kind, argument, work, number of parses, value cell"
 pub struct Answer {
@@ -90,7 +91,7 @@ fn failed(e: Error, work: u32) -> Answer
     ensures { λ r. ⌜ answerIn r ≡ answer 30 (e .place) (e .kind) (e .argument) work 0 0 ⌝ }
 {
     Answer {
-        refusal: 30,
+        refusal: NO_PARSE,
         place: e.place as u32,
         kind: e.kind as u32,
         argument: e.argument as u32,
@@ -105,9 +106,9 @@ fn by_values(values: Values, work: u32, parses: u32) -> Answer
     ensures { λ r. ⌜ answerIn r ≡ endAnswer values work parses ⌝ }
 {
     match values {
-        Values::Nothing => at_end(31, work, parses, 0),
+        Values::Nothing => at_end(NONE_WHOLE, work, parses, 0),
         Values::One(cell) => at_end(0, work, parses, cell),
-        Values::Different => at_end(32, work, parses, 0),
+        Values::Different => at_end(DIFFERENT_VALUES, work, parses, 0),
     }
 }
 
@@ -132,10 +133,9 @@ fn ending(
     rows: &[u32],
     outcome: Outcome,
 ) -> Answer
-    requires { ⌜ (12288 ≤ length (now cells)) × (256 ≤ length (now parses)) × (104922 ≤ length (now rows)) ×
-        Held (now text) (now store) (outcome .state .cells) × (outcome .limit ≡ 0 → FailureFits (failureAt outcome)) ⌝ }
-    ensures { λ r. ⌜ answered r (now (cells .exit)) (now (parses .exit)) ≡
-        answers.atEnd (now (cells .entry)) (now (parses .entry)) (now (text .entry)) allowance (seenOf outcome (now (store .entry)) (now (rows .entry))) ⌝ }
+    requires { ⌜ CanEnd text cells parses store rows outcome ⌝ }
+    ensures { λ r. ⌜ Gives cells parses r (λ cells parses.
+        answers.atEnd cells parses (now (text .entry)) allowance (seenOf outcome (now (store .entry)) (now (rows .entry)))) ⌝ }
 {
     let state = outcome.state;
     let work = gone(allowance, state.units);
@@ -169,8 +169,8 @@ fn run(
     start: u32,
     units: u32,
 ) -> Outcome
-    requires { ⌜ (17408 ≤ length (now store)) × (104922 ≤ length (now rows)) × Fit (bookIn (now book) (now index)) (now text) ⌝ }
-    ensures { λ r. ⌜ RunsText (bookIn (now (book .entry)) (now (index .entry))) (now (text .entry)) units start (now (store .exit)) (now (rows .exit)) r ⌝ }
+    requires { ⌜ CanStart book index text store rows ⌝ }
+    ensures { λ r. ⌜ RunsText (bookAt book index) (now (text .entry)) units start (now (store .exit)) (now (rows .exit)) r ⌝ }
 {
     cells::clear(store);
     let begun = State { units, cells: 0 };
@@ -205,20 +205,19 @@ fn on_book(
     store: &mut [u32],
     rows: &mut [u32],
 ) -> Answer
-    requires { ⌜ (12288 ≤ length (now cells)) × (256 ≤ length (now parses)) × (17408 ≤ length (now store)) × (104922 ≤ length (now rows)) ×
-        (checkBook (now book) ≡ check.Outcome.book (bookIn (now book) (now index))) ⌝ }
-    ensures { λ r. ⌜ answered r (now (cells .exit)) (now (parses .exit)) ≡
-        answers.onBook (now (cells .entry)) (now (parses .entry)) (bookIn (now (book .entry)) (now (index .entry))) (now (text .entry)) start allowance ⌝ }
+    requires { ⌜ CanRead book cells parses index store rows ⌝ }
+    ensures { λ r. ⌜ Gives cells parses r (λ cells parses.
+        answers.onBook cells parses (bookAt book index) (now (text .entry)) start allowance) ⌝ }
 {
     if book::nonterminals(index) <= start as usize {
-        return refused(9, 0);
+        return refused(NO_START, 0);
     }
-    if LONGEST_TEXT < text.len() {
-        return refused(10, 4096);
+    if (LONGEST_TEXT as usize) < text.len() {
+        return refused(LONG_TEXT, LONGEST_TEXT);
     }
     let high = first_high(text);
     if high < text.len() {
-        return refused(11, high as u32);
+        return refused(HIGH_BYTE, high as u32);
     }
     let outcome = run(book, index, text, store, rows, start, allowance);
     ending(text, allowance, cells, parses, store, rows, outcome)
@@ -255,7 +254,8 @@ fn no_allowance(allowance: u32) -> bool
     MOST_WORK < allowance
 }
 
-// A refusal of the book's check. However long the book is, the check ends within its first million bytes (`refusal-fits`), so that both numbers fit.
+// A refusal of the book's check. However long the book is, the check ends within its first bytes (`refusal-fits`), so that both
+// numbers fit.
 fn book_refused(number: usize, place: usize) -> Answer
     requires { ⌜ Fits number × Fits place ⌝ }
     ensures { λ r. ⌜ answerIn r ≡ answer number place 0 0 0 0 0 ⌝ }
@@ -275,15 +275,15 @@ fn in_room(
     store: &mut [u32],
     rows: &mut [u32],
 ) -> Answer
-    requires { ⌜ (1091 ≤ length (now index)) × (17408 ≤ length (now store)) × (104922 ≤ length (now rows)) ⌝ }
-    ensures { λ r. ⌜ answered r (now (cells .exit)) (now (parses .exit)) ≡
-        answerOf (now (cells .entry)) (now (parses .entry)) (now (book .entry)) (now (text .entry)) start allowance ⌝ }
+    requires { ⌜ HasRoom index store rows ⌝ }
+    ensures { λ r. ⌜ Gives cells parses r (λ cells parses.
+        answerOf cells parses (now (book .entry)) (now (text .entry)) start allowance) ⌝ }
 {
     if too_short(cells, parses) {
-        return refused(1, 0);
+        return refused(TOO_SHORT, 0);
     }
     if no_allowance(allowance) {
-        return refused(2, 0);
+        return refused(BAD_ALLOWANCE, 0);
     }
     let verdict = check_into(book, index);
     match verdict {
@@ -302,8 +302,8 @@ fn in_room(
     }
 }
 
-// The call, with working memory that is lent and may hold anything: a book's index, a store of cells, the rows of calls. Too little of it is
-// refused as too short lists are.
+// The call, with working memory that is lent and may hold anything: a book's index, a store of cells, the rows of calls. Too little of
+// it is refused as too short lists are.
 pub fn read_in(
     book: &[u8],
     text: &[u8],
@@ -315,12 +315,10 @@ pub fn read_in(
     store: &mut [u32],
     rows: &mut [u32],
 ) -> Answer
-    ensures { λ r. ⌜ Reads (now (book .entry)) (now (text .entry)) start
-        (answerWith (now (index .entry)) (now (store .entry)) (now (rows .entry)) (now (cells .entry)) (now (parses .entry)) (now (book .entry)) (now (text .entry)) start allowance)
-        (answered r (now (cells .exit)) (now (parses .exit))) ⌝ }
+    ensures { λ r. ⌜ ReadIn book text start allowance cells parses index store rows r ⌝ }
 {
     if no_room(index, store, rows) {
-        return refused(1, 0);
+        return refused(TOO_SHORT, 0);
     }
     in_room(
         book,
@@ -344,9 +342,7 @@ pub fn read(
     cells: &mut [u32],
     parses: &mut [u32],
 ) -> Answer
-    ensures { λ r. ⌜ Reads (now (book .entry)) (now (text .entry)) start
-        (answerOf (now (cells .entry)) (now (parses .entry)) (now (book .entry)) (now (text .entry)) start allowance)
-        (answered r (now (cells .exit)) (now (parses .exit))) ⌝ }
+    ensures { λ r. ⌜ Read book text start allowance cells parses r ⌝ }
 {
     let mut index = [0usize; INDEX_SIZE];
     let mut store = [0u32; STORE_SIZE];

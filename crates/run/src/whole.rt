@@ -1,15 +1,15 @@
 // The values of the whole parses.
 ghost use mathlib.Core.Path.{_≡_};
-ghost use Prim.Native.Nat.{_+_, _-_, _≤_, _<_};
+ghost use Prim.Native.Nat.{_≤_};
 ghost use lib.ListN.{length};
+ghost use Rattle.characters.specs.Slices.{rowsSize};
 ghost use Rattle.semantics.specs.Answer.{wholeValues};
 ghost use Rattle.semantics.specs.Values.{whole as wholeIn};
-ghost use Rattle.run_model.specs.Rows.{rowOf};
 ghost use Rattle.sets.specs.Sets.{parseOf};
-ghost use Rattle.calls.specs.Table.{table};
+ghost use Rattle.calls.specs.Table.{rowIn};
 ghost use Rattle.run.specs.Reading.{withValue, withValues, withParse};
 ghost use Rattle.run.specs.declared.whole.Values as values;
-use crate::reader::LEVELS;
+use calls::LEVELS;
 use calls::found;
 use calls::item;
 use characters::skip;
@@ -59,8 +59,8 @@ fn with_parse(text: &[u8], values: Values, p: Parse) -> Values
 
 // Over what the outermost row found.
 pub fn whole_values(text: &[u8], rows: &[u32]) -> Values
-    requires { ⌜ 104922 ≤ length (now rows) ⌝ }
-    ensures { λ r. ⌜ r ≡ withValues values.Values.Nothing (wholeValues (now (text .entry)) (rowOf (table (now (rows .entry))) 200 .set)) ⌝ }
+    requires { ⌜ rowsSize ≤ length (now rows) ⌝ }
+    ensures { λ r. ⌜ r ≡ withValues values.Values.Nothing (wholeValues (now (text .entry)) (rowIn rows 200 .set)) ⌝ }
 {
     let count = found(rows, LEVELS);
     let mut values = Values::Nothing;

@@ -28,7 +28,13 @@ pub struct Parse {
 }
 
 // "a 65th different parse in any set" is a limit.
-const MOST_PARSES: usize = 64;
+pub const MOST_PARSES: usize = 64;
+
+// four for each parse
+pub const PARSE_NUMBERS: usize = 4 * MOST_PARSES;
+
+// a count and the parses
+pub const SET_SIZE: usize = 1 + PARSE_NUMBERS;
 
 // ---- One parse
 // The associativity that a number says, any number above 2 being Both; and the number of one.
@@ -83,7 +89,8 @@ fn parse_at(numbers: &[u32], at: usize) -> Parse
     }
 }
 
-fn put_parse(numbers: &mut [u32], at: usize, p: Parse)
+// "Parses hold rest, level, associativity, cell"
+pub fn put_parse(numbers: &mut [u32], at: usize, p: Parse)
     requires { ⌜ at + 4 ≤ length (now numbers) ⌝ }
     ensures { λ _. ⌜ now (numbers .exit) ≡ written (now (numbers .entry)) at (parseOf p) ⌝ }
 {
@@ -130,7 +137,7 @@ pub fn clear(numbers: &mut [u32], place: usize)
     numbers[place] = 0;
 }
 
-pub fn has(numbers: &[u32], place: usize, p: Parse) -> bool
+fn has(numbers: &[u32], place: usize, p: Parse) -> bool
     requires { ⌜ place + 257 ≤ length (now numbers) ⌝ }
     ensures { λ r. ⌜ r ≡ run.has (setAt (now (numbers .entry)) place) (parseOf p) ⌝ }
 {
@@ -223,7 +230,7 @@ pub fn copy(numbers: &mut [u32], into: usize, from: usize)
 
 // ---- What a use keeps
 // "kept when level is at least (Left) or above (Right, None) the governor's variant level; Both keeps all"
-pub fn keeps_level(associativity: Associativity, level: u32, found: u32) -> bool
+fn keeps_level(associativity: Associativity, level: u32, found: u32) -> bool
     ensures { λ r. ⌜ r ≡ keepsLevel associativity level found ⌝ }
 {
     match associativity {

@@ -3,7 +3,7 @@
 ghost use mathlib.Core.Option.{none};
 ghost use mathlib.Core.Path.{_≡_};
 ghost use Rattle.book.specs.Book.{Book};
-ghost use Rattle.book.specs.Index.{bookIn};
+ghost use Rattle.book.specs.Index.{bookAt};
 ghost use Rattle.book.specs.declared.records.Step.{Step};
 ghost use Rattle.characters.specs.Skipping.{skipFrom};
 ghost use Rattle.semantics.specs.Errors.{error, identifierError, stepError};
@@ -97,7 +97,7 @@ fn character(text: &[u8], a: usize, x: usize) -> Taken
 }
 
 fn word_at(book: &[u8], index: &[usize], text: &[u8], a: usize, x: usize) -> Taken
-    ensures { λ r. ⌜ takenOf r ≡ stepAt (bookIn (now (book .entry)) (now (index .entry))) (now (text .entry)) (Step.Word a) x ⌝ }
+    ensures { λ r. ⌜ takenOf r ≡ stepAt (bookAt book index) (now (text .entry)) (Step.Word a) x ⌝ }
 {
     let at = skip(text, x);
     let End::At(end) = identifier_end(text, at) else {
@@ -112,7 +112,7 @@ fn word_at(book: &[u8], index: &[usize], text: &[u8], a: usize, x: usize) -> Tak
 }
 
 fn identifier(book: &[u8], index: &[usize], text: &[u8], x: usize) -> Taken
-    ensures { λ r. ⌜ takenOf r ≡ stepAt (bookIn (now (book .entry)) (now (index .entry))) (now (text .entry)) Step.Identifier x ⌝ }
+    ensures { λ r. ⌜ takenOf r ≡ stepAt (bookAt book index) (now (text .entry)) Step.Identifier x ⌝ }
 {
     let at = skip(text, x);
     let End::At(end) = free_end(book, index, text, at) else {
@@ -141,7 +141,7 @@ fn number(text: &[u8], x: usize) -> Taken
 }
 
 fn variable(book: &[u8], index: &[usize], text: &[u8], x: usize) -> Taken
-    ensures { λ r. ⌜ takenOf r ≡ stepAt (bookIn (now (book .entry)) (now (index .entry))) (now (text .entry)) Step.Variable x ⌝ }
+    ensures { λ r. ⌜ takenOf r ≡ stepAt (bookAt book index) (now (text .entry)) Step.Variable x ⌝ }
 {
     match variable_at(book, index, text, skip(text, x)) {
         Variable::Named { end, number, kind } => Taken::Token {
@@ -153,7 +153,7 @@ fn variable(book: &[u8], index: &[usize], text: &[u8], x: usize) -> Taken
 }
 
 fn variable_of_kind(book: &[u8], index: &[usize], text: &[u8], a: usize, x: usize) -> Taken
-    ensures { λ r. ⌜ takenOf r ≡ stepAt (bookIn (now (book .entry)) (now (index .entry))) (now (text .entry)) (Step.VariableOfKind a) x ⌝ }
+    ensures { λ r. ⌜ takenOf r ≡ stepAt (bookAt book index) (now (text .entry)) (Step.VariableOfKind a) x ⌝ }
 {
     match variable_at(book, index, text, skip(text, x)) {
         Variable::Named { end, number, kind } => {
@@ -172,7 +172,7 @@ fn variable_of_kind(book: &[u8], index: &[usize], text: &[u8], a: usize, x: usiz
 
 // Kinds 6 and 7 look behind what is skipped, and don't move the place.
 fn reject_variable(book: &[u8], index: &[usize], text: &[u8], x: usize) -> Taken
-    ensures { λ r. ⌜ takenOf r ≡ stepAt (bookIn (now (book .entry)) (now (index .entry))) (now (text .entry)) Step.RejectVariable x ⌝ }
+    ensures { λ r. ⌜ takenOf r ≡ stepAt (bookAt book index) (now (text .entry)) Step.RejectVariable x ⌝ }
 {
     let at = skip(text, x);
     match variable_at(book, index, text, at) {
@@ -186,7 +186,7 @@ fn reject_variable(book: &[u8], index: &[usize], text: &[u8], x: usize) -> Taken
 }
 
 fn reject_reserved(book: &[u8], index: &[usize], text: &[u8], x: usize) -> Taken
-    ensures { λ r. ⌜ takenOf r ≡ stepAt (bookIn (now (book .entry)) (now (index .entry))) (now (text .entry)) Step.RejectReserved x ⌝ }
+    ensures { λ r. ⌜ takenOf r ≡ stepAt (bookAt book index) (now (text .entry)) Step.RejectReserved x ⌝ }
 {
     let at = skip(text, x);
     if reserved_at(book, index, text, at) {
@@ -233,7 +233,7 @@ fn optional_delimited(
 
 // What a step takes at a place, by its kind.
 pub fn step_at(book: &[u8], index: &[usize], text: &[u8], step: Step, x: usize) -> Taken
-    ensures { λ r. ⌜ takenOf r ≡ stepAt (bookIn (now (book .entry)) (now (index .entry))) (now (text .entry)) step x ⌝ }
+    ensures { λ r. ⌜ takenOf r ≡ stepAt (bookAt book index) (now (text .entry)) step x ⌝ }
 {
     match step {
         Step::Character(a) => character(text, a, x),
@@ -319,7 +319,7 @@ pub fn closing_error(text: &[u8], closing: End, place: usize) -> Error
 
 // An identifier was wanted: the text ended, none is there, or it is reserved; else another error.
 fn identifier_error(book: &[u8], index: &[usize], text: &[u8], at: usize, other: Error) -> Error
-    ensures { λ r. ⌜ errorOf r ≡ identifierError (bookIn (now (book .entry)) (now (index .entry))) (now (text .entry)) at (errorOf other) ⌝ }
+    ensures { λ r. ⌜ errorOf r ≡ identifierError (bookAt book index) (now (text .entry)) at (errorOf other) ⌝ }
 {
     if at == text.len() {
         return error_at(at, TEXT_ENDED, 0);
@@ -348,7 +348,7 @@ fn number_error(text: &[u8], at: usize) -> Error
 
 // No variable of the kind: a name of another kind, or none.
 fn kind_error(book: &[u8], index: &[usize], text: &[u8], kind: usize, at: usize) -> Error
-    ensures { λ r. ⌜ errorOf r ≡ when (isSome (variableAt (bookIn (now (book .entry)) (now (index .entry))) (now (text .entry)) at))
+    ensures { λ r. ⌜ errorOf r ≡ when (isSome (variableAt (bookAt book index) (now (text .entry)) at))
         (λ _. error at 8 kind) (λ _. error at 7 0) ⌝ }
 {
     match variable_at(book, index, text, at) {
@@ -362,7 +362,7 @@ fn kind_error(book: &[u8], index: &[usize], text: &[u8], kind: usize, at: usize)
 }
 
 pub fn step_error(book: &[u8], index: &[usize], text: &[u8], step: Step, at: usize) -> Error
-    ensures { λ r. ⌜ errorOf r ≡ stepError (bookIn (now (book .entry)) (now (index .entry))) (now (text .entry)) step at ⌝ }
+    ensures { λ r. ⌜ errorOf r ≡ stepError (bookAt book index) (now (text .entry)) step at ⌝ }
 {
     match step {
         Step::Character(a) => error_at(at, CHARACTER_WANTED, a),

@@ -1,7 +1,7 @@
 // What stands at a place of the text: a character, an identifier, a reserved word, a variable.
 ghost use mathlib.Core.Path.{_≡_};
 ghost use Prim.Native.Nat.{_-_};
-ghost use Rattle.book.specs.Index.{bookIn};
+ghost use Rattle.book.specs.Index.{bookAt};
 ghost use Rattle.semantics.specs.Tokens.{characterEnd, identifierEnd, reservedAt, freeEnd, variableAt};
 ghost use Rattle.tokens.specs.Maps.{endOf, variableOf};
 use book::Found;
@@ -58,7 +58,7 @@ pub fn length(at: usize, end: usize) -> usize
 }
 
 pub fn reserved_at(book: &[u8], index: &[usize], text: &[u8], at: usize) -> bool
-    ensures { λ r. ⌜ r ≡ reservedAt (bookIn (now (book .entry)) (now (index .entry))) (now (text .entry)) at ⌝ }
+    ensures { λ r. ⌜ r ≡ reservedAt (bookAt book index) (now (text .entry)) at ⌝ }
 {
     let End::At(end) = identifier_end(text, at) else {
         return false;
@@ -68,7 +68,7 @@ pub fn reserved_at(book: &[u8], index: &[usize], text: &[u8], at: usize) -> bool
 
 // The end of an identifier that is not reserved.
 pub fn free_end(book: &[u8], index: &[usize], text: &[u8], at: usize) -> End
-    ensures { λ r. ⌜ endOf r ≡ freeEnd (bookIn (now (book .entry)) (now (index .entry))) (now (text .entry)) at ⌝ }
+    ensures { λ r. ⌜ endOf r ≡ freeEnd (bookAt book index) (now (text .entry)) at ⌝ }
 {
     if reserved_at(book, index, text, at) {
         End::Nothing
@@ -78,7 +78,7 @@ pub fn free_end(book: &[u8], index: &[usize], text: &[u8], at: usize) -> End
 }
 
 pub fn variable_at(book: &[u8], index: &[usize], text: &[u8], at: usize) -> Variable
-    ensures { λ r. ⌜ variableOf r ≡ variableAt (bookIn (now (book .entry)) (now (index .entry))) (now (text .entry)) at ⌝ }
+    ensures { λ r. ⌜ variableOf r ≡ variableAt (bookAt book index) (now (text .entry)) at ⌝ }
 {
     let End::At(end) = free_end(book, index, text, at) else {
         return Variable::Nothing;

@@ -12,3 +12,4 @@ pub mod GivenLaws
 pub mod EnteringLaws
 pub mod EndingLaws
 pub mod FitLaws
+pub mod Contracts

@@ -1,10 +1,7 @@
 // The first side of a choice, and both sides together.
-ghost use Prim.Native.Nat.{_≤_};
-ghost use lib.ListN.{length};
-ghost use Rattle.book.specs.Index.{bookIn};
-ghost use Rattle.calls.specs.Table.{table};
-ghost use Rattle.transitions.specs.Fit.{Fit};
-ghost use Rattle.transitions.specs.Steps.{Reaches, Chosen, sideRows};
+ghost use Rattle.calls.specs.Table.{InTable, tableAt};
+ghost use Rattle.transitions.specs.Steps.{Chosen};
+ghost use Rattle.transitions.specs.Contracts.{Fitting, Reaches, sides};
 ghost use Rattle.transitions.specs.declared.stages.Next.{Next};
 use crate::items::make;
 use crate::items::with_cell;
@@ -31,9 +28,7 @@ fn absent(
     here: Progress,
     state: State,
 ) -> Reached
-    ensures { λ r. ⌜ Reaches (bookIn (now (book .entry)) (now (index .entry))) (now (text .entry)) (now (store .entry)) state (now (store .exit)) (here .variant) r
-        (λ inner n c rest s. sideRows (bookIn (now (book .entry)) (now (index .entry))) (now (text .entry)) inner n c (here .variant) rest Next.Steps
-        (here .at) (here .items) s) ⌝ }
+    ensures { λ r. ⌜ Reaches book index text store here state r (sides Next.Steps here) ⌝ }
 {
     let m = make(text, store, cells::absent(), state);
     if m.limit != 0 {
@@ -65,10 +60,8 @@ fn first_stop(
     list: List,
     state: State,
 ) -> Reached
-    requires { ⌜ Fit (bookIn (now book) (now index)) (now text) ⌝ }
-    ensures { λ r. ⌜ Reaches (bookIn (now (book .entry)) (now (index .entry))) (now (text .entry)) (now (store .entry)) state (now (store .exit)) (here .variant) r
-        (λ inner n c rest s. sideRows (bookIn (now (book .entry)) (now (index .entry))) (now (text .entry)) inner n c (here .variant) rest (Next.Elements list)
-        (here .at) (here .items) s) ⌝ }
+    requires { ⌜ Fitting book index text ⌝ }
+    ensures { λ r. ⌜ Reaches book index text store here state r (sides (Next.Elements list) here) ⌝ }
 {
     let spent = spend(state);
     if spent.limit != 0 {
@@ -99,10 +92,8 @@ pub fn first_side(
     next: Next,
     state: State,
 ) -> Reached
-    requires { ⌜ Fit (bookIn (now book) (now index)) (now text) ⌝ }
-    ensures { λ r. ⌜ Reaches (bookIn (now (book .entry)) (now (index .entry))) (now (text .entry)) (now (store .entry)) state (now (store .exit)) (here .variant) r
-        (λ inner n c rest s. sideRows (bookIn (now (book .entry)) (now (index .entry))) (now (text .entry)) inner n c (here .variant) rest next
-        (here .at) (here .items) s) ⌝ }
+    requires { ⌜ Fitting book index text ⌝ }
+    ensures { λ r. ⌜ Reaches book index text store here state r (sides next here) ⌝ }
 {
     match next {
         Next::Steps => absent(book, index, text, store, here, state),
@@ -112,8 +103,8 @@ pub fn first_side(
 
 // Both sides of a choice.
 pub fn both(text: &[u8], rows: &[u32], here: Progress, a: Outcome, b: Outcome) -> Outcome
-    requires { ⌜ (here .call ≤ 200) × (104922 ≤ length (now rows)) ⌝ }
-    ensures { λ r. ⌜ Chosen (now (text .entry)) (table (now (rows .entry))) (here .call) (here .at) a b r ⌝ }
+    requires { ⌜ InTable (here .call) rows ⌝ }
+    ensures { λ r. ⌜ Chosen (now (text .entry)) (tableAt rows) (here .call) (here .at) a b r ⌝ }
 {
     if b.limit != 0 {
         return b;

@@ -2,19 +2,19 @@
 ghost use mathlib.Core.Path.{_≡_};
 ghost use mathlib.Core.Bool.{true, false};
 ghost use mathlib.Core.Option.{some};
-ghost use Prim.Native.Nat.{_<_, _≤_};
+ghost use Prim.Native.Nat.{_≤_};
 ghost use lib.ListN.{length};
 ghost use Rattle.characters.specs.Skipping.{skipFrom};
-ghost use Rattle.book.specs.Index.{bookIn};
+ghost use Rattle.characters.specs.Slices.{rowsSize};
+ghost use Rattle.book.specs.Index.{bookAt};
 ghost use Rattle.semantics.specs.Uses.{hasMark};
 ghost use Rattle.semantics.specs.Errors.{error};
-ghost use Rattle.run_model.specs.Rows.{onRow, withChild};
-ghost use Rattle.run_model.specs.Model.{rowState, claimedRows, runIdentifierRows};
-ghost use Rattle.calls.specs.Table.{table};
+ghost use Rattle.run_model.specs.Rows.{withChild};
+ghost use Rattle.run_model.specs.Model.{claimedRows};
+ghost use Rattle.calls.specs.Table.{InTable, Below, tableAt, tableAfter, Changes};
 ghost use Rattle.errors.specs.Maps.{failureOf};
-ghost use Rattle.transitions.specs.Outcomes.{Runs};
-ghost use Rattle.transitions.specs.Fit.{Fit};
 ghost use Rattle.transitions.specs.Entering.{Stores, Opens, Enters, EndedBy, FirstEnded, RoundEnded, Begins, Counted};
+ghost use Rattle.transitions.specs.Contracts.{Ready, Does, identifies};
 use crate::items::begin;
 use crate::items::make;
 use crate::outcomes::FULL_SET;
@@ -83,8 +83,8 @@ fn stored(
     u: u32,
     state: State,
 ) -> Outcome
-    requires { ⌜ (n < governor) × (governor ≤ 200) × (104922 ≤ length (now rows)) ⌝ }
-    ensures { λ r. ⌜ Stores (table (now (rows .entry))) (table (now (rows .exit))) governor n nonterminal u state r ⌝ }
+    requires { ⌜ Below n governor rows ⌝ }
+    ensures { λ r. ⌜ Stores (tableAt rows) (tableAfter rows) governor n nonterminal u state r ⌝ }
 {
     calls::answer(rows, n, governor);
     if calls::found(rows, n) == 0 {
@@ -96,8 +96,8 @@ fn stored(
 
 // A variable at u that an open call above row n claims.
 fn claimed(book: &[u8], index: &[usize], text: &[u8], rows: &[u32], n: usize, u: u32) -> bool
-    requires { ⌜ (n ≤ 200) × (104922 ≤ length (now rows)) ⌝ }
-    ensures { λ r. ⌜ r ≡ claimedRows (bookIn (now (book .entry)) (now (index .entry))) (now (text .entry)) (table (now (rows .entry))) n u ⌝ }
+    requires { ⌜ InTable n rows ⌝ }
+    ensures { λ r. ⌜ r ≡ claimedRows (bookAt book index) (now (text .entry)) (tableAt rows) n u ⌝ }
 {
     match tokens::variable_at(book, index, text, u as usize) {
         Variable::Named {
@@ -121,10 +121,8 @@ fn run_identifier(
     u: u32,
     state: State,
 ) -> Outcome
-    requires { ⌜ (n ≤ 200) × (104922 ≤ length (now rows)) × Fit (bookIn (now book) (now index)) (now text) ⌝ }
-    ensures { λ r. ⌜ Runs (now (text .entry)) (now (store .entry)) (state .cells) (now (store .exit)) (table (now (rows .exit))) r
-        (λ cells. runIdentifierRows (bookIn (now (book .entry)) (now (index .entry))) (now (text .entry)) n nonterminal u
-        (rowState (state .units) cells (table (now (rows .entry))))) ⌝ }
+    requires { ⌜ Ready book index text rows n ⌝ }
+    ensures { λ r. ⌜ Does book index text store rows state r (identifies n nonterminal u) ⌝ }
 {
     calls::clear_set(rows, n);
     calls::end_call(rows, n);
@@ -154,7 +152,7 @@ fn run_identifier(
 }
 
 fn is_identifier(book: &[u8], index: &[usize], nonterminal: u32) -> bool
-    ensures { λ r. ⌜ r ≡ hasMark (bookIn (now (book .entry)) (now (index .entry))) 2 nonterminal ⌝ }
+    ensures { λ r. ⌜ r ≡ hasMark (bookAt book index) 2 nonterminal ⌝ }
 {
     let called = book::nonterminal(book, index, nonterminal as usize);
     let mark = called.mark;
@@ -178,9 +176,9 @@ fn open(
     minimum: usize,
     state: State,
 ) -> Entered
-    requires { ⌜ (n ≤ 200) × (104922 ≤ length (now rows)) × Fit (bookIn (now book) (now index)) (now text) ⌝ }
-    ensures { λ r. ⌜ Opens (bookIn (now (book .entry)) (now (index .entry))) (now (text .entry)) (now (store .entry)) (now (store .exit))
-        (table (now (rows .entry))) (table (now (rows .exit))) n nonterminal u minimum state r ⌝ }
+    requires { ⌜ Ready book index text rows n ⌝ }
+    ensures { λ r. ⌜ Opens (bookAt book index) (now (text .entry)) (now (store .entry)) (now (store .exit))
+        (tableAt rows) (tableAfter rows) n nonterminal u minimum state r ⌝ }
 {
     if n == 0 {
         return without_runs(at_limit(TOO_DEEP, state));
@@ -218,9 +216,9 @@ pub fn begin_use(
     u: u32,
     state: State,
 ) -> Entered
-    requires { ⌜ (n ≤ 200) × (104922 ≤ length (now rows)) × Fit (bookIn (now book) (now index)) (now text) ⌝ }
-    ensures { λ r. ⌜ Enters (bookIn (now (book .entry)) (now (index .entry))) (now (text .entry)) (now (store .entry)) (now (store .exit))
-        (table (now (rows .entry))) (table (now (rows .exit))) n nonterminal u state r ⌝ }
+    requires { ⌜ Ready book index text rows n ⌝ }
+    ensures { λ r. ⌜ Enters (bookAt book index) (now (text .entry)) (now (store .entry)) (now (store .exit))
+        (tableAt rows) (tableAfter rows) n nonterminal u state r ⌝ }
 {
     let spent = spend(state);
     if spent.limit != 0 {
@@ -258,8 +256,8 @@ fn over(outcome: Outcome) -> Ended
 
 // How a run leaves the call of row n, whose variants failed with `failure`.
 fn ended_by(rows: &[u32], n: usize, how: Settled, failure: Failure, state: State) -> Ended
-    requires { ⌜ (n ≤ 200) × (104922 ≤ length (now rows)) ⌝ }
-    ensures { λ r. ⌜ EndedBy (table (now (rows .entry))) n how failure state r ⌝ }
+    requires { ⌜ InTable n rows ⌝ }
+    ensures { λ r. ⌜ EndedBy (tableAt rows) n how failure state r ⌝ }
 {
     match how {
         Settled::Failed => {
@@ -284,8 +282,8 @@ fn ended_by(rows: &[u32], n: usize, how: Settled, failure: Failure, state: State
 
 // After the first run of the call of row n.
 pub fn after_first(rows: &mut [u32], n: usize, o: Outcome) -> Ended
-    requires { ⌜ (n ≤ 200) × (104922 ≤ length (now rows)) ⌝ }
-    ensures { λ r. ⌜ FirstEnded (table (now (rows .entry))) (table (now (rows .exit))) n o r ⌝ }
+    requires { ⌜ InTable n rows ⌝ }
+    ensures { λ r. ⌜ FirstEnded (tableAt rows) (tableAfter rows) n o r ⌝ }
 {
     if o.limit != 0 {
         return over(o);
@@ -297,8 +295,8 @@ pub fn after_first(rows: &mut [u32], n: usize, o: Outcome) -> Ended
 
 // After a further run.
 pub fn after_round(rows: &mut [u32], n: usize, o: Outcome) -> Ended
-    requires { ⌜ (n ≤ 200) × (104922 ≤ length (now rows)) ⌝ }
-    ensures { λ r. ⌜ RoundEnded (table (now (rows .entry))) (table (now (rows .exit))) n o r ⌝ }
+    requires { ⌜ InTable n rows ⌝ }
+    ensures { λ r. ⌜ RoundEnded (tableAt rows) (tableAfter rows) n o r ⌝ }
 {
     if o.limit != 0 {
         return over(o);
@@ -320,9 +318,9 @@ pub fn begin_variant(
     j: u32,
     state: State,
 ) -> Reached
-    requires { ⌜ (n ≤ 200) × (104922 ≤ length (now rows)) × Fit (bookIn (now book) (now index)) (now text) ⌝ }
-    ensures { λ r. ⌜ Begins (bookIn (now (book .entry)) (now (index .entry))) (now (text .entry)) (now (store .entry)) (now (store .exit))
-        (table (now (rows .entry))) (table (now (rows .exit))) n j state r ⌝ }
+    requires { ⌜ Ready book index text rows n ⌝ }
+    ensures { λ r. ⌜ Begins (bookAt book index) (now (text .entry)) (now (store .entry)) (now (store .exit))
+        (tableAt rows) (tableAfter rows) n j state r ⌝ }
 {
     let start = calls::start_of(rows, n);
     let w = book::variant(book, index, j as usize);
@@ -341,7 +339,7 @@ pub fn counted(
     before: Outcome,
     o: Outcome,
 ) -> Outcome
-    ensures { λ r. ⌜ Counted (bookIn (now (book .entry)) (now (index .entry))) j start before o r ⌝ }
+    ensures { λ r. ⌜ Counted (bookAt book index) j start before o r ⌝ }
 {
     if o.limit != 0 {
         return o;
@@ -358,9 +356,8 @@ pub fn counted(
 // ---- A child
 // The child of the path's call begins where skipping leads.
 pub fn begin_child(text: &[u8], rows: &mut [u32], here: Progress) -> u32
-    requires { ⌜ (here .call ≤ 200) × (104922 ≤ length (now rows)) × (length (now text) ≤ 4096) ⌝ }
-    ensures { λ r. ⌜ (r ≡ skipFrom (now (text .entry)) (here .at)) ×
-        (table (now (rows .exit)) ≡ onRow (table (now (rows .entry))) (here .call) (withChild r)) ⌝ }
+    requires { ⌜ (here .call ≤ 200) × (rowsSize ≤ length (now rows)) × (length (now text) ≤ 4096) ⌝ }
+    ensures { λ r. ⌜ (r ≡ skipFrom (now (text .entry)) (here .at)) × Changes rows (here .call) (withChild r) ⌝ }
 {
     let at = skip(text, here.at as usize) as u32;
     calls::put_child(rows, here.call, at);

@@ -2,7 +2,7 @@
 ghost use mathlib.Core.Path.{_≡_};
 ghost use mathlib.Core.Option.{some};
 ghost use Rattle.book.specs.Book.{nthVariant};
-ghost use Rattle.book.specs.Index.{bookIn};
+ghost use Rattle.book.specs.Index.{bookAt};
 ghost use Rattle.semantics.specs.Tokens.{isSome};
 ghost use Rattle.semantics.specs.Steps as steps;
 ghost use Rattle.semantics.specs.Cells.{Cell, numbersOf};
@@ -10,7 +10,7 @@ ghost use Rattle.semantics.specs.Run as run;
 ghost use Rattle.run_model.specs.Model.{valueCell};
 ghost use Rattle.cells.specs.Store.{listed};
 ghost use Rattle.tokens.specs.Maps.{itemOf};
-ghost use Rattle.transitions.specs.Outcomes.{MadeBy};
+ghost use Rattle.transitions.specs.Contracts.{Makes};
 ghost use Rattle.transitions.specs.Fit.{ItemFits};
 use crate::outcomes::NO_CELL;
 use crate::outcomes::State;
@@ -37,7 +37,7 @@ fn got(cell: u32, state: State) -> Made
 // The equal cell, or one more.
 pub fn make(text: &[u8], store: &mut [u32], c: Numbers, state: State) -> Made
     ensures { λ r. ⌜ ((cell : Cell) → listed c ≡ numbersOf cell →
-        MadeBy (now (text .entry)) (now (store .entry)) (now (store .exit)) state r (run.make (now (text .entry)) cell)) ⌝ }
+        Makes text store state r (run.make (now (text .entry)) cell)) ⌝ }
 {
     match cells::make(text, store, state.cells, c) {
         cells::Made::At { cell, count } => got(
@@ -56,7 +56,7 @@ pub fn make(text: &[u8], store: &mut [u32], c: Numbers, state: State) -> Made
 }
 
 fn passes(book: &[u8], index: &[usize], j: u32) -> bool
-    ensures { λ r. ⌜ r ≡ nthVariant (bookIn (now (book .entry)) (now (index .entry))) j .passing ⌝ }
+    ensures { λ r. ⌜ r ≡ nthVariant (bookAt book index) j .passing ⌝ }
 {
     let w = book::variant(book, index, j as usize);
     w.passing
@@ -71,8 +71,7 @@ pub fn begin(
     j: u32,
     state: State,
 ) -> Made
-    ensures { λ r. ⌜ MadeBy (now (text .entry)) (now (store .entry)) (now (store .exit)) state r
-        (run.begin (bookIn (now (book .entry)) (now (index .entry))) (now (text .entry)) j) ⌝ }
+    ensures { λ r. ⌜ Makes text store state r (run.begin (bookAt book index) (now (text .entry)) j) ⌝ }
 {
     if passes(book, index, j) {
         got(0, state)
@@ -92,8 +91,7 @@ pub fn with_cell(
     item: u32,
     state: State,
 ) -> Made
-    ensures { λ r. ⌜ MadeBy (now (text .entry)) (now (store .entry)) (now (store .exit)) state r
-        (run.withCell (bookIn (now (book .entry)) (now (index .entry))) (now (text .entry)) j items item) ⌝ }
+    ensures { λ r. ⌜ Makes text store state r (run.withCell (bookAt book index) (now (text .entry)) j items item) ⌝ }
 {
     if passes(book, index, j) {
         got(item, state)
@@ -127,8 +125,7 @@ pub fn with_token(
     state: State,
 ) -> Made
     requires { ⌜ ItemFits item ⌝ }
-    ensures { λ r. ⌜ MadeBy (now (text .entry)) (now (store .entry)) (now (store .exit)) state r
-        (run.withToken (bookIn (now (book .entry)) (now (index .entry))) (now (text .entry)) j items (itemOf item)) ⌝ }
+    ensures { λ r. ⌜ Makes text store state r (run.withToken (bookAt book index) (now (text .entry)) j items (itemOf item)) ⌝ }
 {
     if adds(item) {
         let m = make(text, store, item_numbers(item), state);
@@ -161,8 +158,7 @@ pub fn value(
     items: u32,
     state: State,
 ) -> Made
-    ensures { λ r. ⌜ MadeBy (now (text .entry)) (now (store .entry)) (now (store .exit)) state r
-        (valueCell (bookIn (now (book .entry)) (now (index .entry))) (now (text .entry)) j items) ⌝ }
+    ensures { λ r. ⌜ Makes text store state r (valueCell (bookAt book index) (now (text .entry)) j items) ⌝ }
 {
     if passes(book, index, j) {
         got(items, state)

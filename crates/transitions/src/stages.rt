@@ -7,13 +7,13 @@ use crate::outcomes::Outcome;
 use crate::outcomes::at_limit;
 use tokens::End;
 
-// How far a path through a variant is: the row of its call, the variant's number, its next step and how many are left, the place reached, and
+// How far a path through a variant is: the row of its call, the variant's number, its next step and how many remain, the place reached, and
 // the chain of the items so far (of a passing variant, its value).
 pub struct Progress {
     pub call: usize,
     pub variant: u32,
     pub step: u32,
-    pub left: u32,
+    pub remaining: u32,
     pub at: u32,
     pub items: u32,
 }

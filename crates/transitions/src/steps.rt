@@ -1,19 +1,13 @@
 // What a variant and its steps do that calls nothing.
 ghost use mathlib.Core.Path.{_≡_};
-ghost use mathlib.Core.List.{_∷_};
-ghost use Prim.Native.Nat.{_<_, _≤_};
-ghost use lib.ListN.{length};
-ghost use Rattle.book.specs.Book.{Book, nthStep};
-ghost use Rattle.book.specs.Index.{bookIn};
-ghost use Rattle.semantics.specs.Steps.{take′};
+ghost use Prim.Native.Nat.{_<_};
 ghost use Rattle.sets.specs.Sets.{parse, parseOf};
-ghost use Rattle.run_model.specs.Model.{rowState, completeRows, stopsRows, listingRows, stepsRows};
-ghost use Rattle.calls.specs.Table.{table};
-ghost use Rattle.tokens.specs.Maps.{endOf, itemOf};
-ghost use Rattle.transitions.specs.Outcomes.{limitOf, Runs};
-ghost use Rattle.transitions.specs.Fit.{Fit, ItemFits};
-ghost use Rattle.transitions.specs.Steps.{Stages, Reaches, StepSpent, Joined, nextRows, unopenedRows, tokenRows};
-ghost use Rattle.transitions.specs.declared.stages.Doing.{Doing};
+ghost use Rattle.tokens.specs.Maps.{itemOf};
+ghost use Rattle.transitions.specs.Outcomes.{limitOf};
+ghost use Rattle.transitions.specs.Fit.{ItemFits};
+ghost use Rattle.transitions.specs.Steps.{StepSpent, Joined};
+ghost use Rattle.transitions.specs.Contracts.{Fitting, Ready, Does, Stages, StagesAll, Reaches};
+ghost use Rattle.transitions.specs.Contracts.{completes, takes, reads, lists, unopens, stops, follows};
 ghost use Rattle.transitions.specs.declared.stages.Next.{Next};
 use crate::items::make;
 use crate::items::value;
@@ -69,10 +63,8 @@ pub fn finish(
     here: Progress,
     state: State,
 ) -> Outcome
-    requires { ⌜ (here .call ≤ 200) × (104922 ≤ length (now rows)) × Fit (bookIn (now book) (now index)) (now text) ⌝ }
-    ensures { λ r. ⌜ Runs (now (text .entry)) (now (store .entry)) (state .cells) (now (store .exit)) (table (now (rows .exit))) r
-        (λ cells. completeRows (bookIn (now (book .entry)) (now (index .entry))) (now (text .entry)) (here .call) (here .variant) (here .at) (here .items)
-        (rowState (state .units) cells (table (now (rows .entry))))) ⌝ }
+    requires { ⌜ Ready book index text rows (here .call) ⌝ }
+    ensures { λ r. ⌜ Does book index text store rows state r (completes here) ⌝ }
 {
     let m = value(book, index, text, store, here.variant, here.items, state);
     let s = m.state;
@@ -100,10 +92,8 @@ pub fn stop(
     at: u32,
     state: State,
 ) -> Reached
-    requires { ⌜ Fit (bookIn (now book) (now index)) (now text) ⌝ }
-    ensures { λ r. ⌜ Reaches (bookIn (now (book .entry)) (now (index .entry))) (now (text .entry)) (now (store .entry)) state (now (store .exit)) (here .variant) r
-        (λ inner n c rest s. stopsRows (bookIn (now (book .entry)) (now (index .entry))) (now (text .entry)) (here .variant) values (endOf closing)
-        (stepsRows (bookIn (now (book .entry)) (now (index .entry))) (now (text .entry)) inner n c (here .variant) rest) at (here .items) s) ⌝ }
+    requires { ⌜ Fitting book index text ⌝ }
+    ensures { λ r. ⌜ Reaches book index text store here state r (stops values closing at here) ⌝ }
 {
     let m = make(text, store, cells::list(values), state);
     if m.limit != 0 {
@@ -170,9 +160,7 @@ fn begin_list(
     place: u32,
     state: State,
 ) -> Stage
-    ensures { λ r. ⌜ ((book : Book) → Stages book (now (text .entry)) (now (store .entry)) state (now (store .exit)) (here .variant) r
-        (λ inner n c rest s. listingRows book (now (text .entry)) inner n c (here .variant) comma nonterminal (endOf closing) rest
-        (stepsRows book (now (text .entry)) inner n c (here .variant) rest) place (here .items) s)) ⌝ }
+    ensures { λ r. ⌜ StagesAll text store here state r (lists comma nonterminal closing place here) ⌝ }
 {
     let m = make(text, store, cells::empty(), state);
     let outcome = at_limit(m.limit, m.state);
@@ -200,9 +188,8 @@ fn unopened(
     place: u32,
     state: State,
 ) -> Reached
-    requires { ⌜ Fit (bookIn (now book) (now index)) (now text) ⌝ }
-    ensures { λ r. ⌜ Reaches (bookIn (now (book .entry)) (now (index .entry))) (now (text .entry)) (now (store .entry)) state (now (store .exit)) (here .variant) r
-        (λ inner n c rest s. unopenedRows (bookIn (now (book .entry)) (now (index .entry))) (now (text .entry)) inner n c (here .variant) rest place (here .items) s) ⌝ }
+    requires { ⌜ Fitting book index text ⌝ }
+    ensures { λ r. ⌜ Reaches book index text store here state r (unopens place here) ⌝ }
 {
     let m = make(text, store, cells::empty(), state);
     if m.limit != 0 {
@@ -234,9 +221,7 @@ fn take_token(
     state: State,
 ) -> Reached
     requires { ⌜ ItemFits item ⌝ }
-    ensures { λ r. ⌜ Reaches (bookIn (now (book .entry)) (now (index .entry))) (now (text .entry)) (now (store .entry)) state (now (store .exit)) (here .variant) r
-        (λ inner n c rest s. tokenRows (bookIn (now (book .entry)) (now (index .entry))) (now (text .entry)) inner n c (here .variant) rest (itemOf item) next
-        (here .items) s) ⌝ }
+    ensures { λ r. ⌜ Reaches book index text store here state r (reads (itemOf item) next here) ⌝ }
 {
     reached_with(
         with_token(
@@ -262,10 +247,8 @@ pub fn take_step(
     here: Progress,
     state: State,
 ) -> Stage
-    requires { ⌜ Fit (bookIn (now book) (now index)) (now text) ⌝ }
-    ensures { λ r. ⌜ Stages (bookIn (now (book .entry)) (now (index .entry))) (now (text .entry)) (now (store .entry)) state (now (store .exit)) (here .variant) r
-        (λ inner n c rest s. stepsRows (bookIn (now (book .entry)) (now (index .entry))) (now (text .entry)) inner n c (here .variant)
-        (take′ (nthStep (bookIn (now (book .entry)) (now (index .entry)) .steps) (here .step)) ∷ rest) (here .at) (here .items) s) ⌝ }
+    requires { ⌜ Fitting book index text ⌝ }
+    ensures { λ r. ⌜ Stages book index text store here state r (takes here) ⌝ }
 {
     let step = book::step(book, index, here.step as usize);
     let spent = step_unit(step, state);
@@ -324,10 +307,8 @@ fn next_element(
     q: Parse,
     state: State,
 ) -> Stage
-    requires { ⌜ Fit (bookIn (now book) (now index)) (now text) ⌝ }
-    ensures { λ r. ⌜ Stages (bookIn (now (book .entry)) (now (index .entry))) (now (text .entry)) (now (store .entry)) state (now (store .exit)) (here .variant) r
-        (λ inner n c rest s. nextRows (bookIn (now (book .entry)) (now (index .entry))) (now (text .entry)) c (here .variant) rest (Next.Elements list) (here .items)
-        (parseOf q) s (stepsRows (bookIn (now (book .entry)) (now (index .entry))) (now (text .entry)) inner n)) ⌝ }
+    requires { ⌜ Fitting book index text ⌝ }
+    ensures { λ r. ⌜ Stages book index text store here state r (follows (Next.Elements list) (parseOf q) here) ⌝ }
 {
     let m = make(text, store, cells::chain(list.values, q.value), state);
     if m.limit != 0 {
@@ -376,10 +357,8 @@ pub fn next_of(
     q: Parse,
     state: State,
 ) -> Stage
-    requires { ⌜ Fit (bookIn (now book) (now index)) (now text) ⌝ }
-    ensures { λ r. ⌜ Stages (bookIn (now (book .entry)) (now (index .entry))) (now (text .entry)) (now (store .entry)) state (now (store .exit)) (here .variant) r
-        (λ inner n c rest s. nextRows (bookIn (now (book .entry)) (now (index .entry))) (now (text .entry)) c (here .variant) rest next (here .items)
-        (parseOf q) s (stepsRows (bookIn (now (book .entry)) (now (index .entry))) (now (text .entry)) inner n)) ⌝ }
+    requires { ⌜ Fitting book index text ⌝ }
+    ensures { λ r. ⌜ Stages book index text store here state r (follows next (parseOf q) here) ⌝ }
 {
     match next {
         Next::Steps => then_steps(reached_with(

@@ -91,7 +91,7 @@ abbrev μ-left-recursion·run-call : Measures 5 left-recursion·run-call-kinds.p
 μ-left-recursion·run-call κs a = 2048 * (a .1 .1 .1 .1 .1 .0) + 4
 
 abbrev μ-parser·choice : Measures 5 parser·choice-kinds.ps ℕ
-μ-parser·choice κs a = 2048 * (a .1 .1 .1 .1 .1 .0) + 6 * (a .1 .1 .1 .1 .1 .1 .0) .left + 9
+μ-parser·choice κs a = 2048 * (a .1 .1 .1 .1 .1 .0) + 6 * (a .1 .1 .1 .1 .1 .1 .0) .remaining + 9
 
 abbrev μ-parser·descend : Measures 5 parser·descend-kinds.ps ℕ
 μ-parser·descend κs a = 2048 * (a .1 .1 .1 .1 .1 .0) + 7
@@ -103,7 +103,7 @@ abbrev μ-parser·one-run : Measures 5 parser·one-run-kinds.ps ℕ
 μ-parser·one-run κs a = 2048 * (a .1 .1 .1 .1 .1 .0) + 2
 
 abbrev μ-parser·steps : Measures 5 parser·steps-kinds.ps ℕ
-μ-parser·steps κs a = 2048 * (a .1 .1 .1 .1 .1 .0) + 6 * (a .1 .1 .1 .1 .1 .1 .0) .left + rankOf (a .1 .1 .1 .1 .1 .1 .1 .0) + 8
+μ-parser·steps κs a = 2048 * (a .1 .1 .1 .1 .1 .0) + 6 * (a .1 .1 .1 .1 .1 .1 .0) .remaining + rankOf (a .1 .1 .1 .1 .1 .1 .1 .0) + 8
 
 abbrev μ-parser·variant : Measures 5 parser·variant-kinds.ps ℕ
 μ-parser·variant κs a = 2048 * (a .1 .1 .1 .1 .1 .0) + 1
@@ -861,10 +861,10 @@ parser·one-run-returns-2 t c =
     one-run-whole _ _ _ _ _ _ _ _ _ _ _ _ _ _ _ (nonterminal-of .ensures) (clear-run .ensures) (nonterminal .ensures) (done .ensures) (variants-end _ _ _ _ _ _ _ _ _ _ _ _ (table (loop .rows)) (loop .o) (loop .inv .4) (if1 .left) (loop .inv .3))
 
 abbrev parser·steps-Inv-loop : parser·steps-lts.InvT-loop
-parser·steps-Inv-loop book index text store₀ rows₀ left here₀ doing₀ o₀ store rows here doing o = (length store ≡ length store₀) × (length rows ≡ length rows₀) × InRange (bookIn book index) here × (6 * here .left + rankOf doing ≤ 6 * here₀ .left + rankOf doing₀) × (Held text store₀ (o₀ .state .cells) → Going text store (o .state .cells) (resumes (bookIn book index) text (runnerRows (bookIn book index) text left) left (here .call) (here .variant) (todoAt (bookIn book index) here) doing (here .at) (here .items) (given o (cellsOf store (o .state .cells)) (table rows))) (resumes (bookIn book index) text (runnerRows (bookIn book index) text left) left (here₀ .call) (here₀ .variant) (todoAt (bookIn book index) here₀) doing₀ (here₀ .at) (here₀ .items) (given o₀ (cellsOf store₀ (o₀ .state .cells)) (table rows₀))))
+parser·steps-Inv-loop book index text store₀ rows₀ left here₀ doing₀ o₀ store rows here doing o = (length store ≡ length store₀) × (length rows ≡ length rows₀) × InRange (bookIn book index) here × (6 * here .remaining + rankOf doing ≤ 6 * here₀ .left + rankOf doing₀) × (Held text store₀ (o₀ .state .cells) → Going text store (o .state .cells) (resumes (bookIn book index) text (runnerRows (bookIn book index) text left) left (here .call) (here .variant) (todoAt (bookIn book index) here) doing (here .at) (here .items) (given o (cellsOf store (o .state .cells)) (table rows))) (resumes (bookIn book index) text (runnerRows (bookIn book index) text left) left (here₀ .call) (here₀ .variant) (todoAt (bookIn book index) here₀) doing₀ (here₀ .at) (here₀ .items) (given o₀ (cellsOf store₀ (o₀ .state .cells)) (table rows₀))))
 
 abbrev parser·steps-μ-loop : parser·steps-lts.MeasureT-loop
-parser·steps-μ-loop book index text store₀ rows₀ left here₀ doing₀ o₀ store rows here doing o = here .left
+parser·steps-μ-loop book index text store₀ rows₀ left here₀ doing₀ o₀ store rows here doing o = here .remaining
 
 parser·steps-loop-holds : (t : ℕ) → parser·steps-lts.Need-loop-holds (parser·steps-callees t) (parser·steps-at t) parser·steps.Post parser·steps-Inv-loop parser·steps-μ-loop
 parser·steps-loop-holds t c = (refl, refl, (c .before .before .before .before .before) .pre .1 .3, omega arith, λ held. record { held = held; is = refl })
@@ -901,7 +901,7 @@ parser·steps-returns t c =
     let enum-told = c .before .before .before .before .before .before .before .before .before .enum-told in
     let if2 = c .before .before .before .before .before .before .before .if2 in
     let finish = c .before .before .before .before .finish in
-    path-end _ _ _ _ (loop .here .call) (loop .here .variant) (loop .here .step) (loop .here .left) _ _ _ (loop .o) _ _ _ _ (table (loop .rows)) (loop .inv .4) (sym (goes-on .ensures) ∙ if1 .taken) (enum-told .given .1) _ _ _ (if2 .taken) (finish .ensures)
+    path-end _ _ _ _ (loop .here .call) (loop .here .variant) (loop .here .step) (loop .here .remaining) _ _ _ (loop .o) _ _ _ _ (table (loop .rows)) (loop .inv .4) (sym (goes-on .ensures) ∙ if1 .taken) (enum-told .given .1) _ _ _ (if2 .taken) (finish .ensures)
 
 parser·steps-take-step-requires : (t : ℕ) → parser·steps-lts.Need-take-step-requires (parser·steps-callees t) (parser·steps-at t) parser·steps.Post parser·steps-Inv-loop parser·steps-μ-loop
 parser·steps-take-step-requires t c κs =
@@ -929,7 +929,7 @@ parser·steps-loop-again t c =
     let enum-told = c .before .before .before .before .before .before .before .before .before .enum-told in
     let if2 = c .before .before .before .before .before .before .before .if2 in
     let take-step = c .before .before .before .before .before .take-step in
-    (take-step .kept .1 .1 .1 .0 ∙ loop .inv .0, loop .inv .1, (loop .inv .2 .0, omega (arith, loop .inv .2 .1), omega (arith, loop .inv .2 .2, if2 .left)), omega (arith, loop .inv .3, if2 .left, rank-few (take-step .result .doing)), path-step _ _ _ _ (loop .here .call) (loop .here .variant) (loop .here .step) (loop .here .left) _ _ _ (loop .o) _ _ _ _ (table (loop .rows)) (loop .inv .4) (sym (goes-on .ensures) ∙ if1 .taken) (enum-told .given .1) _ _ (if2 .left) (loop .inv .2 .2) (take-step .ensures))
+    (take-step .kept .1 .1 .1 .0 ∙ loop .inv .0, loop .inv .1, (loop .inv .2 .0, omega (arith, loop .inv .2 .1), omega (arith, loop .inv .2 .2, if2 .left)), omega (arith, loop .inv .3, if2 .left, rank-few (take-step .result .doing)), path-step _ _ _ _ (loop .here .call) (loop .here .variant) (loop .here .step) (loop .here .remaining) _ _ _ (loop .o) _ _ _ _ (table (loop .rows)) (loop .inv .4) (sym (goes-on .ensures) ∙ if1 .taken) (enum-told .given .1) _ _ (if2 .left) (loop .inv .2 .2) (take-step .ensures))
 
 parser·steps-enum-known-doing : (t : ℕ) → parser·steps-lts.Need-enum-known-doing (parser·steps-callees t) (parser·steps-at t) parser·steps.Post parser·steps-Inv-loop parser·steps-μ-loop
 parser·steps-enum-known-doing t c = search needs
@@ -959,7 +959,7 @@ parser·steps-returns-2 t c =
     let if1 = c .before .before .before .before .before .before .before .before .before .before .if1 in
     let doing = c .before .before .before .before .before .before .before .before .doing in
     let descend = c .before .before .before .before .descend in
-    path-child _ _ _ _ (loop .here .call) (loop .here .variant) (loop .here .step) (loop .here .left) _ _ _ (loop .o) _ _ _ _ (table (loop .rows)) (loop .inv .4) (sym (goes-on .ensures) ∙ if1 .taken) _ _ _ _ (doing .given .1) (descend .ensures)
+    path-child _ _ _ _ (loop .here .call) (loop .here .variant) (loop .here .step) (loop .here .remaining) _ _ _ (loop .o) _ _ _ _ (table (loop .rows)) (loop .inv .4) (sym (goes-on .ensures) ∙ if1 .taken) _ _ _ _ (doing .given .1) (descend .ensures)
 
 parser·steps-enum-known-doing-2 : (t : ℕ) → parser·steps-lts.Need-enum-known-doing-2 (parser·steps-callees t) (parser·steps-at t) parser·steps.Post parser·steps-Inv-loop parser·steps-μ-loop
 parser·steps-enum-known-doing-2 t c = search needs
@@ -990,7 +990,7 @@ parser·steps-returns-3 t c =
     let if1 = c .before .before .before .before .before .before .before .before .before .before .if1 in
     let doing2 = c .before .before .before .before .before .before .before .before .doing2 in
     let choice = c .before .before .before .before .choice in
-    path-optional _ _ _ _ (loop .here .call) (loop .here .variant) (loop .here .step) (loop .here .left) _ _ _ (loop .o) _ _ _ _ (table (loop .rows)) (loop .inv .4) (sym (goes-on .ensures) ∙ if1 .taken) _ _ _ _ (doing2 .given .1) (choice .ensures)
+    path-optional _ _ _ _ (loop .here .call) (loop .here .variant) (loop .here .step) (loop .here .remaining) _ _ _ (loop .o) _ _ _ _ (table (loop .rows)) (loop .inv .4) (sym (goes-on .ensures) ∙ if1 .taken) _ _ _ _ (doing2 .given .1) (choice .ensures)
 
 parser·steps-enum-known-doing-3 : (t : ℕ) → parser·steps-lts.Need-enum-known-doing-3 (parser·steps-callees t) (parser·steps-at t) parser·steps.Post parser·steps-Inv-loop parser·steps-μ-loop
 parser·steps-enum-known-doing-3 t c = search needs
@@ -1021,7 +1021,7 @@ parser·steps-returns-4 t c =
     let if1 = c .before .before .before .before .before .before .before .before .before .before .if1 in
     let doing3 = c .before .before .before .before .before .before .before .before .doing3 in
     let choice2 = c .before .before .before .before .choice2 in
-    path-elements _ _ _ _ (loop .here .call) (loop .here .variant) (loop .here .step) (loop .here .left) _ _ _ (loop .o) _ _ _ _ (table (loop .rows)) (loop .inv .4) (sym (goes-on .ensures) ∙ if1 .taken) _ _ _ _ (doing3 .given .1) (choice2 .ensures)
+    path-elements _ _ _ _ (loop .here .call) (loop .here .variant) (loop .here .step) (loop .here .remaining) _ _ _ (loop .o) _ _ _ _ (table (loop .rows)) (loop .inv .4) (sym (goes-on .ensures) ∙ if1 .taken) _ _ _ _ (doing3 .given .1) (choice2 .ensures)
 
 parser·steps-same-length-9 : (t : ℕ) → parser·steps-lts.Need-same-length-9 (parser·steps-callees t) (parser·steps-at t) parser·steps.Post parser·steps-Inv-loop parser·steps-μ-loop
 parser·steps-same-length-9 t c = (c .before .before .loop) .inv .0
@@ -1034,7 +1034,7 @@ parser·steps-returns-5 t c =
     let loop = c .before .before .loop in
     let goes-on = c .before .goes-on in
     let if1 = c .if1 in
-    path-ended _ _ _ _ (loop .here .call) (loop .here .variant) (loop .here .step) (loop .here .left) _ _ _ (loop .o) _ _ _ _ (table (loop .rows)) (loop .inv .4) (sym (goes-on .ensures) ∙ if1 .left)
+    path-ended _ _ _ _ (loop .here .call) (loop .here .variant) (loop .here .step) (loop .here .remaining) _ _ _ (loop .o) _ _ _ _ (table (loop .rows)) (loop .inv .4) (sym (goes-on .ensures) ∙ if1 .left)
 
 parser·variant-variant-requires : (t : ℕ) → parser·variant-lts.Need-variant-requires (parser·variant-callees t) (parser·variant-at t) parser·variant.Post
 parser·variant-variant-requires t c κs = search needs

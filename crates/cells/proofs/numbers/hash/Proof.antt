@@ -6,6 +6,9 @@ use borrow.Author.Needs.{needs}
 use Rattle.cells.proofs.numbers.hash.Statement.{statement}
 use Rattle.cells.proofs.numbers.hash.Tie as tie
 
+cast-mix-bytes : tie.Need-cast-mix-bytes
+cast-mix-bytes c = search needs
+
 cast-part : tie.Need-cast-part
 cast-part c = search needs
 
@@ -55,6 +58,7 @@ pub hash-spec : {M : Type 1} → statement M
 hash-spec =
     tie.close
     (tie.spec
+    cast-mix-bytes
     cast-part
     cast-part-2
     part-requires

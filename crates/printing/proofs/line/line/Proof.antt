@@ -3,7 +3,7 @@ use borrow.Author.Needs.{needs}
 use Rattle.book.specs.Index.{bookIn}
 use Rattle.printing.specs.LayingLaws.{lays-then, lays-as}
 use Rattle.printing.specs.LineLaws.{line-refused, line-value}
-use Rattle.run.specs.Reading.{answerIn}
+use Rattle.run.specs.Promise.{answerIn}
 use Rattle.printing.proofs.line.line.Statement.{statement}
 use Rattle.printing.proofs.line.line.Tie as tie
 

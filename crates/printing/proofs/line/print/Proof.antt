@@ -1,7 +1,7 @@
 -- `printing::print` meets its contract.
 use borrow.Author.Needs.{needs}
 use Rattle.book.specs.Index.{bookIn}
-use Rattle.run.specs.Reading.{answerIn}
+use Rattle.run.specs.Promise.{answerIn}
 use Rattle.printing.specs.Printing.{lineBytes}
 use Rattle.printing.specs.LineLaws.{prints-whole, prints-nothing}
 use Rattle.printing.proofs.line.print.Statement.{statement}

@@ -3,7 +3,7 @@ use mathlib.Core.Path.{_∙_}
 use borrow.Author.Needs.{needs}
 use Rattle.printing.specs.LayingLaws.{lays-then, lays-as}
 use Rattle.printing.specs.LineLaws.{refused-fields}
-use Rattle.run.specs.Reading.{answerIn}
+use Rattle.run.specs.Promise.{answerIn}
 use Rattle.printing.proofs.line.refused.Statement.{statement}
 use Rattle.printing.proofs.line.refused.Tie as tie
 

@@ -1,0 +1,122 @@
+-- What the contracts of this crate and of parser say of the slices that a function is lent: the book and its index, the text, the
+-- store of cells and the rows. Each unfolds to a definition of Outcomes or Steps. Scaffolding: no definition of document 01.
+--
+-- What is asked: Fitting, Ready. What is promised: Makes of a cell, Does of a part of the run, Continues of one that goes on from an
+-- outcome, Stages and Reaches of a part that calls nothing. Then the parts of the model, from where a path is.
+use mathlib.Core.Bool.{Bool}
+use mathlib.Core.List.{List, _∷_}
+use mathlib.Core.Option.{Option}
+use Prim.Native.Nat.{ℕ, _≤_}
+use lib.ListN.{length}
+use denote.Ref.{now}
+use Rattle.characters.specs.Slices.{Slice, Lent, atEntry, atExit, rowsSize}
+use Rattle.book.specs.Book.{Book, nthStep}
+use Rattle.book.specs.Index.{bookIn, bookAt}
+use Rattle.semantics.specs.Values.{Parse}
+use Rattle.semantics.specs.Steps.{Item, take′}
+use Rattle.semantics.specs.Run as run
+use Rattle.semantics.specs.Run.{Result}
+use Rattle.run_model.specs.Model.{RowState, rowState, Outcome, runIdentifierRows, completeRows}
+use Rattle.run_model.specs.Model.{stopsRows, listingRows, stepsRows}
+use Rattle.calls.specs.Table.{tableAt, tableAfter}
+use Rattle.tokens.specs.Maps.{endOf}
+use Rattle.tokens.specs.declared.tokens.End.{End}
+use Rattle.transitions.specs.declared.outcomes.Outcome as code
+use Rattle.transitions.specs.declared.outcomes.State.{State}
+use Rattle.transitions.specs.declared.items.Made.{Made}
+use Rattle.transitions.specs.declared.stages.Progress.{Progress}
+use Rattle.transitions.specs.declared.stages.Next.{Next}
+use Rattle.transitions.specs.declared.stages.Reached.{Reached}
+use Rattle.transitions.specs.declared.stages.Stage.{Stage}
+use Rattle.transitions.specs.Outcomes.{Runs, MadeBy, given}
+use Rattle.transitions.specs.Fit.{Fit}
+use Rattle.transitions.specs.Steps as steps
+use Rattle.transitions.specs.Steps.{Part, nextRows, sideRows, unopenedRows, tokenRows}
+
+-- ---- What is asked
+-- the numbers of the book and of the text fit into 32 bits
+abbrev pub Fitting : Slice → Slice → Slice → Type 0
+Fitting book index text = Fit (bookIn (now book) (now index)) (now text)
+
+-- and the row is one of the table
+abbrev pub Ready : Slice → Slice → Slice → Slice → ℕ → Type 0
+Ready book index text rows row = (row ≤ 200) × (rowsSize ≤ length (now rows)) × Fitting book index text
+
+-- ---- What is promised
+-- a cell is made
+abbrev pub Makes : Lent → Lent → State → Made → (run.State → Result run.Made) → Type 0
+Makes text store s m part = MadeBy (atEntry text) (atEntry store) (atExit store) s m part
+
+-- a part of the run, from a state
+abbrev pub Does : Lent → Lent → Lent → Lent → Lent → State → code.Outcome → (Book → List ℕ → RowState → Result Outcome) → Type 0
+Does book index text store rows s r part =
+    Runs (atEntry text) (atEntry store) (s .cells) (atExit store) (tableAfter rows) r
+    (λ cells. part (bookAt book index) (atEntry text) (rowState (s .units) cells (tableAt rows)))
+
+-- a part of the run, after an outcome
+abbrev pub Continues :
+    Lent → Lent → Lent → Lent → Lent → code.Outcome → code.Outcome → (Book → List ℕ → Result Outcome → Result Outcome) → Type 0
+Continues book index text store rows before r part =
+    Runs (atEntry text) (atEntry store) (before .state .cells) (atExit store) (tableAfter rows) r
+    (λ cells. part (bookAt book index) (atEntry text) (given before cells (tableAt rows)))
+
+-- a part that calls nothing, and what the path does next
+abbrev pub Stages : Lent → Lent → Lent → Lent → Progress → State → Stage → (Book → List ℕ → Part) → Type 0
+Stages book index text store here s g part =
+    steps.Stages (bookAt book index) (atEntry text) (atEntry store) s (atExit store) (here .variant) g
+    (part (bookAt book index) (atEntry text))
+
+-- the same of a part that reads no book
+abbrev pub StagesAll : Lent → Lent → Progress → State → Stage → (Book → List ℕ → Part) → Type 0
+StagesAll text store here s g part =
+    (book : Book) →
+    steps.Stages book (atEntry text) (atEntry store) s (atExit store) (here .variant) g (part book (atEntry text))
+
+-- the same where the steps left come next
+abbrev pub Reaches : Lent → Lent → Lent → Lent → Progress → State → Reached → (Book → List ℕ → Part) → Type 0
+Reaches book index text store here s g part =
+    steps.Reaches (bookAt book index) (atEntry text) (atEntry store) s (atExit store) (here .variant) g
+    (part (bookAt book index) (atEntry text))
+
+-- ---- Parts of the model
+-- a use of mark 2, in row n
+abbrev pub identifies : ℕ → ℕ → ℕ → Book → List ℕ → RowState → Result Outcome
+identifies n N u book text s = runIdentifierRows book text n N u s
+
+-- ---- From where a path is
+-- the variant's end
+abbrev pub completes : Progress → Book → List ℕ → RowState → Result Outcome
+completes here book text s = completeRows book text (here .call) (here .variant) (here .at) (here .items) s
+
+-- the next step
+abbrev pub takes : Progress → Book → List ℕ → Part
+takes here book text inner n c rest s =
+    stepsRows book text inner n c (here .variant) (take′ (nthStep (book .steps) (here .step)) ∷ rest) (here .at) (here .items) s
+
+-- a token was read
+abbrev pub reads : Option Item → ℕ → Progress → Book → List ℕ → Part
+reads item next here book text inner n c rest s = tokenRows book text inner n c (here .variant) rest item next (here .items) s
+
+-- a list begins at a place
+abbrev pub lists : Bool → ℕ → End → ℕ → Progress → Book → List ℕ → Part
+lists comma M closing place here book text inner n c rest s =
+    listingRows book text inner n c (here .variant) comma M (endOf closing) rest
+    (stepsRows book text inner n c (here .variant) rest) place (here .items) s
+
+-- kind 13 without its opening
+abbrev pub unopens : ℕ → Progress → Book → List ℕ → Part
+unopens place here book text inner n c rest s = unopenedRows book text inner n c (here .variant) rest place (here .items) s
+
+-- a list stops at a place
+abbrev pub stops : ℕ → End → ℕ → Progress → Book → List ℕ → Part
+stops values closing place here book text inner n c rest s =
+    stopsRows book text (here .variant) values (endOf closing) (stepsRows book text inner n c (here .variant) rest) place (here .items) s
+
+-- the first side of a choice
+abbrev pub sides : Next → Progress → Book → List ℕ → Part
+sides next here book text inner n c rest s = sideRows book text inner n c (here .variant) rest next (here .at) (here .items) s
+
+-- what follows a parse
+abbrev pub follows : Next → Parse ℕ → Progress → Book → List ℕ → Part
+follows next q here book text inner n c rest s =
+    nextRows book text c (here .variant) rest next (here .items) q s (stepsRows book text inner n)
