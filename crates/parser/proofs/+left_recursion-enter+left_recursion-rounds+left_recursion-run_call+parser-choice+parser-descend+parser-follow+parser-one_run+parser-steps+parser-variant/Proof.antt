@@ -861,7 +861,7 @@ parser·one-run-returns-2 t c =
     one-run-whole _ _ _ _ _ _ _ _ _ _ _ _ _ _ _ (nonterminal-of .ensures) (clear-run .ensures) (nonterminal .ensures) (done .ensures) (variants-end _ _ _ _ _ _ _ _ _ _ _ _ (table (loop .rows)) (loop .o) (loop .inv .4) (if1 .left) (loop .inv .3))
 
 abbrev parser·steps-Inv-loop : parser·steps-lts.InvT-loop
-parser·steps-Inv-loop book index text store₀ rows₀ left here₀ doing₀ o₀ store rows here doing o = (length store ≡ length store₀) × (length rows ≡ length rows₀) × InRange (bookIn book index) here × (6 * here .remaining + rankOf doing ≤ 6 * here₀ .left + rankOf doing₀) × (Held text store₀ (o₀ .state .cells) → Going text store (o .state .cells) (resumes (bookIn book index) text (runnerRows (bookIn book index) text left) left (here .call) (here .variant) (todoAt (bookIn book index) here) doing (here .at) (here .items) (given o (cellsOf store (o .state .cells)) (table rows))) (resumes (bookIn book index) text (runnerRows (bookIn book index) text left) left (here₀ .call) (here₀ .variant) (todoAt (bookIn book index) here₀) doing₀ (here₀ .at) (here₀ .items) (given o₀ (cellsOf store₀ (o₀ .state .cells)) (table rows₀))))
+parser·steps-Inv-loop book index text store₀ rows₀ left here₀ doing₀ o₀ store rows here doing o = (length store ≡ length store₀) × (length rows ≡ length rows₀) × InRange (bookIn book index) here × (6 * here .remaining + rankOf doing ≤ 6 * here₀ .remaining + rankOf doing₀) × (Held text store₀ (o₀ .state .cells) → Going text store (o .state .cells) (resumes (bookIn book index) text (runnerRows (bookIn book index) text left) left (here .call) (here .variant) (todoAt (bookIn book index) here) doing (here .at) (here .items) (given o (cellsOf store (o .state .cells)) (table rows))) (resumes (bookIn book index) text (runnerRows (bookIn book index) text left) left (here₀ .call) (here₀ .variant) (todoAt (bookIn book index) here₀) doing₀ (here₀ .at) (here₀ .items) (given o₀ (cellsOf store₀ (o₀ .state .cells)) (table rows₀))))
 
 abbrev parser·steps-μ-loop : parser·steps-lts.MeasureT-loop
 parser·steps-μ-loop book index text store₀ rows₀ left here₀ doing₀ o₀ store rows here doing o = here .remaining
@@ -1057,8 +1057,8 @@ parser·variant-cast-first t c =
     let variant = c .before .before .before .before .before .before .before .before .before .before .variant in
     omega (arith, steps-fit _ _ _ _ (start .pre .1 .2) (variant .ensures))
 
-parser·variant-cast-number : (t : ℕ) → parser·variant-lts.Need-cast-number (parser·variant-callees t) (parser·variant-at t) parser·variant.Post
-parser·variant-cast-number t c =
+parser·variant-cast-count : (t : ℕ) → parser·variant-lts.Need-cast-count (parser·variant-callees t) (parser·variant-at t) parser·variant.Post
+parser·variant-cast-count t c =
     let start = c .before .before .before .before .before .before .before .before .before .before .before .before .before .before .before .before .before in
     let variant = c .before .before .before .before .before .before .before .before .before .before .before .variant in
     omega (arith, steps-fit _ _ _ _ (start .pre .1 .2) (variant .ensures))
@@ -1268,7 +1268,7 @@ pub +left-recursion·enter+left-recursion·rounds+left-recursion·run-call+parse
     (parser·variant-returns t)
     (parser·variant-begin-variant-requires t)
     (parser·variant-cast-first t)
-    (parser·variant-cast-number t)
+    (parser·variant-cast-count t)
     (parser·variant-sub-steps t)
     (parser·variant-steps-requires t)
     (parser·variant-counted-requires t)
