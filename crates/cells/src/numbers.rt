@@ -163,7 +163,10 @@ pub fn hash(text: &[u8], cell: Numbers) -> usize
     ensures { λ r. ⌜ (r ≡ hashOf (now (text .entry)) cell) × (r < 1024) ⌝ }
 {
     if cell.form == NAME_FORM {
-        return mix_bytes(NAME_FORM as usize, part(text, cell.a as usize, cell.b as usize));
+        return mix_bytes(
+            NAME_FORM as usize,
+            part(text, cell.a as usize, cell.b as usize),
+        );
     }
     mix(
         mix(mix(0, cell.form as usize), cell.a as usize),

@@ -65,7 +65,16 @@ fn run_call(
     if !e.again {
         return after;
     }
-    rounds(book, index, text, store, rows, nesting, minimum, after.state)
+    rounds(
+        book,
+        index,
+        text,
+        store,
+        rows,
+        nesting,
+        minimum,
+        after.state,
+    )
 }
 
 // A use of a nonterminal at a skipped place: one unit, the governor, then one level of nesting. Its parses are what row `nesting`
@@ -84,7 +93,17 @@ pub fn enter(
     requires { ⌜ Ready book index text rows nesting ⌝ }
     ensures { λ r. ⌜ Does book index text store rows state r (enters nesting nonterminal u) ⌝ }
 {
-    let e = begin_use(book, index, text, store, rows, nesting, nonterminal, u, state);
+    let e = begin_use(
+        book,
+        index,
+        text,
+        store,
+        rows,
+        nesting,
+        nonterminal,
+        u,
+        state,
+    );
     let o = e.outcome;
     if !e.runs {
         return o;

@@ -123,7 +123,17 @@ fn descend(
     ensures { λ r. ⌜ Does book index text store rows state r (descends nesting here next nonterminal) ⌝ }
 {
     let u = begin_child(text, rows, here);
-    let o = enter(book, index, text, store, rows, nesting, nonterminal, u, state);
+    let o = enter(
+        book,
+        index,
+        text,
+        store,
+        rows,
+        nesting,
+        nonterminal,
+        u,
+        state,
+    );
     follow(book, index, text, store, rows, nesting, here, next, o)
 }
 
@@ -318,7 +328,18 @@ fn steps(
             Doing::Elements(list) => {
                 let m = list.nonterminal;
                 let next = Next::Elements(list);
-                return choice(book, index, text, store, rows, nesting, here, next, m, o.state);
+                return choice(
+                    book,
+                    index,
+                    text,
+                    store,
+                    rows,
+                    nesting,
+                    here,
+                    next,
+                    m,
+                    o.state,
+                );
             }
         }
     }

@@ -18,6 +18,9 @@ returns c =
     let if1 = c .before .if1 in
     not-in-book _ _ _ _ _ _ _ (c .refused .result) (nonterminals .ensures (args .book .now)) (if1 .taken) (c .refused .ensures)
 
+cast-if2 : tie.Need-cast-if2
+cast-if2 c = search needs
+
 refused-requires-2 : tie.Need-refused-requires-2
 refused-requires-2 c κs = search needs
 
@@ -88,6 +91,7 @@ on-book-spec =
     nonterminals-requires
     refused-requires
     returns
+    cast-if2
     refused-requires-2
     returns-2
     first-high-requires
