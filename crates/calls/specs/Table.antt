@@ -1,4 +1,5 @@
--- The table of rows in a list of numbers: 201 rows of 522 numbers. A row is eight numbers and two sets of 257 numbers, the stored one and the run's.
+-- The table of rows in a list of numbers: 201 rows of 522 numbers. A row is eight numbers and two sets of 257 numbers,
+-- the stored one and the run's.
 use mathlib.Core.Path.{_≡_}
 use mathlib.Core.Bool.{Bool, cond}
 use mathlib.Core.List.{List, [], _∷_}
@@ -94,8 +95,8 @@ abbrev pub answeredIn : List Row → ℕ → ℕ → List Row
 answeredIn T n g = onRow (onRow T g wasAsked) n (λ t. ended (withSet (kept (useAt (rowOf T g)) (rowOf T g .set)) t))
 
 -- ---- The end of a run
--- how the call of row c goes on after a run, by the code's answer: it has failed, with what the variants' failure was, it is over, it is run again, or it
--- has met a limit
+-- how the call of row c goes on after a run, by the code's answer: it has failed, with what the variants' failure was,
+-- it is over, it is run again, or it has met a limit
 abbrev pub goesOn : Settled → ℕ → (RowState → Result Outcome) → Option Error → RowState → Result Outcome
 goesOn Settled.Failed c again failure s = ok (outcome (some (failedCall (bareCall (rowOf (s .rows) c .nonterminal) (rowOf (s .rows) c .start)) failure)) s)
 goesOn Settled.Over c again failure s = ok (outcome none s)

@@ -1,16 +1,17 @@
 // The open calls, and what calls found, in a lent slice of numbers. Document 01, "The run".
 //
-// The slice is a table of 201 rows, one for each level of nesting, of 522 numbers each. A row's number is the levels of nesting
-// left: the outermost call has row 200. A row is eight numbers (live, nonterminal, scope, start, level, associativity, child, asked)
-// and two sets: what the call has stored or found, and what the run at hand has found. Every slice of 104,922 numbers gives a table
-// (`table` of specs/Table.antt), so nothing needs to be cleared: a row is written before it is read.
+// The slice is a table of 201 rows, one for each level of nesting, of 522 numbers each. A row's number is the levels of
+// nesting left: the outermost call has row 200. A row is eight numbers (live, nonterminal, scope, start, level,
+// associativity, child, asked) and two sets: what the call has stored or found, and what the run at hand has found.
+// Every slice of 104,922 numbers gives a table (`table` of specs/Table.antt), so nothing needs to be cleared: a row is
+// written before it is read.
 //
-// Each function equals the definition of the same name in the crate run_model (specs/Rows.antt and specs/Model.antt there), on the
-// table that the slice gives, and changes at most one row of it, `answer` two. It asks only that the slice has its numbers and that
-// the row is one of the table (`InTable`).
+// Each function equals the definition of the same name in the crate run_model (specs/Rows.antt and specs/Model.antt
+// there), on the table that the slice gives, and changes at most one row of it, `answer` two. It asks only that the
+// slice has its numbers and that the row is one of the table (`InTable`).
 //
-// The crate relies on the promises of sets and book and on the definitions of book, semantics and run_model, and assumes nothing.
-// specs/ has the definitions (Table) and laws.
+// The crate relies on the promises of sets and book and on the definitions of book, semantics and run_model, and
+// assumes nothing. specs/ has the definitions (Table) and laws.
 ghost use mathlib.Core.Path.{_≡_};
 ghost use mathlib.Core.List.{[], _∷_};
 ghost use Prim.Native.Nat.{suc, _-_};
@@ -22,7 +23,8 @@ ghost use Rattle.semantics.specs.Run.{allIn, kept};
 ghost use Rattle.sets.specs.Sets.{parseOf, noParse};
 ghost use Rattle.run_model.specs.Rows as model;
 ghost use Rattle.run_model.specs.Rows.{useAt, withSet};
-ghost use Rattle.calls.specs.Table.{InTable, NumberIn, Below, tableAt, tableAfter, rowIn, Changes, field, fieldOf};
+ghost use Rattle.calls.specs.Table.{InTable, NumberIn, Below, tableAt, tableAfter, rowIn, Changes};
+ghost use Rattle.calls.specs.Table.{field, fieldOf};
 ghost use Rattle.calls.specs.Table.{RunAdded, RunJoined, governorIn, answeredIn, SettledFirst, SettledNext};
 use book::Associativity;
 use book::Mark;
@@ -317,8 +319,8 @@ pub fn answer(rows: &mut [u32], n: usize, governor: usize)
 }
 
 // ---- The end of a run
-// After the first run: its set is the call's. "If a first run found parses and asked for the call's stored ones, .. it is run
-// again"
+// After the first run: its set is the call's. "If a first run found parses and asked for the call's stored ones, .. it
+// is run again"
 pub fn settle_first(rows: &mut [u32], row: usize) -> Settled
     requires { ⌜ InTable row rows ⌝ }
     ensures { λ r. ⌜ SettledFirst r (tableAt rows) (tableAfter rows) row ⌝ }

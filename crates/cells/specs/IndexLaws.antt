@@ -1,4 +1,5 @@
--- Laws of the index: every equal cell is found, by what `Holds` says, and the first equal one is found, since equal ones stand in a list once.
+-- Laws of the index: every equal cell is found, by what `Holds` says, and the first equal one is found, since equal
+-- ones stand in a list once.
 use mathlib.Core.Path.{_≡_, refl, sym, _∙_}
 use mathlib.Core.Bool.{true, false}
 use mathlib.Core.List.{List, [], _∷_}

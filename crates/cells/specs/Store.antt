@@ -1,8 +1,8 @@
--- Cells as numbers in a store, with an index by which the cell equal to a wanted one is found. This is no part of what document 01 says: `Makes` relates the
--- store to the list of cells and to `make` of the definitions.
+-- Cells as numbers in a store, with an index by which the cell equal to a wanted one is found. This is no part of what
+-- document 01 says: `Makes` relates the store to the list of cells and to `make` of the definitions.
 --
--- The store has the three numbers of cell n at 3n - 3, its link at 12,287 + n, and the head of hash h at 16,384 + h. A head is the newest cell of its hash, a
--- link the next older one of the same hash, and 0 ends the chain.
+-- The store has the three numbers of cell n at 3n - 3, its link at 12,287 + n, and the head of hash h at 16,384 + h. A
+-- head is the newest cell of its hash, a link the next older one of the same hash, and 0 ends the chain.
 use mathlib.Core.Path.{_≡_}
 use mathlib.Core.Bool.{Bool, cond}
 use mathlib.Core.List.{List, [], _∷_, _++_}

@@ -13,8 +13,8 @@ pub struct Numbers {
 }
 
 // ---- The forms
-// "1 empty chain (made as a variant begins); 2 chain, item; 3 variant .., chain; 4 name place, length ..; 5 number high, low half; 6 name
-// number, kind; 7 absent; 8 list, chain"
+// "1 empty chain (made as a variant begins); 2 chain, item; 3 variant .., chain; 4 name place, length ..; 5 number
+// high, low half; 6 name number, kind; 7 absent; 8 list, chain"
 pub const EMPTY_FORM: u32 = 1;
 
 pub const CHAIN_FORM: u32 = 2;

@@ -1,12 +1,14 @@
 // Which error counts: the furthest, carried by value. Document 01, "Errors".
 //
-// Every function equals a definition of `semantics` (Errors, Run) on all errors; specs/Maps.antt says what each struct and enum stands
-// for. Where the run's definition takes a whole call, the function takes the call's numbers, and specs/Failures.antt proves that the two
-// agree. No function has a `requires`. The error of a step that takes nothing is made in `tokens`.
+// Every function equals a definition of `semantics` (Errors, Run) on all errors; specs/Maps.antt says what each struct
+// and enum stands for. Where the run's definition takes a whole call, the function takes the call's numbers, and
+// specs/Failures.antt proves that the two agree. No function has a `requires`. The error of a step that takes nothing
+// is made in `tokens`.
 //
 // The crate relies on the definitions of `semantics`, and assumes nothing.
 ghost use mathlib.Core.Path.{_≡_};
-ghost use Rattle.semantics.specs.Errors.{wins as winsOver, join as joined, beyond as errorBeyond, joinWith, choiceError};
+ghost use Rattle.semantics.specs.Errors.{wins as winsOver, join as joined, beyond as errorBeyond};
+ghost use Rattle.semantics.specs.Errors.{joinWith, choiceError};
 ghost use Rattle.semantics.specs.Run.{either as eitherOf};
 ghost use Rattle.errors.specs.Failures.{counted as countedOf, failedCall, chosen as chosenOf};
 ghost use Rattle.errors.specs.Maps.{errorOf, failureOf};
@@ -110,7 +112,8 @@ pub fn either(first: Failure, second: Failure) -> Failure
     Failure::At(join(e, f))
 }
 
-// Both sides of a choice failed: their error, where it consumed something since the choice, else that more was wanted there.
+// Both sides of a choice failed: their error, where it consumed something since the choice, else that more was wanted
+// there.
 pub fn choice_error(at: usize, nonterminal: usize, a: Error, b: Error) -> Error
     ensures { λ r. ⌜ errorOf r ≡ choiceError at nonterminal (errorOf a) (errorOf b) ⌝ }
 {

@@ -1,8 +1,8 @@
-// Worked cases of the lower layers, each compared with what document 01 makes of it. For each group it writes how many cases there are and how
-// many differ; before that, the number of each that differs.
+// Worked cases of the lower layers, each compared with what document 01 makes of it. For each group it writes how many
+// cases there are and how many differ; before that, the number of each that differs.
 //
-// Characters: classes, skipping, tokens, spellings. Books: those of data/books.bin, whose form, and how it was made, is told in
-// tools/book_cases.py: each refusal, and each field of an accepted book. Questions: words and names of a book.
+// Characters: classes, skipping, tokens, spellings. Books: those of data/books.bin, whose form, and how it was made, is
+// told in tools/book_cases.py: each refusal, and each field of an accepted book. Questions: words and names of a book.
 mod classes;
 mod compare;
 mod questions;

@@ -1,4 +1,5 @@
--- Laws for children: the call of one, and what follows its parses. One for each return and each turn of a loop, over the code's own values.
+-- Laws for children: the call of one, and what follows its parses. One for each return and each turn of a loop, over
+-- the code's own values.
 use mathlib.Core.Path.{_≡_, refl, sym, ap, subst, _∙_}
 use mathlib.Core.Bool.{true, false}
 use mathlib.Core.List.{List}

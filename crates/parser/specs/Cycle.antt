@@ -1,7 +1,7 @@
 -- What the cycle's functions ask and equal. Scaffolding: no definition of document 01.
 --
--- First what the model of the crate run_model has no function of its own for; then what the contracts ask (CanRun, CanTry, OnPath) and
--- which part of the model each function is; then the measure's rank.
+-- First what the model of the crate run_model has no function of its own for; then what the contracts ask (CanRun,
+-- CanTry, OnPath) and which part of the model each function is; then the measure's rank.
 use mathlib.Core.Path.{_≡_}
 use mathlib.Core.List.{List}
 use mathlib.Core.Option.{Option}

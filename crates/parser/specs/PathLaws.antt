@@ -1,4 +1,5 @@
--- Laws for the path through a variant: choices, what it does next, its steps. One for each return, over the code's own values.
+-- Laws for the path through a variant: choices, what it does next, its steps. One for each return, over the code's own
+-- values.
 use mathlib.Core.Path.{_≡_, refl, sym, ap, subst, _∙_}
 use mathlib.Core.Bool.{true, false}
 use mathlib.Core.List.{List, _∷_}

@@ -1,4 +1,5 @@
--- Laws of what the parts of a run give, one after another; a limit ends all that would follow, and a failure what follows a path.
+-- Laws of what the parts of a run give, one after another; a limit ends all that would follow, and a failure what
+-- follows a path.
 use mathlib.Core.Path.{_≡_, refl, sym, ap, _∙_}
 use mathlib.Core.Bool.{Bool, true, false, _&&_}
 use mathlib.Core.List.{List}

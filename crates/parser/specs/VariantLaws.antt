@@ -1,4 +1,5 @@
--- Laws for variants: those of a call one after the other, and one. One for each return and each turn of a loop, over the code's own values.
+-- Laws for variants: those of a call one after the other, and one. One for each return and each turn of a loop, over
+-- the code's own values.
 use mathlib.Core.Path.{_≡_, sym, ap, subst, _∙_}
 use mathlib.Core.Bool.{true, false}
 use mathlib.Core.List.{List, []}

@@ -1,7 +1,9 @@
-// Left recursion: a call that meets itself at its own start gets the parses that it has stored so far, and is run again until a run adds none.
+// Left recursion: a call that meets itself at its own start gets the parses that it has stored so far, and is run again
+// until a run adds none.
 //
-// `E = E + E | number` on `1+2`: the first run of E at 0 meets E at 0, which has stored nothing, so that only `number` gives a parse, `1`. It was
-// asked for, so it is stored, and a second run finds `1+2` through it. A third finds nothing new, and the call is over.
+// `E = E + E | number` on `1+2`: the first run of E at 0 meets E at 0, which has stored nothing, so that only `number`
+// gives a parse, `1`. It was asked for, so it is stored, and a second run finds `1+2` through it. A third finds nothing
+// new, and the call is over.
 ghost use Rattle.transitions.specs.Contracts.{Ready, Does};
 ghost use Rattle.parser.specs.Cycle.{CanRun, runsAgain, runsCall, enters};
 use crate::parser::one_run;
@@ -77,8 +79,8 @@ fn run_call(
     )
 }
 
-// A use of a nonterminal at a skipped place: one unit, the governor, then one level of nesting. Its parses are what row `nesting`
-// found.
+// A use of a nonterminal at a skipped place: one unit, the governor, then one level of nesting. Its parses are what row
+// `nesting` found.
 pub fn enter(
     book: &[u8],
     index: &[usize],

@@ -1,10 +1,11 @@
 // A call runs its variants; a variant runs its steps; a step calls a nonterminal again.
 //
-// The functions of the cycle (here and in left_recursion.rt) take `nesting`, the levels of nesting left, which is also the first free
-// row, and how far the path through a variant is. A parse joins the run's set of its call's row as its path ends.
+// The functions of the cycle (here and in left_recursion.rt) take `nesting`, the levels of nesting left, which is also
+// the first free row, and how far the path through a variant is. A parse joins the run's set of its call's row as its
+// path ends.
 //
-// What ends the cycle: a call runs its variants, and a parse is followed, with one level less; on one level the steps that remain
-// become fewer.
+// What ends the cycle: a call runs its variants, and a parse is followed, with one level less; on one level the steps
+// that remain become fewer.
 ghost use Rattle.transitions.specs.Contracts.{Does, Continues};
 ghost use Rattle.parser.specs.Cycle.{CanRun, CanTry, OnPath};
 ghost use Rattle.parser.specs.Cycle.{runsOnce, tries, descends, followsEach, chooses, goesOn};
@@ -30,7 +31,8 @@ use transitions::next_of;
 use transitions::take_step;
 
 // ---- Variants
-// One variant of the call of row `nesting`, if its level reaches the minimum; `before` is what the variants before it gave.
+// One variant of the call of row `nesting`, if its level reaches the minimum; `before` is what the variants before it
+// gave.
 fn variant(
     book: &[u8],
     index: &[usize],

@@ -36,7 +36,8 @@ pub fn rows() {
     case(b"row 12: ", b"example.book", b"(18446744073709551616");
 }
 
-// A variant with every form of items: an identifier, a number, a variable, a child, an optional child, a delimited list, an optional one, a comma list.
+// A variant with every form of items: an identifier, a number, a variable, a child, an optional child, a delimited
+// list, an optional one, a comma list.
 pub fn forms() {
     case(
         b"all there: ",

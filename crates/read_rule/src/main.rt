@@ -1,5 +1,5 @@
-// Reads `rules.book` and `rule.txt` in its folder and writes one line: the value of the rule, or its refusal. Document 01, "Printing". A missing file counts
-// as empty.
+// Reads `rules.book` and `rule.txt` in its folder and writes one line: the value of the rule, or its refusal. Document
+// 01, "Printing". A missing file counts as empty.
 use program::BOOK_ROOM;
 use program::TEXT_ROOM;
 use program::answer_line;

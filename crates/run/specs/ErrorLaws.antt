@@ -1,7 +1,8 @@
--- The errors of a run fit into 32 bits: their places are places of a short text, and their arguments are numbers of the book or the start.
+-- The errors of a run fit into 32 bits: their places are places of a short text, and their arguments are numbers of the
+-- book or the start.
 --
--- Plan: a run keeps what holds of its call, its steps left, its place and its sets (the rests of their parses fit), one law for each part of the definition of the
--- run; a runner by recursion on the levels left.
+-- Plan: a run keeps what holds of its call, its steps left, its place and its sets (the rests of their parses fit), one
+-- law for each part of the definition of the run; a runner by recursion on the levels left.
 use mathlib.Core.Path.{_≡_, refl, sym}
 use mathlib.Core.Bool.{Bool, true, false, cond}
 use mathlib.Core.List.{List, [], _∷_}

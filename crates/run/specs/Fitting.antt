@@ -1,4 +1,5 @@
--- What fits into 32 bits in a run: the numbers of a book's steps, of errors, of parses and calls, and of what a step takes.
+-- What fits into 32 bits in a run: the numbers of a book's steps, of errors, of parses and calls, and of what a step
+-- takes.
 use mathlib.Core.Path.{_≡_, refl}
 use mathlib.Core.Bool.{Bool, true, false, cond}
 use mathlib.Core.List.{List, [], _∷_, _++_, map}

@@ -1,6 +1,6 @@
--- What a user of the call has to read: the promise of `read` and of `read_in`. It is stated over the definitions of document 01
--- (`answerOf` of semantics, specs/Answer.antt) and over the derivations (`Exact` of specs/Exact.antt there), and over nothing of how
--- the call works.
+-- What a user of the call has to read: the promise of `read` and of `read_in`. It is stated over the definitions of
+-- document 01 (`answerOf` of semantics, specs/Answer.antt) and over the derivations (`Exact` of specs/Exact.antt
+-- there), and over nothing of how the call works.
 use mathlib.Core.Path.{_≡_}
 use mathlib.Core.Bool.{Bool, false, cond, _||_}
 use mathlib.Core.List.{List}
@@ -26,8 +26,9 @@ abbrev pub answered : code.Answer → List ℕ → List ℕ → Answered
 answered a cells parses = record { answer = answerIn a; cells = cells; parses = parses }
 
 -- ---- The promise
--- Of book and text in bytes: an answer and both lists are the expected ones (demands 1 and 2); and demand 3 of that very answer and
--- those very lists: of every call whose book is accepted, that isn't refused before the run (1 to 11), and that meets no limit (20 to 23)
+-- Of book and text in bytes: an answer and both lists are the expected ones (demands 1 and 2); and demand 3 of that
+-- very answer and those very lists: of every call whose book is accepted, that isn't refused before the run (1 to 11),
+-- and that meets no limit (20 to 23)
 pub record Reads (bytes text : List ℕ) (start : ℕ) (expected a : Answered) : Type 0 where
   pub is : a ≡ expected
   pub exact : (book : Book) → checkBook bytes ≡ check.Outcome.book book →

@@ -1,5 +1,5 @@
--- The parts of the call, in the code's terms: what each asks and equals. The promise of the call itself stands in Promise. Scaffolding:
--- no definition of document 01.
+-- The parts of the call, in the code's terms: what each asks and equals. The promise of the call itself stands in
+-- Promise. Scaffolding: no definition of document 01.
 use mathlib.Core.Path.{_≡_}
 use mathlib.Core.Bool.{Bool, cond, _||_}
 use mathlib.Core.List.{List, [], _∷_}

@@ -1,5 +1,5 @@
--- A refusal of the book's check fits into 32 bits: a byte counts at most 255 records, and a record is at most 257 bytes, so that no check gets beyond the first
--- million bytes, however long the book is.
+-- A refusal of the book's check fits into 32 bits: a byte counts at most 255 records, and a record is at most 257
+-- bytes, so that no check gets beyond the first million bytes, however long the book is.
 use mathlib.Core.Path.{_≡_}
 use mathlib.Core.Bool.{Bool}
 use mathlib.Core.List.{List, [], _∷_}
@@ -118,7 +118,8 @@ module _ (bytes : List ℕ) (small : (i : ℕ) → getD bytes i 0 ≤ 255) where
   unfolding ended
   ended-lands place h = by-test (ltb place (length bytes)) (λ t. rw (t, ended) (refuses {number = 8} (omega arith) h)) (λ t. rw (t, ended) (reads tt h))
 
-  -- two sections of entries, at most 65,536 bytes each; nonterminals, at most 511; variants and steps, at most 1,021 each
+  -- two sections of entries, at most 65,536 bytes each; nonterminals, at most 511; variants and steps, at most 1,021
+  -- each
   whole-lands : Lands Any 1000000 (whole bytes 0)
   unfolding whole
   whole-lands =

@@ -1,10 +1,11 @@
 // The call of document 01, "The answer": the refusals before the run, the run by `enter`, and the end.
 //
-// `read` keeps working memory of its own, 498,048 bytes; `read_in` is lent it, whatever it holds. Its contract says nothing of that
-// memory at exit: it is no part of the answer, and the next call may find anything in it.
+// `read` keeps working memory of its own, 498,048 bytes; `read_in` is lent it, whatever it holds. Its contract says
+// nothing of that memory at exit: it is no part of the answer, and the next call may find anything in it.
 ghost use mathlib.Core.Path.{_≡_};
 ghost use Prim.Native.Nat.{_-_};
 ghost use lib.ListN.{length};
+ghost use Rattle.characters.specs.Slices.{atEntry, atExit};
 ghost use Rattle.book.specs.Index.{bookAt};
 ghost use Rattle.semantics.specs.Answer as answers;
 ghost use Rattle.semantics.specs.Answer.{answer, firstHigh, answerOf};
@@ -135,7 +136,7 @@ fn ending(
 ) -> Answer
     requires { ⌜ CanEnd text cells parses store rows outcome ⌝ }
     ensures { λ r. ⌜ Gives cells parses r (λ cells parses.
-        answers.atEnd cells parses (now (text .entry)) allowance (seenOf outcome (now (store .entry)) (now (rows .entry)))) ⌝ }
+        answers.atEnd cells parses (atEntry text) allowance (seenOf outcome (atEntry store) (atEntry rows))) ⌝ }
 {
     let state = outcome.state;
     let work = gone(allowance, state.units);
@@ -170,7 +171,7 @@ fn run(
     units: u32,
 ) -> Outcome
     requires { ⌜ CanStart book index text store rows ⌝ }
-    ensures { λ r. ⌜ RunsText (bookAt book index) (now (text .entry)) units start (now (store .exit)) (now (rows .exit)) r ⌝ }
+    ensures { λ r. ⌜ RunsText (bookAt book index) (atEntry text) units start (atExit store) (atExit rows) r ⌝ }
 {
     cells::clear(store);
     let begun = State { units, cells: 0 };
@@ -254,8 +255,8 @@ fn no_allowance(allowance: u32) -> bool
     MOST_WORK < allowance
 }
 
-// A refusal of the book's check. However long the book is, the check ends within its first bytes (`refusal-fits`), so that both
-// numbers fit.
+// A refusal of the book's check. However long the book is, the check ends within its first bytes (`refusal-fits`), so
+// that both numbers fit.
 fn book_refused(number: usize, place: usize) -> Answer
     requires { ⌜ Fits number × Fits place ⌝ }
     ensures { λ r. ⌜ answerIn r ≡ answer number place 0 0 0 0 0 ⌝ }
@@ -302,8 +303,8 @@ fn in_room(
     }
 }
 
-// The call, with working memory that is lent and may hold anything: a book's index, a store of cells, the rows of calls. Too little of
-// it is refused as too short lists are.
+// The call, with working memory that is lent and may hold anything: a book's index, a store of cells, the rows of
+// calls. Too little of it is refused as too short lists are.
 pub fn read_in(
     book: &[u8],
     text: &[u8],

@@ -1,8 +1,10 @@
--- What a part of the run over rows leaves of the rows: of a call at row n, those above n stay as they are but for marks that come; of steps of the call of
--- row c, the same, and of row c the place of the child and the run's set may change too. Scaffolding: no definition of document 01.
+-- What a part of the run over rows leaves of the rows: of a call at row n, those above n stay as they are but for marks
+-- that come; of steps of the call of row c, the same, and of row c the place of the child and the run's set may change
+-- too. Scaffolding: no definition of document 01.
 --
--- Plan: rows that differ in little, by an equation of what is left when the fields that may differ are forgotten; tables that keep such rows from a row on;
--- results that have a property unless they are limits, and runners. The functions of the model are in KeepsRun.
+-- Plan: rows that differ in little, by an equation of what is left when the fields that may differ are forgotten;
+-- tables that keep such rows from a row on; results that have a property unless they are limits, and runners. The
+-- functions of the model are in KeepsRun.
 use mathlib.Core.Path.{_≡_, refl, ap, _∙_}
 use mathlib.Core.Bool.{Bool, true, false}
 use mathlib.Core.List.{List, [], _∷_}

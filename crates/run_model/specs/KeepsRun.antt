@@ -1,5 +1,5 @@
--- What each function of the model leaves of the rows, in the model's order: `keeps-enter` for calls, `keeps-steps` for steps, `keeps-runner` for the runners,
--- by recursion on the levels left. Scaffolding: no definition of document 01.
+-- What each function of the model leaves of the rows, in the model's order: `keeps-enter` for calls, `keeps-steps` for
+-- steps, `keeps-runner` for the runners, by recursion on the levels left. Scaffolding: no definition of document 01.
 use mathlib.Core.Path.{_≡_, refl, _∙_}
 use mathlib.Core.Bool.{Bool, true, false}
 use mathlib.Core.List.{List, [], _∷_}

@@ -1,9 +1,10 @@
--- The run over the rows, function by function as the definition of the run has it. Scaffolding between that definition and the code: no definition of
--- document 01.
+-- The run over the rows, function by function as the definition of the run has it. Scaffolding between that definition
+-- and the code: no definition of document 01.
 --
--- Sets and marks stand in the rows. So a part gives its failure and the state alone: what a call found is the set of its row, and what the variants of
--- the call of row c have found is that row's run. `n`, the levels of nesting left, is also the first free row; a call uses row n, and what follows its parses
--- runs with one level less while row n keeps them. What touches neither sets nor marks is the definition's own function, run on a state without marks.
+-- Sets and marks stand in the rows. So a part gives its failure and the state alone: what a call found is the set of
+-- its row, and what the variants of the call of row c have found is that row's run. `n`, the levels of nesting left, is
+-- also the first free row; a call uses row n, and what follows its parses runs with one level less while row n keeps
+-- them. What touches neither sets nor marks is the definition's own function, run on a state without marks.
 use mathlib.Core.Bool.{Bool, _&&_}
 use mathlib.Core.List.{List, [], _∷_}
 use mathlib.Core.Option.{Option, none, some}
@@ -49,7 +50,8 @@ pub record RowMade : Type 0 where
 abbrev pub rowMade : ℕ → RowState → RowMade
 rowMade cell state = record { cell = cell; state = state }
 
--- runs what is left of a variant: of the call of a row, a variant's number, what is left to do, a place and the items so far
+-- runs what is left of a variant: of the call of a row, a variant's number, what is left to do, a place and the items
+-- so far
 abbrev pub RowRunner : Type 0
 RowRunner = ℕ → ℕ → List (Todo ℕ) → ℕ → ℕ → RowState → Result Outcome
 

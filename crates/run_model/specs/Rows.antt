@@ -1,10 +1,12 @@
--- The table of rows, one row for each level of nesting, and what it says of the open calls. Scaffolding between the definition of the run and the code that
--- keeps such a table: no definition of document 01.
+-- The table of rows, one row for each level of nesting, and what it says of the open calls. Scaffolding between the
+-- definition of the run and the code that keeps such a table: no definition of document 01.
 --
--- A row's number is the levels of nesting left: the outermost call has row 200, and a call with n levels left has row n. The open calls around it, the newest
--- first, are the live rows n + 1, n + 2, up to 200. When a call is over its row is live no longer, and keeps what was found while that is followed.
+-- A row's number is the levels of nesting left: the outermost call has row 200, and a call with n levels left has row
+-- n. The open calls around it, the newest first, are the live rows n + 1, n + 2, up to 200. When a call is over its row
+-- is live no longer, and keeps what was found while that is followed.
 --
--- First the rows and what is done to one; then what the live rows above a row say: the path, the stored sets and the marks; then governors and claims by rows.
+-- First the rows and what is done to one; then what the live rows above a row say: the path, the stored sets and the
+-- marks; then governors and claims by rows.
 use mathlib.Core.Bool.{Bool, true, false, _&&_, _||_}
 use mathlib.Core.List.{List, [], _∷_}
 use Prim.Native.Nat.{ℕ, zero, suc, _-_}
@@ -17,8 +19,9 @@ use Rattle.semantics.specs.Uses.{Use, Path, base, hasMark, minimumOf}
 use Rattle.semantics.specs.Tokens.{when}
 use Rattle.semantics.specs.Run.{Call, call}
 
--- a call while it is open (live is 1): its nonterminal, scope and start, the level and associativity (a number) of its variant, where its current child
--- begins, whether its stored parses were asked for (1), its stored set, and the set of the run at hand
+-- a call while it is open (live is 1): its nonterminal, scope and start, the level and associativity (a number) of its
+-- variant, where its current child begins, whether its stored parses were asked for (1), its stored set, and the set of
+-- the run at hand
 pub record Row : Type 0 where
   pub live : ℕ
   pub nonterminal : ℕ

@@ -1,8 +1,10 @@
--- That the run over the rows gives what the definition of the run gives: the parts. Scaffolding: no definition of document 01.
+-- That the run over the rows gives what the definition of the run gives: the parts. Scaffolding: no definition of
+-- document 01.
 --
--- Plan: `see` turns a result over rows into one of the definition, given what is seen of an outcome; a combinator for each way of going on (one part after
--- another, a test, an option, a list, cells made, a unit spent, one level further in); functions of the definition that don't look at the marks (`Plain`);
--- and what is seen of the rows: while the call of row c runs, at its end, and after a call at row n.
+-- Plan: `see` turns a result over rows into one of the definition, given what is seen of an outcome; a combinator for
+-- each way of going on (one part after another, a test, an option, a list, cells made, a unit spent, one level further
+-- in); functions of the definition that don't look at the marks (`Plain`); and what is seen of the rows: while the call
+-- of row c runs, at its end, and after a call at row n.
 use mathlib.Core.Path.{_≡_, refl, ap, _∙_}
 use mathlib.Core.Bool.{Bool, true, false}
 use mathlib.Core.List.{List, [], _∷_}

@@ -1,7 +1,8 @@
--- That a call over the rows gives what the definition's call gives: variants, one run, rounds, a use of mark 2, `enter`, in the definition's order.
--- Scaffolding: no definition of document 01.
+-- That a call over the rows gives what the definition's call gives: variants, one run, rounds, a use of mark 2,
+-- `enter`, in the definition's order. Scaffolding: no definition of document 01.
 --
--- Each statement is an equation: the definition's function, on the call, the set and the state that the rows show, is what is seen of the model's function.
+-- Each statement is an equation: the definition's function, on the call, the set and the state that the rows show, is
+-- what is seen of the model's function.
 use mathlib.Core.Path.{_≡_, refl, sym, ap, _∙_}
 use mathlib.Core.Bool.{Bool, false}
 use mathlib.Core.List.{List, [], _∷_}

@@ -1,7 +1,9 @@
--- That the steps of a variant over the rows give what the definition's steps give, one lemma for each kind of step. Scaffolding: no definition of document 01.
+-- That the steps of a variant over the rows give what the definition's steps give, one lemma for each kind of step.
+-- Scaffolding: no definition of document 01.
 --
--- `Here` is what holds of the rows while the call of row c runs a variant; every part leaves it (KeepsRun). A child's call needs what `Here` says: the live
--- rows above the free row n are the call of row c and the open calls around it. While the child's parses are followed, row n keeps them and is not live.
+-- `Here` is what holds of the rows while the call of row c runs a variant; every part leaves it (KeepsRun). A child's
+-- call needs what `Here` says: the live rows above the free row n are the call of row c and the open calls around it.
+-- While the child's parses are followed, row n keeps them and is not live.
 use mathlib.Core.Path.{_≡_, refl, sym, ap, _∙_}
 use mathlib.Core.Bool.{Bool, true, false}
 use mathlib.Core.List.{List, [], _∷_}
@@ -67,7 +69,8 @@ module _ (book : Book) (text : List ℕ) (n : ℕ) (inner : Option RowRunner) (i
         (rw (path, child-open setAt T at h, child-open askedAt T at h) at
         (sim-enter book text n inner innerA kin room M at (put T at) size units cells))
 
-    -- behind the child's call: the marks are those of the call of row c and of those around it, and the run's set is as it was
+    -- behind the child's call: the marks are those of the call of row c and of those around it, and the run's set is as
+    -- it was
     behind : (e : Option Error) (units : ℕ) (cells : List Cell) (T : List Row) → Here book C c (suc n) j T →
         foundAt n (outcome e (rowState units cells T)) ≡ parsed (rowOf T n .set) e (stateAt c (rowState units cells T))
     behind e units cells T h = rw (open-skips askedAt T c n below within (h .standing .live) (h .idle))

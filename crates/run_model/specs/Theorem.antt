@@ -1,6 +1,8 @@
--- The run over the rows gives what the definition of the run gives, whatever the rows held at first: `rows-run`. Scaffolding: no definition of document 01.
+-- The run over the rows gives what the definition of the run gives, whatever the rows held at first: `rows-run`.
+-- Scaffolding: no definition of document 01.
 --
--- Plan: the runners are alike, by recursion on the levels left (SimSteps); then `sim-enter` (SimCalls) at row 200, above which no row is.
+-- Plan: the runners are alike, by recursion on the levels left (SimSteps); then `sim-enter` (SimCalls) at row 200,
+-- above which no row is.
 use mathlib.Core.Path.{_≡_, refl, _∙_}
 use mathlib.Core.List.{List, []}
 use Prim.Native.Nat.{ℕ, zero, suc}

@@ -1,8 +1,9 @@
--- What the live rows say under the changes that a run makes, and that the governor and the claims by rows are those by the path. Scaffolding: no definition of
--- document 01.
+-- What the live rows say under the changes that a run makes, and that the governor and the claims by rows are those by
+-- the path. Scaffolding: no definition of document 01.
 --
--- Plan: `open-same` (rows that keep all but their marks say the same), `open-put` (a row below says nothing), `open-skips` (rows that are not live are passed
--- over); then `agree`: the first governing row is the governor of the path of live rows, by recursion on the rows; then `claims-path`.
+-- Plan: `open-same` (rows that keep all but their marks say the same), `open-put` (a row below says nothing),
+-- `open-skips` (rows that are not live are passed over); then `agree`: the first governing row is the governor of the
+-- path of live rows, by recursion on the rows; then `claims-path`.
 use mathlib.Core.Path.{_≡_, refl, sym, ap, _∙_}
 use mathlib.Core.Bool.{Bool, true, false, _&&_}
 use mathlib.Core.List.{List, [], _∷_}

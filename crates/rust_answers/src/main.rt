@@ -1,5 +1,6 @@
-// Replays the fixed list of cases with the Rust's answers, data/answers.bin: each book and text is read, and what the Rust answered is compared. compare/README.md has the
-// list's form, and how it was made. It writes the number of each case that differs, and then how many cases there are and how many differ.
+// Replays the fixed list of cases with the Rust's answers, data/answers.bin: each book and text is read, and what the
+// Rust answered is compared. compare/README.md has the list's form, and how it was made. It writes the number of each
+// case that differs, and then how many cases there are and how many differ.
 mod compare;
 mod record;
 

@@ -1,4 +1,5 @@
--- Sets of parses in a list of numbers, "in first-found order": at a set's place stands its count, and behind it four numbers for each parse.
+-- Sets of parses in a list of numbers, "in first-found order": at a set's place stands its count, and behind it four
+-- numbers for each parse.
 use mathlib.Core.Path.{_≡_}
 use mathlib.Core.Bool.{Bool, true, false, cond}
 use mathlib.Core.List.{List, [], _∷_, _++_}
@@ -69,7 +70,8 @@ pub record Appended (r : Bool) (f g : List ℕ) (b : ℕ) (p : Parse ℕ) : Type
   pub fits : r ≡ ltb (length (setAt f b)) 64
   pub only : Only f g b 257
 
--- the result of an addition, by a function's answer and the set that it leaves: false is 22, and then nothing is said of the set
+-- the result of an addition, by a function's answer and the set that it leaves: false is 22, and then nothing is said
+-- of the set
 abbrev pub result : Bool → List (Parse ℕ) → State → Result (List (Parse ℕ))
 result true set s = ok set
 result false set s = met 22 (s .units)

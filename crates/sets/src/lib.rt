@@ -1,13 +1,16 @@
 // Sets of parses, "in first-found order", in a lent slice of numbers. Document 01, "The run".
 //
-// A set at a place is a count and behind it four numbers for each of 64 parses at most: rest, level, associativity and cell, so 257 numbers. Every
-// slice gives a set (`setAt` of specs/Sets.antt): a count above 64 reads as 64, and an associativity above 2 as Both. So the contracts hold
-// whatever the slice held, and ask only that a set's 257 numbers lie in the slice and that two sets, of which one is written, lie apart.
+// A set at a place is a count and behind it four numbers for each of 64 parses at most: rest, level, associativity and
+// cell, so 257 numbers. Every slice gives a set (`setAt` of specs/Sets.antt): a count above 64 reads as 64, and an
+// associativity above 2 as Both. So the contracts hold whatever the slice held, and ask only that a set's 257 numbers
+// lie in the slice and that two sets, of which one is written, lie apart.
 //
-// `has`, `all_in`, `add`, `add_all` and `kept` equal definitions of semantics, specs/Run.antt (`has`, `allIn`, `add`, `addAll`, `kept`), on the sets that the slice
-// gives; no function changes a number but those of the set that it writes (`Only`).
+// `has`, `all_in`, `add`, `add_all` and `kept` equal definitions of semantics, specs/Run.antt (`has`, `allIn`, `add`,
+// `addAll`, `kept`), on the sets that the slice gives; no function changes a number but those of the set that it writes
+// (`Only`).
 //
-// The crate relies on the definitions of book and semantics, and assumes nothing. specs/ has the definitions (Sets) and laws.
+// The crate relies on the definitions of book and semantics, and assumes nothing. specs/ has the definitions (Sets) and
+// laws.
 ghost use mathlib.Core.Path.{_≡_};
 ghost use mathlib.Core.List.{[]};
 ghost use Prim.Native.Nat.{_+_, _≤_};
@@ -16,7 +19,8 @@ ghost use Rattle.book.specs.Book.{associativityNumber};
 ghost use Rattle.book.specs.Check.{associativityOf};
 ghost use Rattle.semantics.specs.Uses.{keepsLevel};
 ghost use Rattle.semantics.specs.Run as run;
-ghost use Rattle.sets.specs.Sets.{parseOf, noParse, parseAt, setAt, written, keepEnd, Apart, Becomes, Appended, Added, AllAdded, Kept};
+ghost use Rattle.sets.specs.Sets.{parseOf, noParse, parseAt, setAt, written, keepEnd};
+ghost use Rattle.sets.specs.Sets.{Apart, Becomes, Appended, Added, AllAdded, Kept};
 use book::Associativity;
 
 pub struct Parse {

@@ -1,11 +1,12 @@
-// What a step of the book takes at a place of the text, and its error where it takes nothing. Document 01, step kinds 0 to 13, the lists
-// of "Derivations", and "Errors".
+// What a step of the book takes at a place of the text, and its error where it takes nothing. Document 01, step kinds 0
+// to 13, the lists of "Derivations", and "Errors".
 //
-// Every public function equals a definition of `semantics` (Tokens, Steps, Errors) on every book, index, text and place, a place beyond
-// the end included; the book is the one that the index gives (`bookIn`). specs/Maps.antt says what each struct and enum stands for. No
-// public function has a `requires`.
+// Every public function equals a definition of `semantics` (Tokens, Steps, Errors) on every book, index, text and
+// place, a place beyond the end included; the book is the one that the index gives (`bookIn`). specs/Maps.antt says
+// what each struct and enum stands for. No public function has a `requires`.
 //
-// The crate relies on the promises of `characters`, `book` and `errors` and on the definitions of `semantics`, and assumes nothing.
+// The crate relies on the promises of `characters`, `book` and `errors` and on the definitions of `semantics`, and
+// assumes nothing.
 mod steps;
 mod tokens;
 

@@ -1,5 +1,5 @@
-// What a step of the book takes at a place, what a list does behind an element and at its end, and the error where a step takes nothing.
-// "Every token skips first; what follows it is unskipped".
+// What a step of the book takes at a place, what a list does behind an element and at its end, and the error where a
+// step takes nothing. "Every token skips first; what follows it is unskipped".
 ghost use mathlib.Core.Option.{none};
 ghost use mathlib.Core.Path.{_≡_};
 ghost use Rattle.book.specs.Book.{Book};
@@ -40,7 +40,8 @@ use errors::VARIABLE_FOUND;
 use errors::WORD_WANTED;
 use errors::WRONG_KIND;
 
-// What a token adds, if anything: an identifier by the place and length of its spelling, a number, a variable by its name's number and kind.
+// What a token adds, if anything: an identifier by the place and length of its spelling, a number, a variable by its
+// name's number and kind.
 pub enum Item {
     Nothing,
     Name { place: usize, size: usize },
@@ -197,7 +198,8 @@ fn reject_reserved(book: &[u8], index: &[usize], text: &[u8], x: usize) -> Taken
 }
 
 fn delimited(text: &[u8], nonterminal: usize, opening: usize, closing: usize, x: usize) -> Taken
-    ensures { λ r. ⌜ ((book : Book) → takenOf r ≡ stepAt book (now (text .entry)) (Step.Delimited nonterminal opening closing) x) ⌝ }
+    ensures { λ r. ⌜ ((book : Book) →
+        takenOf r ≡ stepAt book (now (text .entry)) (Step.Delimited nonterminal opening closing) x) ⌝ }
 {
     let End::At(place) = character_end(text, opening, x) else {
         return Taken::Nothing;
@@ -218,7 +220,8 @@ fn optional_delimited(
     closing: usize,
     x: usize,
 ) -> Taken
-    ensures { λ r. ⌜ ((book : Book) → takenOf r ≡ stepAt book (now (text .entry)) (Step.OptionalDelimited nonterminal opening closing) x) ⌝ }
+    ensures { λ r. ⌜ ((book : Book) →
+        takenOf r ≡ stepAt book (now (text .entry)) (Step.OptionalDelimited nonterminal opening closing) x) ⌝ }
 {
     let End::At(place) = character_end(text, opening, x) else {
         return Taken::Unopened(skip(text, x));

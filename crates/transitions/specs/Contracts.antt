@@ -1,8 +1,10 @@
--- What the contracts of this crate and of parser say of the slices that a function is lent: the book and its index, the text, the
--- store of cells and the rows. Each unfolds to a definition of Outcomes or Steps. Scaffolding: no definition of document 01.
+-- What the contracts of this crate and of parser say of the slices that a function is lent: the book and its index, the
+-- text, the store of cells and the rows. Each unfolds to a definition of Outcomes or Steps. Scaffolding: no definition
+-- of document 01.
 --
--- What is asked: Fitting, Ready. What is promised: Makes of a cell, Does of a part of the run, Continues of one that goes on from an
--- outcome, Stages and Reaches of a part that calls nothing. Then the parts of the model, from where a path is.
+-- What is asked: Fitting, Ready. What is promised: Makes of a cell, Does of a part of the run, Continues of one that
+-- goes on from an outcome, Stages and Reaches of a part that calls nothing. Then the parts of the model, from where a
+-- path is.
 use mathlib.Core.Bool.{Bool}
 use mathlib.Core.List.{List, _∷_}
 use mathlib.Core.Option.{Option}

@@ -1,4 +1,5 @@
--- Laws for what a call does after a run, and for its variants: one for each way out of a function, over the values that the function has there.
+-- Laws for what a call does after a run, and for its variants: one for each way out of a function, over the values that
+-- the function has there.
 use mathlib.Core.Path.{_≡_, sym, ap, subst, _∙_}
 use mathlib.Core.Bool.{true, false}
 use mathlib.Core.List.{List}

@@ -1,4 +1,5 @@
--- What the code promises of a call before and after its runs, by the model of the crate run_model. Scaffolding: no definition of document 01.
+-- What the code promises of a call before and after its runs, by the model of the crate run_model. Scaffolding: no
+-- definition of document 01.
 use mathlib.Core.Path.{_≡_}
 use mathlib.Core.Bool.{Bool, true, false}
 use mathlib.Core.List.{List}

@@ -1,4 +1,5 @@
--- Laws for what a call does before its runs: one for each way out of a function, over the values that the function has there.
+-- Laws for what a call does before its runs: one for each way out of a function, over the values that the function has
+-- there.
 use mathlib.Core.Path.{_≡_, refl, sym, ap, subst, _∙_}
 use mathlib.Core.Bool.{Bool, true, false, true≢false}
 use mathlib.Core.List.{List, [], _∷_}

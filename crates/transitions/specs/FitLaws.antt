@@ -1,4 +1,5 @@
--- The numbers of an accepted book fit into 32 bits: the check tests the range of each field, and sums of few small fields are small.
+-- The numbers of an accepted book fit into 32 bits: the check tests the range of each field, and sums of few small
+-- fields are small.
 use mathlib.Core.Path.{_≡_, refl, sym, ap, subst}
 use mathlib.Core.Bool.{Bool, true, false, cond, and-eq-true-iff}
 use mathlib.Core.List.{List, [], _∷_, map}
@@ -29,8 +30,8 @@ module _ {A : Type 0} (size : A → ℕ) (one : ℕ → Reader A) (bytes : List 
       by-then (row size one n (sum + size x) bytes at) (λ others last. accepted (x ∷ others) last) next (λ others last read all.
       subst (λ (l : List A). length l ≡ suc n) (accepted-inj all) (ap suc (row-length n (sum + size x) at others last read))))
 
--- What holds of every record that `one` reads holds of all records of a row, where a size is at most `most`, so that n records are at most `room n`
--- together; d stands for one that the row doesn't have
+-- What holds of every record that `one` reads holds of all records of a row, where a size is at most `most`, so that n
+-- records are at most `room n` together; d stands for one that the row doesn't have
 module _ {A : Type 0} (size : A → ℕ) (one : ℕ → Reader A) (P : A → Type 0) (bytes : List ℕ) (most top : ℕ) (room : ℕ → ℕ)
     (more : (n : ℕ) → room n + most ≤ room (suc n))
     (each : (sum place : ℕ) (x : A) (end : ℕ) → sum + most ≤ top → one sum bytes place ≡ accepted x end → P x × (size x ≤ most)) (d : A) (beyond : P d) where

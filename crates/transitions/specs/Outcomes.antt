@@ -1,5 +1,5 @@
--- What the parts of a run give, as the model of the crate run_model has it, and the cells that the store holds. Scaffolding between that model and the code: no
--- definition of document 01.
+-- What the parts of a run give, as the model of the crate run_model has it, and the cells that the store holds.
+-- Scaffolding between that model and the code: no definition of document 01.
 use mathlib.Core.Path.{_≡_}
 use mathlib.Core.Bool.{Bool, cond, _&&_}
 use mathlib.Core.List.{List, []}

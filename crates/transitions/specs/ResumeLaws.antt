@@ -1,4 +1,5 @@
--- Laws of how a path through a variant goes on after a part of it: not at all at a limit or with a failure, else with what it does next.
+-- Laws of how a path through a variant goes on after a part of it: not at all at a limit or with a failure, else with
+-- what it does next.
 use mathlib.Core.Path.{_≡_, refl, sym, ap, _∙_}
 use mathlib.Core.List.{List}
 use mathlib.Core.Option.{Option, none, some}

@@ -1,7 +1,8 @@
--- What a path through a variant does next, by the model of the crate run_model, and what the code's parts promise of it. Scaffolding: no definition of document 01.
+-- What a path through a variant does next, by the model of the crate run_model, and what the code's parts promise of
+-- it. Scaffolding: no definition of document 01.
 --
--- A part that calls nothing gives how it ended, a place, the items so far and what the path does next. Its promise is that whatever does that next
--- (`resumes`) gives what the model gives for the whole.
+-- A part that calls nothing gives how it ended, a place, the items so far and what the path does next. Its promise is
+-- that whatever does that next (`resumes`) gives what the model gives for the whole.
 use mathlib.Core.Path.{_≡_}
 use mathlib.Core.Bool.{Bool}
 use mathlib.Core.List.{List, _∷_, map}

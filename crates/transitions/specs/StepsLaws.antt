@@ -1,4 +1,5 @@
--- Laws of the end of a variant, of lists that begin and stop, and of steps: one for each way through their functions of steps.rt.
+-- Laws of the end of a variant, of lists that begin and stop, and of steps: one for each way through their functions of
+-- steps.rt.
 use mathlib.Core.Path.{_≡_, refl, sym, ap, _∙_}
 use mathlib.Core.Bool.{Bool, true, false, cond}
 use mathlib.Core.List.{List, _∷_}

@@ -2,6 +2,7 @@
 ghost use mathlib.Core.Path.{_≡_};
 ghost use mathlib.Core.Option.{some};
 ghost use Rattle.book.specs.Book.{nthVariant};
+ghost use Rattle.characters.specs.Slices.{atEntry};
 ghost use Rattle.book.specs.Index.{bookAt};
 ghost use Rattle.semantics.specs.Tokens.{isSome};
 ghost use Rattle.semantics.specs.Steps as steps;
@@ -125,7 +126,7 @@ pub fn with_token(
     state: State,
 ) -> Made
     requires { ⌜ ItemFits item ⌝ }
-    ensures { λ r. ⌜ Makes text store state r (run.withToken (bookAt book index) (now (text .entry)) j items (itemOf item)) ⌝ }
+    ensures { λ r. ⌜ Makes text store state r (run.withToken (bookAt book index) (atEntry text) j items (itemOf item)) ⌝ }
 {
     if adds(item) {
         let m = make(text, store, item_numbers(item), state);

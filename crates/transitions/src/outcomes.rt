@@ -19,7 +19,8 @@ pub struct State {
     pub cells: u32,
 }
 
-// The limit, or 0 and the rest; what was found is in a row. With a limit only the units count. Numbers alone, so that it is copied quickly.
+// The limit, or 0 and the rest; what was found is in a row. With a limit only the units count. Numbers alone, so that
+// it is copied quickly.
 pub struct Outcome {
     pub limit: u32,
     // 0 where there is no failure

@@ -7,8 +7,8 @@ use crate::outcomes::Outcome;
 use crate::outcomes::at_limit;
 use tokens::End;
 
-// How far a path through a variant is: the row of its call, the variant's number, its next step and how many remain, the place reached, and
-// the chain of the items so far (of a passing variant, its value).
+// How far a path through a variant is: the row of its call, the variant's number, its next step and how many remain,
+// the place reached, and the chain of the items so far (of a passing variant, its value).
 pub struct Progress {
     pub call: usize,
     pub variant: u32,
@@ -18,7 +18,8 @@ pub struct Progress {
     pub items: u32,
 }
 
-// A list that is being read: with commas or not, of a nonterminal, the chain of the elements already read, and the closing.
+// A list that is being read: with commas or not, of a nonterminal, the chain of the elements already read, and the
+// closing.
 pub struct List {
     pub comma: bool,
     pub nonterminal: u32,

@@ -67,31 +67,19 @@ enum-known-next c = search needs
 
 cast-take-token : tie.Need-cast-take-token
 cast-take-token c =
-    let args = c .before .before .before .before .before .before .before .before .before .before .before .before .before .before .before .before .args in
-    let pre = c .before .before .before .before .before .before .before .before .before .before .before .before .before .before .before .before .pre in
-    let good = c .before .before .before .before .before .before .before .before .before .before .before .before .before .before .before .before .good in
-    let book = bookIn (args .book .now) (args .index .now) in
-    let text = args .text .now in
-    let here = args .here in
+    let start = c .before .before .before .before .before .before .before .before .before .before .before .before .before .before .before .before in
     let step = c .before .before .before .before .before .before .before .before .before .before .step in
     let step-at = c .before .before .before .before .step-at in
-    let next = c .before .before .next in
-    let f = taken-fits book text (pre) (here .step) (here .at) (omega (arith, good)) _ (step .ensures) (step-at .result) (step-at .ensures) in
-    omega (arith, token-fits _ f _ _ (next .given .1) .0)
+    let fits = taken-fits _ _ (start .pre) _ _ (omega (arith, start .good)) _ (step .ensures) (step-at .result) (step-at .ensures) in
+    omega (arith, token-fits _ fits _ _ (c .before .before .next .given .1) .0)
 
 take-token-requires : tie.Need-take-token-requires
 take-token-requires c κs =
-    let args = c .before .before .before .before .before .before .before .before .before .before .before .before .before .before .before .before .args in
-    let pre = c .before .before .before .before .before .before .before .before .before .before .before .before .before .before .before .before .pre in
-    let good = c .before .before .before .before .before .before .before .before .before .before .before .before .before .before .before .before .good in
-    let book = bookIn (args .book .now) (args .index .now) in
-    let text = args .text .now in
-    let here = args .here in
+    let start = c .before .before .before .before .before .before .before .before .before .before .before .before .before .before .before .before in
     let step = c .before .before .before .before .before .before .before .before .before .before .step in
     let step-at = c .before .before .before .before .step-at in
-    let next = c .before .before .next in
-    let f = taken-fits book text (pre) (here .step) (here .at) (omega (arith, good)) _ (step .ensures) (step-at .result) (step-at .ensures) in
-    token-fits _ f _ _ (next .given .1) .1
+    let fits = taken-fits _ _ (start .pre) _ _ (omega (arith, start .good)) _ (step .ensures) (step-at .result) (step-at .ensures) in
+    token-fits _ fits _ _ (c .before .before .next .given .1) .1
 
 then-steps-requires-3 : tie.Need-then-steps-requires-3
 then-steps-requires-3 c κs = search needs
@@ -101,17 +89,11 @@ enum-known-nonterminal c = search needs
 
 cast-t34 : tie.Need-cast-t34
 cast-t34 c =
-    let args = c .before .before .before .before .before .before .before .before .before .before .before .before .before .before .before .args in
-    let pre = c .before .before .before .before .before .before .before .before .before .before .before .before .before .before .before .pre in
-    let good = c .before .before .before .before .before .before .before .before .before .before .before .before .before .before .before .good in
-    let book = bookIn (args .book .now) (args .index .now) in
-    let text = args .text .now in
-    let here = args .here in
+    let start = c .before .before .before .before .before .before .before .before .before .before .before .before .before .before .before in
     let step = c .before .before .before .before .before .before .before .before .before .step in
     let step-at = c .before .before .before .step-at in
-    let nonterminal = c .before .nonterminal in
-    let f = taken-fits book text (pre) (here .step) (here .at) (omega (arith, good)) _ (step .ensures) (step-at .result) (step-at .ensures) in
-    omega (arith, child-fits _ f _ (nonterminal .given .1))
+    let fits = taken-fits _ _ (start .pre) _ _ (omega (arith, start .good)) _ (step .ensures) (step-at .result) (step-at .ensures) in
+    omega (arith, child-fits _ fits _ (c .before .nonterminal .given .1))
 
 then-child-requires : tie.Need-then-child-requires
 then-child-requires c κs = search needs
@@ -121,17 +103,11 @@ enum-known-nonterminal-2 c = search needs
 
 cast-t36 : tie.Need-cast-t36
 cast-t36 c =
-    let args = c .before .before .before .before .before .before .before .before .before .before .before .before .before .before .before .args in
-    let pre = c .before .before .before .before .before .before .before .before .before .before .before .before .before .before .before .pre in
-    let good = c .before .before .before .before .before .before .before .before .before .before .before .before .before .before .before .good in
-    let book = bookIn (args .book .now) (args .index .now) in
-    let text = args .text .now in
-    let here = args .here in
+    let start = c .before .before .before .before .before .before .before .before .before .before .before .before .before .before .before in
     let step = c .before .before .before .before .before .before .before .before .before .step in
     let step-at = c .before .before .before .step-at in
-    let nonterminal2 = c .before .nonterminal2 in
-    let f = taken-fits book text (pre) (here .step) (here .at) (omega (arith, good)) _ (step .ensures) (step-at .result) (step-at .ensures) in
-    omega (arith, optional-fits _ f _ (nonterminal2 .given .1))
+    let fits = taken-fits _ _ (start .pre) _ _ (omega (arith, start .good)) _ (step .ensures) (step-at .result) (step-at .ensures) in
+    omega (arith, optional-fits _ fits _ (c .before .nonterminal2 .given .1))
 
 then-child-requires-2 : tie.Need-then-child-requires-2
 then-child-requires-2 c κs = search needs
@@ -141,31 +117,19 @@ enum-known-comma c = search needs
 
 cast-begin-list : tie.Need-cast-begin-list
 cast-begin-list c =
-    let args = c .before .before .before .before .before .before .before .before .before .before .before .before .before .before .before .before .args in
-    let pre = c .before .before .before .before .before .before .before .before .before .before .before .before .before .before .before .before .pre in
-    let good = c .before .before .before .before .before .before .before .before .before .before .before .before .before .before .before .before .good in
-    let book = bookIn (args .book .now) (args .index .now) in
-    let text = args .text .now in
-    let here = args .here in
+    let start = c .before .before .before .before .before .before .before .before .before .before .before .before .before .before .before .before in
     let step = c .before .before .before .before .before .before .before .before .before .before .step in
     let step-at = c .before .before .before .before .step-at in
-    let comma = c .before .before .comma in
-    let f = taken-fits book text (pre) (here .step) (here .at) (omega (arith, good)) _ (step .ensures) (step-at .result) (step-at .ensures) in
-    omega (arith, list-fits _ f _ _ _ _ (comma .given .1) .0)
+    let fits = taken-fits _ _ (start .pre) _ _ (omega (arith, start .good)) _ (step .ensures) (step-at .result) (step-at .ensures) in
+    omega (arith, list-fits _ fits _ _ _ _ (c .before .before .comma .given .1) .0)
 
 cast-begin-list-2 : tie.Need-cast-begin-list-2
 cast-begin-list-2 c =
-    let args = c .before .before .before .before .before .before .before .before .before .before .before .before .before .before .before .before .args in
-    let pre = c .before .before .before .before .before .before .before .before .before .before .before .before .before .before .before .before .pre in
-    let good = c .before .before .before .before .before .before .before .before .before .before .before .before .before .before .before .before .good in
-    let book = bookIn (args .book .now) (args .index .now) in
-    let text = args .text .now in
-    let here = args .here in
+    let start = c .before .before .before .before .before .before .before .before .before .before .before .before .before .before .before .before in
     let step = c .before .before .before .before .before .before .before .before .before .before .step in
     let step-at = c .before .before .before .before .step-at in
-    let comma = c .before .before .comma in
-    let f = taken-fits book text (pre) (here .step) (here .at) (omega (arith, good)) _ (step .ensures) (step-at .result) (step-at .ensures) in
-    omega (arith, list-fits _ f _ _ _ _ (comma .given .1) .1)
+    let fits = taken-fits _ _ (start .pre) _ _ (omega (arith, start .good)) _ (step .ensures) (step-at .result) (step-at .ensures) in
+    omega (arith, list-fits _ fits _ _ _ _ (c .before .before .comma .given .1) .1)
 
 begin-list-requires : tie.Need-begin-list-requires
 begin-list-requires c κs = search needs
@@ -175,17 +139,11 @@ enum-known-place c = search needs
 
 cast-unopened : tie.Need-cast-unopened
 cast-unopened c =
-    let args = c .before .before .before .before .before .before .before .before .before .before .before .before .before .before .before .before .args in
-    let pre = c .before .before .before .before .before .before .before .before .before .before .before .before .before .before .before .before .pre in
-    let good = c .before .before .before .before .before .before .before .before .before .before .before .before .before .before .before .before .good in
-    let book = bookIn (args .book .now) (args .index .now) in
-    let text = args .text .now in
-    let here = args .here in
+    let start = c .before .before .before .before .before .before .before .before .before .before .before .before .before .before .before .before in
     let step = c .before .before .before .before .before .before .before .before .before .before .step in
     let step-at = c .before .before .before .before .step-at in
-    let place = c .before .before .place in
-    let f = taken-fits book text (pre) (here .step) (here .at) (omega (arith, good)) _ (step .ensures) (step-at .result) (step-at .ensures) in
-    omega (arith, unopened-fits _ f _ (place .given .1))
+    let fits = taken-fits _ _ (start .pre) _ _ (omega (arith, start .good)) _ (step .ensures) (step-at .result) (step-at .ensures) in
+    omega (arith, unopened-fits _ fits _ (c .before .before .place .given .1))
 
 unopened-requires : tie.Need-unopened-requires
 unopened-requires c κs = c .before .before .before .before .before .before .before .before .before .before .before .before .before .before .before .before .pre
