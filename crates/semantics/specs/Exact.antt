@@ -2,24 +2,54 @@
 -- some derivation reaches the end and all that do agree. Parses are alike if they are in rest, level, associativity and value.
 use mathlib.Core.Path.{_≡_}
 use mathlib.Core.Bool.{true, false}
-use mathlib.Core.List.{List, []}
+use mathlib.Core.List.{List, [], _∷_}
 use mathlib.Core.Logic.{_↔_}
-use Prim.Native.Nat.{ℕ, _+_, _*_, _≤_, _<_}
-use lib.ListN.{getD, take}
+use Prim.Native.Nat.{ℕ, _+_, _-_, _*_, _^_, _≤_, _<_}
+use lib.ListN.{length, getD, take, drop}
 use Rattle.characters.specs.Classes.{between}
+use Rattle.characters.specs.Spelling.{partOf}
 use Rattle.book.specs.Book.{Book, associativityNumber}
 use Rattle.book.specs.Check.{checkBook, Outcome}
-use Rattle.semantics.specs.Values.{Tree, Parse, whole}
-use Rattle.semantics.specs.Cells.{one, nthMeaning, meanings, cellsIn}
+use Rattle.semantics.specs.Values.{Tree, Trees, none′, _▸_, Parse, whole}
 use Rattle.semantics.specs.Derivations.{DerivesText}
 use Rattle.semantics.specs.Answer.{Answered, answerOf}
 
--- cell n of the cells list stands for a tree
-pub record StandsFor (text cells : List ℕ) (n : ℕ) (t : Tree) : Type 0 where
+-- ---- "A value is a tree, and its cell only stands for it"
+-- the numbers of a cell: "three numbers (cell n at 3n - 3, ..), from cell 1"; there is no 4,097th
+pub record CellAt (cells : List ℕ) (n : ℕ) (numbers : List ℕ) : Type 0 where
   pub least : 0 < n
   pub most : 3 * n ≤ 12288
-  pub means : nthMeaning (meanings text [] (cellsIn (take 12288 cells))) n ≡ one t
+  pub are : take 3 (drop (3 * n - 3) cells) ≡ numbers
 
+-- The numbers alone say what a cell stands for. A cell refers to cells before it, each of them of the kind that is due, and there are no other forms than these
+module _ (text cells : List ℕ) where
+  mutual
+    -- cell n stands for a tree
+    pub data StandsFor : ℕ → Tree → Type 0 where
+      -- "3 variant (numbered over the book from 0), chain"
+      variant : {n j c : ℕ} {items : Trees} → CellAt cells n (3 ∷ j ∷ c ∷ []) → c < n → StandsForTrees c items → StandsFor n (Tree.variant j items)
+      -- "4 name place, length": a part of the text, and inside it
+      name : {n place size : ℕ} {spelling : List ℕ} → CellAt cells n (4 ∷ place ∷ size ∷ []) → place + size ≤ length text →
+          spelling ≡ partOf text place size → StandsFor n (Tree.name spelling)
+      -- "5 number high, low half": of 64 bits
+      number : {n high low value : ℕ} → CellAt cells n (5 ∷ high ∷ low ∷ []) → high < 2 ^ 32 → low < 2 ^ 32 →
+          value ≡ high * 2 ^ 32 + low → StandsFor n (Tree.number value)
+      -- "6 name number, kind"
+      variable : {n i kind : ℕ} → CellAt cells n (6 ∷ i ∷ kind ∷ []) → StandsFor n (Tree.variable i kind)
+      -- "7 absent"
+      absent : {n : ℕ} → CellAt cells n (7 ∷ 0 ∷ 0 ∷ []) → StandsFor n Tree.absent
+      -- "8 list, chain"
+      list : {n c : ℕ} {values : Trees} → CellAt cells n (8 ∷ c ∷ 0 ∷ []) → c < n → StandsForTrees c values → StandsFor n (Tree.list values)
+
+    -- cell n, of a chain, stands for trees
+    pub data StandsForTrees : ℕ → Trees → Type 0 where
+      -- "1 empty chain"
+      empty : {n : ℕ} → CellAt cells n (1 ∷ 0 ∷ 0 ∷ []) → StandsForTrees n none′
+      -- "2 chain, item"
+      chain : {n c item : ℕ} {items : Trees} {t : Tree} → CellAt cells n (2 ∷ c ∷ item ∷ []) → c < n → item < n →
+          StandsForTrees c items → StandsFor item t → StandsForTrees n (items ▸ t)
+
+-- ---- Entries and derivations
 -- entry i of the parses list holds a parse: "rest, level, associativity, cell"
 pub record Holds (text : List ℕ) (a : Answered) (i : ℕ) (p : Parse Tree) : Type 0 where
   pub rest : getD (a .parses) (4 * i) 0 ≡ p .rest

@@ -10,8 +10,9 @@ pub mod Sound
 pub mod Marks
 pub mod Complete
 pub mod Exactly
--- results taken apart, sets of parses, facts of an accepted book
+-- results taken apart, what tokens read, sets of parses, facts of an accepted book
 pub mod Results
+pub mod Tokens
 pub mod Sets
 pub mod BookFacts
 -- cells: what each stands for stays, and two that stand for the same are one
@@ -28,6 +29,7 @@ pub mod LinkSteps
 -- the answer: its limits, its lists, its refusals, and the theorem
 pub mod Limits
 pub mod Numbers
+pub mod Standing
 pub mod Listing
 pub mod Outcomes
 pub mod Found

@@ -26,6 +26,7 @@ use Rattle.semantics.specs.Run.{withToken, variants, oneRun, rounds, run
 use Rattle.semantics.specs.Run.{nested, reentry, enter, enterChild, followMore, follow, followed, stepUnit, orAbsent, choice, listing, steps, runner, run}
 use Rattle.semantics.specs.Theorem.Lists.{_∈_, nth}
 use Rattle.semantics.specs.Theorem.Results.{met-ok, ok-inj, none-some, after, option-cases, list-cases, governor-cases, after-cases, some-inj, taken-cases, nested-run, chosen-same}
+use Rattle.semantics.specs.Theorem.Tokens.{AddsFit, free-end-within, token-fits}
 use Rattle.semantics.specs.Theorem.Sets.{Distinct}
 use Rattle.semantics.specs.Theorem.Table.{Table, no-cells, Item, Prefix, prefix-refl, prefix-then, item-still, chain-still}
 use Rattle.semantics.specs.Theorem.Holding.{Tabled, Grown, Held, Gives, Ready, Left, Wants, List-left, grown-refl, grown-then, gives-from, gives-ok}
@@ -123,7 +124,8 @@ module _ (book : Book) (text : List ℕ)
       (λ t. option-cases (freeEnd book text (c .start))
       (λ nowhere. gives-ok (rw nowhere at (rw t at e)) (record { grown = grown-refl h; set = holds-none }))
       (λ end there. after _ _ (rw there at (rw t at e)) (λ m named is.
-      let new = new-name s m h (c .start) (end - c .start) named in
+      let within = free-end-within book text (c .start) end there in
+      let new = new-name s m h (c .start) (end - c .start) (omega (arith, within .0, within .1)) named in
       gives-ok is (record { grown = new .grown; set = holds-one (new .item) }))))
 
   -- ---- One level of nesting
@@ -315,11 +317,11 @@ module _ (book : Book) (text : List ℕ)
           (record { chain = new .chain; wants = wants-still rest items (new .grown .prefix) w }) next))
 
       token-gives : (t : Token) (items : ℕ) (set : List (Parse ℕ)) (s : State) (r : Parsed) → Ready text (s .cells) c set →
-          Wants book text (s .cells) j rest items → (nthVariant book j .passing ≡ true → ⊥) →
+          Wants book text (s .cells) j rest items → (nthVariant book j .passing ≡ true → ⊥) → AddsFit text (t .item) →
           (withToken book text j items (t .item) s >>= (λ m. go (t .next) (m .cell) set (m .state))) ≡ ok r → Gives text (s .cells) r
-      token-gives t items set s r h w not-passing e =
+      token-gives t items set s r h w not-passing fits e =
           after _ _ e (λ m linked ran.
-          let o = with-token-onward book text j rest items (t .item) s m (h .tabled) w not-passing linked in
+          let o = with-token-onward book text j rest items (t .item) s m (h .tabled) w not-passing fits linked in
           gives-from (o .grown) (good (t .next) (m .cell) set (m .state) r (ready-still (o .grown) h) (o .left) ran))
 
     -- the one step of a passing variant takes no token
@@ -348,7 +350,7 @@ module _ (book : Book) (text : List ℕ)
         gives-from way
         (taken-cases (stepAt book text step x)
         (λ takes. gives-ok (rw takes at ran) (gives-set h))
-        (λ t takes. token-gives c j rest _ good t items set s r h w (not-passing j step rest x items t l takes) (rw takes at ran))
+        (λ t takes. token-gives c j rest _ good t items set s r h w (not-passing j step rest x items t l takes) (token-fits book text x step t takes) (rw takes at ran))
         (λ M takes. after _ _ (rw takes at ran) (λ a entered next.
         child-gives (s .cells) c j M x _ (plain-next-good (s .cells) c j rest items w) set s a r (prefix-refl (s .cells)) h entered next))
         (λ M takes. or-absent-gives c j rest _ good M x items set s r h w (rw takes at ran))

@@ -8,7 +8,7 @@ use mathlib.Core.Path.{_≡_, refl, sym, _∙_, subst}
 use mathlib.Core.Bool.{Bool, true, false, cond}
 use mathlib.Core.List.{List, [], _∷_, map, List·Memᴰ·not-nil, List·Memᴰ·eq-of-singleton}
 use mathlib.Core.Option.{Option, none, some}
-use Prim.Native.Nat.{ℕ, suc, _/_, _%_, _^_, _≤_}
+use Prim.Native.Nat.{ℕ, suc, _+_, _/_, _%_, _^_, _≤_}
 use native.Mathlib.Nat.{mod-lt}
 use native.Mathlib.Omega.{arith}
 use lib.ListN.{length}
@@ -25,6 +25,7 @@ use Rattle.semantics.specs.Errors.{Error}
 use Rattle.semantics.specs.Run.{ok, State, Parsed, parsed, Made, made, Call, kept, add, addAll, make, itemCell, begin, withCell, withToken, complete}
 use Rattle.semantics.specs.Theorem.Lists.{_∈_, sift, sift-out, nth, either}
 use Rattle.semantics.specs.Theorem.Results.{ok-inj, after}
+use Rattle.semantics.specs.Theorem.Tokens.{ReadFits, AddsFit}
 use Rattle.semantics.specs.Theorem.Sets.{Distinct, distinct-nil, distinct-cons, kept-sift}
 use Rattle.semantics.specs.Theorem.Sets.{add-joins, add-distinct, add-size, add-all-joins, add-all-distinct, add-all-size}
 use Rattle.semantics.specs.Theorem.Table.{Table, Item, Chain, Fits, Prefix, prefix-refl, prefix-then, item-still, chain-still, make-grows, make-most, make-ok}
@@ -284,15 +285,15 @@ module _ {text : List ℕ} (s : State) (m : Made) (tabled : Tabled text (s .cell
   unfolding meaningOf Fits
   new-absent e = make-item Cell.absent _ refl tt e
 
-  pub new-name : (place size : ℕ) → make text (Cell.name place size) s ≡ ok m → NewItem text (s .cells) m
+  pub new-name : (place size : ℕ) → place + size ≤ length text → make text (Cell.name place size) s ≡ ok m → NewItem text (s .cells) m
   unfolding meaningOf Fits
-  new-name place size e = make-item (Cell.name place size) _ refl tt e
+  new-name place size inside e = make-item (Cell.name place size) _ refl inside e
 
-  pub new-read : (item : Read) → make text (itemCell item) s ≡ ok m → NewItem text (s .cells) m
+  pub new-read : (item : Read) → ReadFits text item → make text (itemCell item) s ≡ ok m → NewItem text (s .cells) m
   unfolding itemCell meaningOf Fits
-  new-read (Read.name place size) e = new-name place size e
-  new-read (Read.number n) e = make-item (Cell.number (n / 2 ^ 32) (n % 2 ^ 32)) _ refl (mod-lt n (pow-pos 32)) e
-  new-read (Read.variable i kind) e = make-item (Cell.variable i kind) _ refl tt e
+  new-read (Read.name place size) fits e = new-name place size fits e
+  new-read (Read.number n) fits e = make-item (Cell.number (n / 2 ^ 32) (n % 2 ^ 32)) _ refl (omega arith, mod-lt n (pow-pos 32)) e
+  new-read (Read.variable i kind) fits e = make-item (Cell.variable i kind) _ refl tt e
 
 -- ---- The cells of a variant
 steps-values : (text : List ℕ) (C : List Cell) (l : List Step) → Values text C (map take′ l)
@@ -345,14 +346,14 @@ module _ (book : Book) (text : List ℕ) (j : ℕ) where
 
   -- a token adds an item or none. A passing variant has no tokens
   pub with-token-onward : (rest : List (Todo ℕ)) (items : ℕ) (item : Option Read) (s : State) (m : Made) → Tabled text (s .cells) →
-      Wants book text (s .cells) j rest items → (nthVariant book j .passing ≡ true → ⊥) → withToken book text j items item s ≡ ok m →
+      Wants book text (s .cells) j rest items → (nthVariant book j .passing ≡ true → ⊥) → AddsFit text item → withToken book text j items item s ≡ ok m →
       Onward rest (s .cells) m
   unfolding withToken
-  with-token-onward rest items none s m tabled h not-passing e =
+  with-token-onward rest items none s m tabled h not-passing fits e =
       subst (λ (z : Made). Onward rest (s .cells) z) (ok-inj e)
       (record { grown = grown-refl tabled; left = record { values = h .values; plain = h .plain; passing = λ u. absurd (not-passing u) } })
-  with-token-onward rest items (some item) s m tabled h not-passing e =
-      after _ _ e (λ a read next. both a (new-read s a tabled item read) next)
+  with-token-onward rest items (some item) s m tabled h not-passing fits e =
+      after _ _ e (λ a read next. both a (new-read s a tabled item fits read) next)
     where
       both : (a : Made) → NewItem text (s .cells) a → withCell book text j items (a .cell) (a .state) ≡ ok m → Onward rest (s .cells) m
       both a new next =

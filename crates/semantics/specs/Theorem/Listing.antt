@@ -13,7 +13,8 @@ use Rattle.semantics.specs.Theorem.Lists.{_∈_}
 use Rattle.semantics.specs.Theorem.Sets.{getD-in, distinct-places, parse-fields, associativity-once, tree}
 use Rattle.semantics.specs.Theorem.Table.{Item, meaning, same-cell}
 use Rattle.semantics.specs.Theorem.Forward.{Kept}
-use Rattle.semantics.specs.Theorem.Numbers.{cells-back, ParseAt, parse-back}
+use Rattle.semantics.specs.Theorem.Numbers.{cell-back, ParseAt, parse-back}
+use Rattle.semantics.specs.Theorem.Standing.{stands-once, Listed, table-stands}
 use Rattle.semantics.specs.Theorem.Made.{treeFor}
 use Rattle.semantics.specs.Exact.{StandsFor, Holds}
 
@@ -22,9 +23,6 @@ pub place-of : {A : Type 0} (l : List A) (d : A) {a : A} → a ∈ l → (i : �
 place-of [] d m = absurd (List·Memᴰ·not-nil m)
 place-of (b ∷ l) d (List·Memᴰ·head e) = (zero, omega arith, sym e)
 place-of (b ∷ l) d (List·Memᴰ·tail m) = let r = place-of l d m in (suc (r .0), omega (arith, r .1), r .2)
-
-one-once : {s t : Tree} → one s ≡ one t → s ≡ t
-one-once e = cc
 
 -- the parse that a run's set has for entry i
 abbrev pub entry : Parsed → ℕ → Parse ℕ
@@ -44,11 +42,9 @@ module _ (text : List ℕ) (r : Parsed) (h : Kept text r) (lentCells lentParses 
   item-means n item = item .is ∙ ap one (sym (ap treeIn (item .is)))
 
   pub stands-for : (n : ℕ) → Item text (r .state .cells) n → StandsFor text (at-exit .cells) n (treeFor text (r .state .cells) n)
-  stands-for n item = record {
-    least = item .placed .least;
-    most = omega (arith, item .placed .most, h .cells);
-    means = cells-back (r .state .cells) lentCells (h .cells) text n (item .placed) ∙ item-means n item;
-  }
+  stands-for n item =
+      let all : Listed text (at-exit .cells) (r .state .cells) = record { at = λ k placed. cell-back (r .state .cells) lentCells (h .cells) k placed } in
+      rw (item-means n item) at (table-stands text (at-exit .cells) (h .table) all n (item .placed))
 
   module _ (i : ℕ) (there : i < length (r .set)) where
     entry-item : Item text (r .state .cells) (entry r i .value)
@@ -69,7 +65,7 @@ module _ (text : List ℕ) (r : Parsed) (h : Kept text r) (lentCells lentParses 
     holds-only p k =
         let e = holds-entry in
         parse-fields p (treeNow text r (entry r i)) (sym (k .rest) ∙ e .rest) (sym (k .level) ∙ e .level) (associativity-once _ _ (sym (k .associativity) ∙ e .associativity))
-        (one-once (sym (k .value .means) ∙ e .value .means))
+        (stands-once text (at-exit .cells) (k .value) (e .value))
 
   -- two parses of the set that stand for the same are one
   entries-once : (p q : Parse ℕ) → p ∈ r .set → q ∈ r .set → treeNow text r p ≡ treeNow text r q → p ≡ q

@@ -37,13 +37,13 @@ pub record Chain (text : List ℕ) (C : List Cell) (n : ℕ) : Type 0 where
   pub trees : Trees
   pub is : meaning text C n ≡ several trees
 
--- what a cell refers to is there
+-- what a cell refers to is there, a name in the text, and a number has 64 bits
 unfoldable pub Fits : List ℕ → List Cell → Cell → Type 0
 Fits text C Cell.empty = Unit {0}
 Fits text C (Cell.chain c item) = Chain text C c × Item text C item
 Fits text C (Cell.variant j c) = Chain text C c
-Fits text C (Cell.name place size) = Unit {0}
-Fits text C (Cell.number high low) = low < 2 ^ 32
+Fits text C (Cell.name place size) = place + size ≤ length text
+Fits text C (Cell.number high low) = (high < 2 ^ 32) × (low < 2 ^ 32)
 Fits text C (Cell.variable i kind) = Unit {0}
 Fits text C Cell.absent = Unit {0}
 Fits text C (Cell.list c) = Chain text C c
@@ -118,7 +118,7 @@ module _ (text : List ℕ) where
   fits-still p Cell.empty f = tt
   fits-still p (Cell.chain c item) f = (chain-still p c (f .0), item-still p item (f .1))
   fits-still p (Cell.variant j c) f = chain-still p c f
-  fits-still p (Cell.name place size) f = tt
+  fits-still p (Cell.name place size) f = f
   fits-still p (Cell.number high low) f = f
   fits-still p (Cell.variable i kind) f = tt
   fits-still p Cell.absent f = tt
@@ -204,7 +204,7 @@ module _ (text : List ℕ) where
   key C (Cell.chain c item) f = (c, item, chain-stands c (f .0), item-stands item (f .1), refl)
   key C (Cell.variant j c) f = (c, chain-stands c f, refl)
   key C (Cell.name place size) f = refl
-  key C (Cell.number high low) f = (high, low, f, refl, refl)
+  key C (Cell.number high low) f = (high, low, f .1, refl, refl)
   key C (Cell.variable i kind) f = refl
   key C Cell.absent f = refl
   key C (Cell.list c) f = (c, chain-stands c f, refl)

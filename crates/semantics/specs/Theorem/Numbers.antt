@@ -1,19 +1,20 @@
 -- From the numbers in both lists at exit back to the cells and the parses that were written there.
 --
--- The plan. As long as they fit, the numbers stand at the head of the list, whatever is behind them (`Begins`). The cells that the list holds then begin
--- with those that were written (`Prefix`), so each of these stands for the same. What is behind them, zeros and perhaps more, makes further cells and
--- does no harm. A parse takes four numbers, and so parse i begins at 4 i.
+-- The plan. As long as they fit, the numbers stand at the head of the list, whatever is behind them (`Begins`). A cell takes three numbers, and so cell n begins at
+-- 3n - 3 (`cell-back`); a parse takes four, and so parse i begins at 4 i (`parse-back`). That cells read back from their numbers are the same is `cells-in`.
 use mathlib.Core.Path.{_≡_, refl, _∙_, ap}
 use mathlib.Core.List.{List, [], _∷_, _++_, append-assoc}
 use Prim.Native.Nat.{ℕ, zero, suc, _+_, _-_, _*_, _≤_, _<_}
 use native.Mathlib.Omega.{arith}
-use lib.ListN.{length, getD, take, drop, replicate, length-append, length-replicate}
-use lib.Seq.{take-append-add, take-at, length-take-le}
+use lib.ListN.{length, getD, take, drop, replicate, length-append}
+use lib.Seq.{take-append-add, drop-append-add, take-at}
 use Rattle.book.specs.Book.{associativityNumber}
 use Rattle.semantics.specs.Values.{Parse}
 use Rattle.semantics.specs.Cells.{Cell, numbersOf, cellsIn}
 use Rattle.semantics.specs.Answer.{cellNumbers, parseNumbers, written}
-use Rattle.semantics.specs.Theorem.Table.{meaning, Placed, Prefix, still}
+use Rattle.semantics.specs.Exact.{CellAt}
+use Rattle.semantics.specs.Theorem.Meanings.{cellAt}
+use Rattle.semantics.specs.Theorem.Table.{Placed}
 
 -- ---- Numbers at the head of a list
 record Begins (numbers list : List ℕ) : Type 0 where
@@ -38,29 +39,22 @@ module _ (size : ℕ) (numbers lent : List ℕ) (h : length numbers ≤ size) wh
     is = ap (λ (l : List ℕ). l ++ drop size lent) (first .is) ∙ append-assoc numbers (first .others) (drop size lent);
   }
 
-  taken-begins : Begins numbers (take size (written size numbers lent))
-  unfolding written
-  taken-begins =
-      let lengths = length-append numbers (replicate size 0) in
-      let zeros = length-replicate {A = ℕ} size 0 in
-      rw (take-at (take size (numbers ++ replicate size 0)) (drop size lent) size (length-take-le size (numbers ++ replicate size 0) (omega arith))) first
-
 -- ---- Cells
-cell-back : (c : Cell) (l : List ℕ) → cellsIn (numbersOf c ++ l) ≡ c ∷ cellsIn l
+cell-in : (c : Cell) (l : List ℕ) → cellsIn (numbersOf c ++ l) ≡ c ∷ cellsIn l
 unfolding cellsIn numbersOf
-cell-back Cell.empty l = refl
-cell-back (Cell.chain c item) l = refl
-cell-back (Cell.variant j c) l = refl
-cell-back (Cell.name place size) l = refl
-cell-back (Cell.number high low) l = refl
-cell-back (Cell.variable i kind) l = refl
-cell-back Cell.absent l = refl
-cell-back (Cell.list c) l = refl
+cell-in Cell.empty l = refl
+cell-in (Cell.chain c item) l = refl
+cell-in (Cell.variant j c) l = refl
+cell-in (Cell.name place size) l = refl
+cell-in (Cell.number high low) l = refl
+cell-in (Cell.variable i kind) l = refl
+cell-in Cell.absent l = refl
+cell-in (Cell.list c) l = refl
 
 pub cells-in : (C : List Cell) (l : List ℕ) → cellsIn (cellNumbers C ++ l) ≡ C ++ cellsIn l
 unfolding cellNumbers
 cells-in [] l = refl
-cells-in (c ∷ C) l = rw (append-assoc (numbersOf c) (cellNumbers C) l, cell-back c (cellNumbers C ++ l), cells-in C l)
+cells-in (c ∷ C) l = rw (append-assoc (numbersOf c) (cellNumbers C) l, cell-in c (cellNumbers C ++ l), cells-in C l)
 
 three : (c : Cell) → length (numbersOf c) ≡ 3
 unfolding numbersOf
@@ -82,27 +76,25 @@ cells-length (c ∷ C) =
     let others = cells-length C in
     omega arith
 
-begins-prefix : (C : List Cell) {l : List ℕ} → Begins (cellNumbers C) l → Prefix C (cellsIn l)
-begins-prefix C b = record { more = cellsIn (b .others); is = ap cellsIn (b .is) ∙ cells-in C (b .others) }
+-- the three numbers of cell i + 1
+numbers-at : (C : List Cell) (l : List ℕ) (i : ℕ) → i < length C → take 3 (drop (3 * i) (cellNumbers C ++ l)) ≡ numbersOf (getD C i Cell.empty)
+unfolding cellNumbers
+numbers-at [] l i h = absurd (omega arith)
+numbers-at (c ∷ C) l zero h = rw (append-assoc (numbersOf c) (cellNumbers C) l) (take-at (numbersOf c) (cellNumbers C ++ l) 3 (three c))
+numbers-at (c ∷ C) l (suc i) h =
+    let these = three c in
+    let further : 3 * suc i ≡ length (numbersOf c) + 3 * i = omega arith in
+    rw (further, append-assoc (numbersOf c) (cellNumbers C) l, drop-append-add (numbersOf c) (cellNumbers C ++ l) (3 * i)) (numbers-at C l i (omega arith))
 
-module _ (C : List Cell) (lent : List ℕ) (h : length C ≤ 4096) where
-  fit : length (cellNumbers C) ≤ 12288
-  fit = let lengths = cells-length C in omega arith
-
-  -- the cells that the first 12,288 numbers of the list at exit hold
-  pub cells-prefix : Prefix C (cellsIn (take 12288 (written 12288 (cellNumbers C) lent)))
-  cells-prefix = begins-prefix C (taken-begins 12288 (cellNumbers C) lent fit)
-
-  -- those that the whole list holds
-  pub all-cells-prefix : Prefix C (cellsIn (written 12288 (cellNumbers C) lent))
-  all-cells-prefix = begins-prefix C (written-begins 12288 (cellNumbers C) lent fit)
-
-  module _ (text : List ℕ) (n : ℕ) (placed : Placed C n) where
-    pub cells-back : meaning text (cellsIn (take 12288 (written 12288 (cellNumbers C) lent))) n ≡ meaning text C n
-    cells-back = still text cells-prefix n placed
-
-    pub all-cells-back : meaning text (cellsIn (written 12288 (cellNumbers C) lent)) n ≡ meaning text C n
-    all-cells-back = still text all-cells-prefix n placed
+-- cell n of the list at exit
+pub cell-back : (C : List Cell) (lent : List ℕ) → length C ≤ 4096 → (n : ℕ) → Placed C n → CellAt (written 12288 (cellNumbers C) lent) n (numbersOf (cellAt C n))
+cell-back C lent h zero placed = let least = placed .least in absurd (omega arith)
+cell-back C lent h (suc i) placed =
+    let lengths = cells-length C in
+    let most = placed .most in
+    let b = written-begins 12288 (cellNumbers C) lent (omega arith) in
+    let place : 3 * suc i - 3 ≡ 3 * i = omega arith in
+    record { least = omega arith; most = omega arith; are = rw (b .is, place) (numbers-at C (b .others) i most) }
 
 -- ---- Parses
 -- the four numbers of parse i

@@ -57,10 +57,10 @@ module _ (text : List ℕ) where
 
   -- one more cell behind others
   module _ (C : List Cell) (c : Cell) {C′ : List Cell} (e : C′ ≡ C ++ (c ∷ [])) where
-    earlier : Prefix C C′
+    pub earlier : Prefix C C′
     earlier = record { more = c ∷ []; is = e }
 
-    last-or-earlier : (n : ℕ) → Placed C′ n → (n ≡ suc (length C)) ⊎ Placed C n
+    pub last-or-earlier : (n : ℕ) → Placed C′ n → (n ≡ suc (length C)) ⊎ Placed C n
     last-or-earlier n h =
         let lengths = ap length e ∙ length-append C (c ∷ []) in
         let least = h .least in
@@ -69,7 +69,7 @@ module _ (text : List ℕ) where
         (λ t. inr (record { least = least; most = leb-true n (length C) t }))
         (λ t. let k = leb-false n (length C) t in inl (omega arith))
 
-    last-meaning : (n : ℕ) → n ≡ suc (length C) → meaning text C′ n ≡ meaningOf text (meanings text [] C) c
+    pub last-meaning : (n : ℕ) → n ≡ suc (length C) → meaning text C′ n ≡ meaningOf text (meanings text [] C) c
     last-meaning n l = rw (e, l) (new-meaning text C c)
 
     at-more : Fits text C c → ((n : ℕ) → Placed C n → At C n) → (n : ℕ) → (n ≡ suc (length C)) ⊎ Placed C n → At C′ n

@@ -1,0 +1,89 @@
+-- Where tokens end, and what they add: an identifier ends behind its place, inside the text; a name that is read is a part of the text, and a number has 64 bits.
+use mathlib.Core.Path.{_≡_, refl, _∙_, ap, subst}
+use mathlib.Core.List.{List}
+use mathlib.Core.Option.{Option, none, some}
+use Prim.Native.Nat.{ℕ, _+_, _^_, _≤_, _<_}
+use native.Mathlib.Omega.{arith}
+use lib.Dec.{eqb}
+use lib.ListN.{length}
+use Rattle.characters.specs.Cases.{by-test}
+use Rattle.characters.specs.Skipping.{skipFrom}
+use Rattle.characters.specs.Spelling.{same}
+use Rattle.characters.specs.Tokens.{identifierAt, numberAt}
+use Rattle.characters.specs.TokenLaws.{identifier-bounds, number-bounds}
+use Rattle.characters.specs.declared.lexemes.Identifier.{Identifier}
+use Rattle.characters.specs.declared.lexemes.Number.{Number}
+use Rattle.book.specs.Book.{Book, nthEntry}
+use Rattle.book.specs.declared.records.Step.{Step}
+use Rattle.semantics.specs.Tokens.{characterEnd, identifierEnd, spelled, reservedAt, freeEnd, variableAt}
+use Rattle.semantics.specs.Steps.{Item, Token, Taken, stepAt}
+use Rattle.semantics.specs.Theorem.Results.{none-some, some-inj, option-cases}
+
+-- ---- Identifiers
+identifier-told : (text : List ℕ) (at end : ℕ) (i : Identifier) → identifierAt text at ≡ i → identifierEnd text at ≡ some end → (at < end) × (end ≤ length text)
+unfolding identifierEnd
+identifier-told text at end (Identifier.Ends y) e q = identifier-bounds text at end (e ∙ ap Identifier.Ends (some-inj (rw (e, identifierEnd) at q)))
+identifier-told text at end Identifier.Nothing e q = absurd (none-some (rw (e, identifierEnd) at q))
+
+pub free-end-within : (book : Book) (text : List ℕ) (at end : ℕ) → freeEnd book text at ≡ some end → (at < end) × (end ≤ length text)
+unfolding freeEnd
+free-end-within book text at end q =
+    by-test (reservedAt book text at)
+    (λ t. absurd (none-some (rw (t, freeEnd) at q)))
+    (λ t. identifier-told text at end (identifierAt text at) refl (rw (t, freeEnd) at q))
+
+-- ---- What a step reads
+abbrev pub ReadFits : List ℕ → Item → Type 0
+ReadFits text (Item.name place size) = place + size ≤ length text
+ReadFits text (Item.number n) = n < 2 ^ 64
+ReadFits text (Item.variable i kind) = Unit {0}
+
+abbrev pub AddsFit : List ℕ → Option Item → Type 0
+AddsFit text none = Unit {0}
+AddsFit text (some item) = ReadFits text item
+
+abbrev TakenFits : List ℕ → Taken → Type 0
+TakenFits text (Taken.token t) = AddsFit text (t .item)
+TakenFits text (Taken.child M) = Unit {0}
+TakenFits text (Taken.optional M) = Unit {0}
+TakenFits text (Taken.list comma M close y) = Unit {0}
+TakenFits text (Taken.unopened y) = Unit {0}
+TakenFits text Taken.nothing = Unit {0}
+
+module _ (book : Book) (text : List ℕ) (x : ℕ) where
+  number-fits : (n : Number) → numberAt text (skipFrom text x) ≡ n → TakenFits text (stepAt book text Step.Number x)
+  unfolding stepAt
+  number-fits (Number.Value value end) e = rw (e, stepAt) (number-bounds text (skipFrom text x) value end e .2)
+  number-fits Number.TooLarge e = rw (e, stepAt) tt
+  number-fits Number.Nothing e = rw (e, stepAt) tt
+
+  step-fits : (step : Step) → TakenFits text (stepAt book text step x)
+  unfolding stepAt
+  step-fits (Step.Character a) = option-cases (characterEnd text a x) (λ e. rw (e, stepAt) tt) (λ end e. rw (e, stepAt) tt)
+  step-fits (Step.Word a) =
+      option-cases (identifierEnd text (skipFrom text x))
+      (λ e. rw (e, stepAt) tt)
+      (λ end e. by-test (same (spelled text (skipFrom text x) end) (nthEntry (book .words) a .spelling))
+      (λ t. rw (e, t, stepAt) tt)
+      (λ t. rw (e, t, stepAt) tt))
+  step-fits Step.Identifier =
+      option-cases (freeEnd book text (skipFrom text x))
+      (λ e. rw (e, stepAt) tt)
+      (λ end e. let w = free-end-within book text (skipFrom text x) end e in rw (e, stepAt) (omega (arith, w .0, w .1)))
+  step-fits Step.Number = number-fits (numberAt text (skipFrom text x)) refl
+  step-fits Step.Variable = option-cases (variableAt book text (skipFrom text x)) (λ e. rw (e, stepAt) tt) (λ v e. rw (e, stepAt) tt)
+  step-fits (Step.VariableOfKind a) =
+      option-cases (variableAt book text (skipFrom text x))
+      (λ e. rw (e, stepAt) tt)
+      (λ v e. by-test (eqb (v .kind) a) (λ t. rw (e, t, stepAt) tt) (λ t. rw (e, t, stepAt) tt))
+  step-fits Step.RejectVariable = option-cases (variableAt book text (skipFrom text x)) (λ e. rw (e, stepAt) tt) (λ v e. rw (e, stepAt) tt)
+  step-fits Step.RejectReserved = by-test (reservedAt book text (skipFrom text x)) (λ t. rw (t, stepAt) tt) (λ t. rw (t, stepAt) tt)
+  step-fits (Step.Nonterminal M) = tt
+  step-fits (Step.Optional M) = tt
+  step-fits (Step.Many M) = tt
+  step-fits (Step.CommaList M) = tt
+  step-fits (Step.Delimited M b c) = option-cases (characterEnd text b x) (λ e. rw (e, stepAt) tt) (λ y e. rw (e, stepAt) tt)
+  step-fits (Step.OptionalDelimited M b c) = option-cases (characterEnd text b x) (λ e. rw (e, stepAt) tt) (λ y e. rw (e, stepAt) tt)
+
+  pub token-fits : (step : Step) (t : Token) → stepAt book text step x ≡ Taken.token t → AddsFit text (t .item)
+  token-fits step t e = subst (TakenFits text) e (step-fits step)
