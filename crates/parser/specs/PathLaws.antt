@@ -12,7 +12,7 @@ use lib.Seq.{drop-cons}
 use Rattle.characters.specs.Skipping.{skipFrom}
 use Rattle.book.specs.Book.{Book, nthStep}
 use Rattle.book.specs.declared.records.Step.{Step}
-use Rattle.semantics.specs.Steps.{Todo, take′}
+use Rattle.semantics.specs.Steps.{Todo, taking}
 use Rattle.semantics.specs.Cells.{Cell}
 use Rattle.semantics.specs.Run.{Result, ok, _>>=_, make, withCell}
 use Rattle.run_model.specs.Rows.{Row}
@@ -156,7 +156,7 @@ module _ (book : Book) (text : List ℕ) (inner : Option RowRunner) (n c j : ℕ
 -- ---- Steps
 -- one of the steps that are left
 todo-step : (book : Book) (step left : ℕ) → (left ≡ 0 → ⊥) → step + left ≤ length (book .steps) →
-    todoFrom book step left ≡ take′ (nthStep (book .steps) step) ∷ todoFrom book (step + 1) (left - 1)
+    todoFrom book step left ≡ taking (nthStep (book .steps) step) ∷ todoFrom book (step + 1) (left - 1)
 todo-step book step zero h l = absurd (h refl)
 todo-step book step (suc left) h l =
     let e : step + 1 ≡ suc step = omega arith in
@@ -229,7 +229,7 @@ module _ (book : Book) (text : List ℕ) (inner : Option RowRunner) (n c j step 
       resumes-steps cells = rw (goes-on o cells T h, e)
 
       pub path-step : (st1 : List ℕ) (g : Stage) → (left ≡ 0 → ⊥) → step + left ≤ length (book .steps) →
-          Stages book text st (o .state) st1 j g (λ inner n c rest s. stepsRows book text inner n c j (take′ (nthStep (book .steps) step) ∷ rest) at items s) →
+          Stages book text st (o .state) st1 j g (λ inner n c rest s. stepsRows book text inner n c j (taking (nthStep (book .steps) step) ∷ rest) at items s) →
           Held text st0 c0 → Going text st1 (g .outcome .state .cells)
           (resumes book text inner n c j (todoFrom book (step + 1) (left - 1)) (g .doing) (g .at) (g .items) (given (g .outcome) (cellsOf st1 (g .outcome .state .cells)) T)) z
       path-step st1 g l k S held =

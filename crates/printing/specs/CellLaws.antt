@@ -15,7 +15,7 @@ use borrow.Author.Tests.{lt-ltb, le-ltb, ltb-true, ltb-false, eq-eqb, ne-eqb}
 use Rattle.characters.specs.Cases.{by-test}
 use Rattle.characters.specs.Spelling.{partOf}
 use Rattle.book.specs.Book.{Entry, nthEntry}
-use Rattle.semantics.specs.Values.{Tree, none′, _▸_}
+use Rattle.semantics.specs.Values.{Tree, no-trees, _▸_}
 use Rattle.semantics.specs.Cells.{Cell, numbersOf, cellOf, cellsIn, Meaning, one, several, treeIn, treesIn, meaningOf, meanings}
 use Rattle.semantics.specs.Theorem.Meanings.{meaning, Prefix, still, new-meaning}
 use Rattle.cells.specs.Store.{listed}
@@ -127,7 +127,7 @@ module _ (text : List ℕ) where
   module _ (numbers : List ℕ) where
     -- `meaningOf`, with older cells by what they stand for among all
     meaningBy : ℕ → Cell → Meaning
-    meaningBy n Cell.empty = several none′
+    meaningBy n Cell.empty = several no-trees
     meaningBy n (Cell.chain c item) = several (treesIn (stands text numbers (olderThan n c)) ▸ treeIn (stands text numbers (olderThan n item)))
     meaningBy n (Cell.variant j c) = one (Tree.variant j (treesIn (stands text numbers (olderThan n c))))
     meaningBy n (Cell.name place size) = one (Tree.name (partOf text place size))
@@ -295,7 +295,7 @@ module _ (names : List Entry) (text numbers : List ℕ) where
   item-by n Cell.absent n3 n8 = refl
   item-by n (Cell.list c) n3 n8 = absurd (n8 refl)
 
-  trees-by : (n : ℕ) (c : Cell) → (formOf c ≡ 2 → ⊥) → treesIn (meaningBy text numbers n c) ≡ none′
+  trees-by : (n : ℕ) (c : Cell) → (formOf c ≡ 2 → ⊥) → treesIn (meaningBy text numbers n c) ≡ no-trees
   unfolding treesIn meaningBy formOf
   trees-by n Cell.empty n2 = refl
   trees-by n (Cell.chain c item) n2 = absurd (n2 refl)
@@ -352,7 +352,7 @@ module _ (names : List Entry) (text numbers : List ℕ) where
     pub items-none : (inList : Bool) → (form ≡ 2 → ⊥) → [] ≡ itemsBytes names text numbers inList n
     unfolding spaced
     items-none inList n2 =
-        let none : treesIn (stands text numbers n) ≡ none′ =
+        let none : treesIn (stands text numbers n) ≡ no-trees =
         ap treesIn stands-of ∙ trees-by n (cellOf form a b) (form-not form a b 2 n2 (λ z. omega arith) (cellOf form a b) refl) in
         by-test inList (λ t. rw (t, none)) (λ t. rw (t, none))
 

@@ -5,7 +5,7 @@ use Prim.Native.Nat.{ℕ, zero, suc, _+_, _/_, _%_}
 use lib.Dec.{ltb, eqb}
 use lib.ListN.{take, drop}
 use Rattle.book.specs.Book.{Entry, nthEntry}
-use Rattle.semantics.specs.Values.{Tree, Trees, none′, _▸_}
+use Rattle.semantics.specs.Values.{Tree, Trees, no-trees, _▸_}
 use Rattle.semantics.specs.Cells.{cellsIn, treeAt}
 use Rattle.semantics.specs.Answer.{Answer}
 
@@ -31,7 +31,7 @@ unfoldable mutual
 
   -- trees in order, a space before each
   pub spaced : List Entry → Trees → List ℕ
-  spaced names none′ = []
+  spaced names no-trees = []
   spaced names (items ▸ item) = spaced names items ++ (32 ∷ printed names item)
 
 -- the value of a cell; a run has at most 4,096 cells, so what stands past their numbers is none. Every list of numbers has a value: what is no cell is absent

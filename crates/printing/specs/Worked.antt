@@ -3,16 +3,16 @@ use mathlib.Core.Path.{_≡_, refl}
 use mathlib.Core.List.{List, [], _∷_}
 use Prim.Native.Nat.{ℕ}
 use Rattle.book.specs.Book.{Entry}
-use Rattle.semantics.specs.Values.{Tree, none′, _▸_}
+use Rattle.semantics.specs.Values.{Tree, no-trees, _▸_}
 use Rattle.semantics.specs.Cells.{cellsIn, treeIn, treesIn, meaningOf, meanings}
 use Rattle.semantics.specs.Answer.{answer}
 use Rattle.printing.specs.Printing.{digits, printed, spaced, lineFeeds, sinceLineFeed, lineOf, columnOf, refusedLine, lineBytes}
 
 numeral : ℕ → Tree
-numeral n = Tree.variant 0 (none′ ▸ Tree.number n)
+numeral n = Tree.variant 0 (no-trees ▸ Tree.number n)
 
 -- row 1, `1-2-3`: "(1 (1 (0 1) (0 2)) (0 3))"
-row-1 : printed [] (Tree.variant 1 (none′ ▸ Tree.variant 1 (none′ ▸ numeral 1 ▸ numeral 2) ▸ numeral 3))
+row-1 : printed [] (Tree.variant 1 (no-trees ▸ Tree.variant 1 (no-trees ▸ numeral 1 ▸ numeral 2) ▸ numeral 3))
     ≡ 40 ∷ 49 ∷ 32 ∷ 40 ∷ 49 ∷ 32 ∷ 40 ∷ 48 ∷ 32 ∷ 49 ∷ 41 ∷ 32 ∷ 40 ∷ 48 ∷ 32 ∷ 50 ∷ 41 ∷ 41 ∷ 32 ∷ 40 ∷ 48 ∷ 32 ∷ 51 ∷ 41 ∷ 41
     ∷ []
 unfolding numeral printed spaced digits

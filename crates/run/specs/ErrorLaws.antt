@@ -22,7 +22,7 @@ use Rattle.book.specs.declared.records.Step.{Step}
 use Rattle.semantics.specs.Values.{Parse}
 use Rattle.semantics.specs.Uses.{Path, base, hasMark, governor}
 use Rattle.semantics.specs.Tokens.{when, freeEnd, claimed}
-use Rattle.semantics.specs.Steps.{Taken, stepAt, afterElement, closed, Todo, take′, elements, ending, todoOf}
+use Rattle.semantics.specs.Steps.{Taken, stepAt, afterElement, closed, Todo, taking, elements, ending, todoOf}
 use Rattle.semantics.specs.Cells.{Cell}
 use Rattle.semantics.specs.Errors.{Error, error, stepError}
 use Rattle.semantics.specs.Run.{Result, met, ok, _>>=_, State, Parsed, parsed, Call, call, withMine, Runner, Go, Next, allIn, kept, add, addAll, newest, withAsked, spend, make, failedCall, chosen, closingOf, begin, withCell, withToken, complete, variants, oneRun, rounds, runCall, named, runIdentifier, plainNext, listNext, stops, nested, reentry, enter, enterChild, followMore, follow, followed, stepUnit, orAbsent, choice, listing, steps, runner, run}
@@ -241,7 +241,7 @@ module _ (book : Book) (text : List ℕ) (fit : Fit book text) (arguments : (k :
         (t .0 .0) (t .0 .1) k r
     steps-fine c j (ending values close ∷ rest) x items set s h t k r =
         stops-fine j values close (steps book text inner c j rest) x items set s (t .0) (λ x items set s k r. steps-fine c j rest x items set s h (t .1) k r) k r
-    steps-fine c j (take′ step ∷ rest) x items set s₀ h t k r =
+    steps-fine c j (taking step ∷ rest) x items set s₀ h t k r =
         on-next Fine (stepUnit book text inner step s₀) _ (λ s.
         takes-fine c j rest step x items set s h (t .0) (t .1) (λ x items set s k r. steps-fine c j rest x items set s h (t .1) k r) k r
         (stepAt book text step x) (step-taken book text fit x k step (t .0)))

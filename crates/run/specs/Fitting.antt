@@ -19,7 +19,7 @@ use Rattle.book.specs.declared.records.Step.{Step}
 use Rattle.semantics.specs.Values.{Parse}
 use Rattle.semantics.specs.Uses.{Use, keeps}
 use Rattle.semantics.specs.Tokens.{Variable, when, isSome, characterEnd, identifierEnd, spelled, reservedAt, freeEnd, variableAt}
-use Rattle.semantics.specs.Steps.{Taken, stepAt, Todo, take′, elements, ending}
+use Rattle.semantics.specs.Steps.{Taken, stepAt, Todo, taking, elements, ending}
 use Rattle.semantics.specs.Errors.{Error, error, wins, join, joinWith, beyond, choiceError, identifierError, stepError}
 use Rattle.semantics.specs.Run.{Result, met, ok, _>>=_, State, Parsed, parsed, Call, Runner, Go, Next, has, kept, add, addAll, failedCall, either, chosen, closingOf, counted}
 use Rattle.semantics.specs.Theorem.Results.{option-cases}
@@ -85,7 +85,7 @@ Closing none = Unit {0}
 Closing (some c) = Fits c
 
 abbrev pub TodoFits : Todo ℕ → Type 0
-TodoFits (take′ step) = StepArguments step
+TodoFits (taking step) = StepArguments step
 TodoFits (elements comma M values close) = Fits M × Closing close
 TodoFits (ending values close) = Closing close
 
@@ -310,7 +310,7 @@ module _ (book : Book) (text : List ℕ) (fit : Fit book text) where
     step-taken (Step.OptionalDelimited M b c) f =
         option-cases (characterEnd text b x) (λ e. rw (e, stepAt) at-fits) (λ end e. rw (e, stepAt) (f .0, f .2, character-fits text b x end (fit .short) e))
 
-pub todos-of : (l : List Step) → ((k : ℕ) → StepArguments (nthStep l k)) → (first n : ℕ) → Todos (map take′ (take n (drop first l)))
+pub todos-of : (l : List Step) → ((k : ℕ) → StepArguments (nthStep l k)) → (first n : ℕ) → Todos (map taking (take n (drop first l)))
 unfolding Todos
 todos-of [] h zero zero = tt
 todos-of [] h zero (suc n) = tt

@@ -15,7 +15,7 @@ use Rattle.book.specs.declared.records.Step.{Step}
 use Rattle.semantics.specs.Values.{Parse}
 use Rattle.semantics.specs.Uses.{hasMark}
 use Rattle.semantics.specs.Tokens.{when}
-use Rattle.semantics.specs.Steps.{stepAt, afterElement, closed, Todo, take′, elements, ending, todoOf}
+use Rattle.semantics.specs.Steps.{stepAt, afterElement, closed, Todo, taking, elements, ending, todoOf}
 use Rattle.semantics.specs.Cells.{Cell}
 use Rattle.semantics.specs.Errors.{Error}
 use Rattle.semantics.specs.Run.{Result, ok, _>>=_, allIn, addAll, begin}
@@ -254,7 +254,7 @@ module _ (book : Book) (text : List ℕ) (n : ℕ) (inner : Option RowRunner) (i
 
     -- one step, with what is left behind it
     keeps-step : (j : ℕ) (step : Step) (rest : List (Todo ℕ)) → KeepsGo (λ x items s. stepsRows book text inner n c j rest x items s) →
-        KeepsGo (λ x items s. stepsRows book text inner n c j (take′ step ∷ rest) x items s)
+        KeepsGo (λ x items s. stepsRows book text inner n c j (taking step ∷ rest) x items s)
     unfolding stepsRows
     keeps-step j step rest g x items s h =
         let Q = Beside c (suc n) (s .rows) in
@@ -274,7 +274,7 @@ module _ (book : Book) (text : List ℕ) (n : ℕ) (inner : Option RowRunner) (i
     pub keeps-steps : (j : ℕ) (todo : List (Todo ℕ)) → KeepsGo (λ x items s. stepsRows book text inner n c j todo x items s)
     unfolding stepsRows
     keeps-steps j [] x items s h = keeps-complete j x items s h
-    keeps-steps j (take′ step ∷ rest) x items s h = keeps-step j step rest (λ x items s h. keeps-steps j rest x items s h) x items s h
+    keeps-steps j (taking step ∷ rest) x items s h = keeps-step j step rest (λ x items s h. keeps-steps j rest x items s h) x items s h
     keeps-steps j (elements comma M values close ∷ rest) x items s h =
         keeps-choice j comma M values close rest (stepsRows book text inner n c j rest) (λ x items s h. keeps-steps j rest x items s h) x items s h
     keeps-steps j (ending values close ∷ rest) x items s h =

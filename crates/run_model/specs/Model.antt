@@ -19,7 +19,7 @@ use Rattle.book.specs.declared.records.Step.{Step}
 use Rattle.semantics.specs.Values.{Parse}
 use Rattle.semantics.specs.Uses.{hasMark}
 use Rattle.semantics.specs.Tokens.{when, isSome, variableAt, freeEnd}
-use Rattle.semantics.specs.Steps.{Taken, stepAt, goes, halts, afterElement, closed, Todo, take′, elements, ending, todoOf}
+use Rattle.semantics.specs.Steps.{Taken, stepAt, goes, halts, afterElement, closed, Todo, taking, elements, ending, todoOf}
 use Rattle.semantics.specs.Cells.{Cell}
 use Rattle.semantics.specs.Errors.{Error, error, joinWith, choiceError, stepError}
 use Rattle.semantics.specs.Run.{Result, met, ok, _>>=_, State, Made, made, Call, call, allIn, kept, add, addAll, spend, make, failedCall, either, closingOf, begin, withCell, withToken, counted}
@@ -271,7 +271,7 @@ module _ (book : Book) (text : List ℕ) (inner : Option RowRunner) (n : ℕ) wh
   stepsRows c j [] x items s = completeRows book text c j x items s
   stepsRows c j (elements comma M values close ∷ rest) x items s = choiceRows c j comma M values close rest (stepsRows c j rest) x items s
   stepsRows c j (ending values close ∷ rest) x items s = stopsRows book text j values close (stepsRows c j rest) x items s
-  stepsRows c j (take′ step ∷ rest) x items s₀ = do
+  stepsRows c j (taking step ∷ rest) x items s₀ = do
     s ← stepUnitRows step s₀
     elim (stepAt book text step x) [
       | Taken.nothing ↦ ok (outcome (some (stepError book text step (skipFrom text x))) s)

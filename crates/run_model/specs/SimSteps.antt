@@ -20,7 +20,7 @@ use Rattle.book.specs.declared.records.Step.{Step}
 use Rattle.semantics.specs.Values.{Parse}
 use Rattle.semantics.specs.Uses.{useOf}
 use Rattle.semantics.specs.Tokens.{when}
-use Rattle.semantics.specs.Steps.{Token, stepAt, afterElement, closed, Todo, take′, elements, ending}
+use Rattle.semantics.specs.Steps.{Token, stepAt, afterElement, closed, Todo, taking, elements, ending}
 use Rattle.semantics.specs.Cells.{Cell}
 use Rattle.semantics.specs.Errors.{Error}
 use Rattle.semantics.specs.Run.{Result, ok, _>>=_, State, Parsed, parsed, Call, call, Runner, Go, Next, add, spend, make, chosen, complete, withToken, plainNext, listNext, stops, nested, enterChild, followMore, follow, followed, stepUnit, orAbsent, choice, listing, steps, run}
@@ -291,7 +291,7 @@ module _ (book : Book) (text : List ℕ) (n : ℕ) (inner : Option RowRunner) (i
     stepsGo todo x items set s = steps book text innerA C j todo x items set s
 
     -- one step, with what is left behind it
-    sim-step : (step : Step) (rest : List (Todo ℕ)) → GoAlike (rowsGo rest) (stepsGo rest) → GoAlike (rowsGo (take′ step ∷ rest)) (stepsGo (take′ step ∷ rest))
+    sim-step : (step : Step) (rest : List (Todo ℕ)) → GoAlike (rowsGo rest) (stepsGo rest) → GoAlike (rowsGo (taking step ∷ rest)) (stepsGo (taking step ∷ rest))
     unfolding steps stepsRows see
     sim-step step rest f x items units cells T h =
         let k : KeepsGo book text n inner inners room c below within (rowsGo rest) = keeps-steps book text n inner inners room c below within j rest in
@@ -307,7 +307,7 @@ module _ (book : Book) (text : List ℕ) (n : ℕ) (inner : Option RowRunner) (i
     pub sim-steps : (todo : List (Todo ℕ)) → GoAlike (rowsGo todo) (stepsGo todo)
     unfolding steps stepsRows
     sim-steps [] x items units cells T h = sim-complete x items units cells T h
-    sim-steps (take′ step ∷ rest) x items units cells T h =
+    sim-steps (taking step ∷ rest) x items units cells T h =
         sim-step step rest (λ x items units cells T h. sim-steps rest x items units cells T h) x items units cells T h
     sim-steps (elements comma M values close ∷ rest) x items units cells T h =
         sim-choice (rowsGo rest) (stepsGo rest) (keeps-steps book text n inner inners room c below within j rest)

@@ -4,7 +4,7 @@ use mathlib.Core.List.{List, [], _∷_, _++_}
 use Prim.Native.Nat.{ℕ, zero, suc, _+_, _-_, _*_, _^_}
 use lib.ListN.{getD}
 use Rattle.characters.specs.Spelling.{partOf, same}
-use Rattle.semantics.specs.Values.{Tree, Trees, none′, _▸_}
+use Rattle.semantics.specs.Values.{Tree, Trees, no-trees, _▸_}
 
 pub data Cell : Type 0 where
   empty : Cell
@@ -63,7 +63,7 @@ treeIn (one t) = t
 treeIn (several ts) = Tree.absent
 
 unfoldable pub treesIn : Meaning → Trees
-treesIn (one t) = none′
+treesIn (one t) = no-trees
 treesIn (several ts) = ts
 
 -- the meaning of cell n, given those of the cells in order. There is no cell 0
@@ -73,7 +73,7 @@ nthMeaning meanings (suc i) = getD meanings i (one Tree.absent)
 
 -- the meaning of a cell, given those of the cells before it
 unfoldable pub meaningOf : List ℕ → List Meaning → Cell → Meaning
-meaningOf text before empty = several none′
+meaningOf text before empty = several no-trees
 meaningOf text before (chain c item) = several (treesIn (nthMeaning before c) ▸ treeIn (nthMeaning before item))
 meaningOf text before (variant j c) = one (Tree.variant j (treesIn (nthMeaning before c)))
 meaningOf text before (name place size) = one (Tree.name (partOf text place size))

@@ -10,14 +10,14 @@ use Rattle.characters.specs.Spelling.{partOf}
 use Rattle.book.specs.Book.{Book, nthNonterminal, nthVariant}
 use Rattle.book.specs.declared.records.Associativity.{Associativity}
 use Rattle.book.specs.declared.records.Step.{Step}
-use Rattle.semantics.specs.Values.{Tree, Trees, none′, _▸_, variant, name, number, variable, absent, list, Parse}
+use Rattle.semantics.specs.Values.{Tree, Trees, no-trees, _▸_, variant, name, number, variable, absent, list, Parse}
 use Rattle.semantics.specs.Uses.{Use, Path, base, useOf, hasMark, minimum, same-start, governor, keeps}
 use Rattle.semantics.specs.Tokens.{freeEnd, spelled, claimed}
-use Rattle.semantics.specs.Steps.{Item, Token, Taken, stepAt, goes, halts, afterElement, closed, Todo, take′, elements, ending, todoOf}
+use Rattle.semantics.specs.Steps.{Item, Token, Taken, stepAt, goes, halts, afterElement, closed, Todo, taking, elements, ending, todoOf}
 
 -- the last item; a passing variant has just one
 unfoldable pub lastOf : Trees → Tree
-lastOf none′ = absent
+lastOf no-trees = absent
 lastOf (ts ▸ t) = t
 
 -- "a variant's number and items in step order; passing, the child's value"
@@ -47,7 +47,7 @@ module _ (book : Book) (text : List ℕ) where
       -- "A derivation takes a variant whose level reaches the minimum and all its steps in turn"
       by-variant : {P : Path} {N u m i : ℕ} {p : Parse Tree} → governor P base N u ≡ minimum m →
           i < nthNonterminal book N .count → leb m (nthVariant book (nthNonterminal book N .first + i) .level) ≡ true →
-          Through P N u (nthNonterminal book N .first + i) (todoOf book (nthVariant book (nthNonterminal book N .first + i))) u none′ p →
+          Through P N u (nthNonterminal book N .first + i) (todoOf book (nthVariant book (nthNonterminal book N .first + i))) u no-trees p →
           Derives P N u p
       -- "Child at the governor's own start: its derivations are those at the governor's place and path, kept when .."
       by-governor : {P Q : Path} {N u i : ℕ} {f : Use} {p : Parse Tree} → governor P base N u ≡ same-start i f Q →
@@ -61,20 +61,20 @@ module _ (book : Book) (text : List ℕ) where
     pub data Through : Path → ℕ → ℕ → ℕ → List (Todo Trees) → ℕ → Trees → Parse Tree → Type 0 where
       done : {P : Path} {N u j x : ℕ} {items : Trees} {p : Parse Tree} → p ≡ parseOf book j x items → Through P N u j [] x items p
       by-token : {P : Path} {N u j x : ℕ} {s : Step} {t : Token} {rest : List (Todo Trees)} {items : Trees} {p : Parse Tree} →
-          stepAt book text s x ≡ Taken.token t → Through P N u j rest (t .next) (withItem text items (t .item)) p → Through P N u j (take′ s ∷ rest) x items p
+          stepAt book text s x ≡ Taken.token t → Through P N u j rest (t .next) (withItem text items (t .item)) p → Through P N u j (taking s ∷ rest) x items p
       by-child : {P : Path} {N u j x M : ℕ} {s : Step} {q p : Parse Tree} {rest : List (Todo Trees)} {items : Trees} → stepAt book text s x ≡ Taken.child M →
           Derives (useOf book N u j (skipFrom text x) ∷ P) M (skipFrom text x) q → Through P N u j rest (q .rest) (items ▸ q .value) p →
-          Through P N u j (take′ s ∷ rest) x items p
+          Through P N u j (taking s ∷ rest) x items p
       -- "Optional is absent or one"
       by-absent : {P : Path} {N u j x M : ℕ} {s : Step} {p : Parse Tree} {rest : List (Todo Trees)} {items : Trees} → stepAt book text s x ≡ Taken.optional M →
-          Through P N u j rest x (items ▸ absent) p → Through P N u j (take′ s ∷ rest) x items p
+          Through P N u j rest x (items ▸ absent) p → Through P N u j (taking s ∷ rest) x items p
       by-one : {P : Path} {N u j x M : ℕ} {s : Step} {q p : Parse Tree} {rest : List (Todo Trees)} {items : Trees} → stepAt book text s x ≡ Taken.optional M →
           Derives (useOf book N u j (skipFrom text x) ∷ P) M (skipFrom text x) q → Through P N u j rest (q .rest) (items ▸ q .value) p →
-          Through P N u j (take′ s ∷ rest) x items p
+          Through P N u j (taking s ∷ rest) x items p
       by-list : {P : Path} {N u j x y M : ℕ} {s : Step} {comma : Bool} {close : Option ℕ} {p : Parse Tree} {rest : List (Todo Trees)} {items : Trees} →
-          stepAt book text s x ≡ Taken.list comma M close y → Through P N u j (elements comma M none′ close ∷ rest) y items p → Through P N u j (take′ s ∷ rest) x items p
+          stepAt book text s x ≡ Taken.list comma M close y → Through P N u j (elements comma M no-trees close ∷ rest) y items p → Through P N u j (taking s ∷ rest) x items p
       by-unopened : {P : Path} {N u j x y : ℕ} {s : Step} {p : Parse Tree} {rest : List (Todo Trees)} {items : Trees} →
-          stepAt book text s x ≡ Taken.unopened y → Through P N u j rest y (items ▸ list none′) p → Through P N u j (take′ s ∷ rest) x items p
+          stepAt book text s x ≡ Taken.unopened y → Through P N u j rest y (items ▸ list no-trees) p → Through P N u j (taking s ∷ rest) x items p
       -- "Many is stop or one more. A comma list is stop, or one followed by stop or, after a comma, by the list again": any list may stop; after one more it
       -- goes on, or, without a comma where commas are wanted, it halts
       by-stop : {P : Path} {N u j x M : ℕ} {comma : Bool} {values : Trees} {close : Option ℕ} {p : Parse Tree} {rest : List (Todo Trees)} {items : Trees} →

@@ -10,7 +10,7 @@ use Rattle.characters.specs.Classes.{between}
 use Rattle.characters.specs.Spelling.{partOf}
 use Rattle.book.specs.Book.{Book, associativityNumber}
 use Rattle.book.specs.Check.{checkBook, Outcome}
-use Rattle.semantics.specs.Values.{Tree, Trees, none′, _▸_, Parse, whole}
+use Rattle.semantics.specs.Values.{Tree, Trees, no-trees, _▸_, Parse, whole}
 use Rattle.semantics.specs.Derivations.{DerivesText}
 use Rattle.semantics.specs.Answer.{Answered, answerOf}
 
@@ -44,7 +44,7 @@ module _ (text cells : List ℕ) where
     -- cell n, of a chain, stands for trees
     pub data StandsForTrees : ℕ → Trees → Type 0 where
       -- "1 empty chain"
-      empty : {n : ℕ} → CellAt cells n (1 ∷ 0 ∷ 0 ∷ []) → StandsForTrees n none′
+      empty : {n : ℕ} → CellAt cells n (1 ∷ 0 ∷ 0 ∷ []) → StandsForTrees n no-trees
       -- "2 chain, item"
       chain : {n c item : ℕ} {items : Trees} {t : Tree} → CellAt cells n (2 ∷ c ∷ item ∷ []) → c < n → item < n →
           StandsForTrees c items → StandsFor item t → StandsForTrees n (items ▸ t)

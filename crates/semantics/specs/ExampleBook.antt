@@ -4,7 +4,7 @@ use mathlib.Core.List.{List, [], _∷_, _++_}
 use Prim.Native.Nat.{ℕ, _*_}
 use lib.Dec.{eqb}
 use lib.ListN.{getD, take, replicate}
-use Rattle.semantics.specs.Values.{Tree, none′, _▸_}
+use Rattle.semantics.specs.Values.{Tree, no-trees, _▸_}
 use Rattle.characters.specs.Classes.{classOf}
 use Rattle.characters.specs.Skipping.{leading, spanEnd, commentAt, commentEnd, roundEnd, rounds, skipFrom}
 use Rattle.characters.specs.Tokens.{identifierAt, decimal, numberOf, numberAt}
@@ -46,13 +46,13 @@ abbrev pub reads : List ℕ → List ℕ → Row
 reads book text = readsWithin 1000000 book text
 
 abbrev n : ℕ → Tree
-n i = Tree.variant 0 (none′ ▸ Tree.number i)
+n i = Tree.variant 0 (no-trees ▸ Tree.number i)
 
 abbrev minus : Tree → Tree → Tree
-minus a b = Tree.variant 1 (none′ ▸ a ▸ b)
+minus a b = Tree.variant 1 (no-trees ▸ a ▸ b)
 
 abbrev times : Tree → Tree → Tree
-times a b = Tree.variant 2 (none′ ▸ a ▸ b)
+times a b = Tree.variant 2 (no-trees ▸ a ▸ b)
 
 pub record Rows : Type 0 where
   -- `1-2-3`

@@ -13,7 +13,7 @@ use Rattle.book.specs.declared.records.Step.{Step}
 use Rattle.semantics.specs.Values.{Parse}
 use Rattle.semantics.specs.Uses.{Use, Path, base, useOf, hasMark, minimum, same-start, governor, keeps}
 use Rattle.semantics.specs.Tokens.{when, freeEnd, claimed}
-use Rattle.semantics.specs.Steps.{Item, Taken, stepAt, goes, halts, afterElement, closed, Todo, take′, elements, ending, todoOf}
+use Rattle.semantics.specs.Steps.{Item, Taken, stepAt, goes, halts, afterElement, closed, Todo, taking, elements, ending, todoOf}
 use Rattle.semantics.specs.Cells.{Cell, findCell}
 use Rattle.semantics.specs.Errors.{Error, error, join, joinWith, beyond, choiceError, stepError}
 
@@ -334,7 +334,7 @@ module _ (book : Book) (text : List ℕ) (inner : Option Runner) where
   steps c j [] x items set s = complete book text j x items set s
   steps c j (elements comma M values close ∷ rest) x items set s = choice c j comma M values close rest (steps c j rest) x items set s
   steps c j (ending values close ∷ rest) x items set s = stops book text j values close (steps c j rest) x items set s
-  steps c j (take′ step ∷ rest) x items set s₀ = do
+  steps c j (taking step ∷ rest) x items set s₀ = do
     s ← stepUnit step s₀
     elim (stepAt book text step x) [
       | Taken.nothing ↦ ok (parsed set (some (stepError book text step (skipFrom text x))) s)

@@ -89,7 +89,7 @@ module _ (text : List ℕ) where
 -- ---- What is left to do
 -- a step; the elements of a list, with or without commas, of a nonterminal, after those already read, up to a closing; or the end of such a list
 pub data Todo (Values : Type 0) : Type 0 where
-  take′ : Step → Todo Values
+  taking : Step → Todo Values
   elements : Bool → ℕ → Values → Option ℕ → Todo Values
   ending : Values → Option ℕ → Todo Values
 
@@ -98,4 +98,4 @@ abbrev pub stepsOf : Book → Variant → List Step
 stepsOf book w = take (w .count) (drop (w .first) (book .steps))
 
 abbrev pub todoOf : {Values : Type 0} → Book → Variant → List (Todo Values)
-todoOf book w = map take′ (stepsOf book w)
+todoOf book w = map taking (stepsOf book w)

@@ -21,7 +21,7 @@ mutual
 
   -- trees in order, the last one outermost
   pub data Trees : Type 0 where
-    none′ : Trees
+    no-trees : Trees
     _▸_ : Trees → Tree → Trees
 
 -- "the parse is (rest, level, associativity, value)"; a value is a tree, or a cell that stands for one

@@ -15,7 +15,7 @@ use Rattle.characters.specs.Slices.{Slice, Lent, atEntry, atExit, rowsSize}
 use Rattle.book.specs.Book.{Book, nthStep}
 use Rattle.book.specs.Index.{bookIn, bookAt}
 use Rattle.semantics.specs.Values.{Parse}
-use Rattle.semantics.specs.Steps.{Item, take′}
+use Rattle.semantics.specs.Steps.{Item, taking}
 use Rattle.semantics.specs.Run as run
 use Rattle.semantics.specs.Run.{Result}
 use Rattle.run_model.specs.Model.{RowState, rowState, Outcome, runIdentifierRows, completeRows}
@@ -93,7 +93,7 @@ completes here book text s = completeRows book text (here .call) (here .variant)
 -- the next step
 abbrev pub takes : Progress → Book → List ℕ → Part
 takes here book text inner n c rest s =
-    stepsRows book text inner n c (here .variant) (take′ (nthStep (book .steps) (here .step)) ∷ rest) (here .at) (here .items) s
+    stepsRows book text inner n c (here .variant) (taking (nthStep (book .steps) (here .step)) ∷ rest) (here .at) (here .items) s
 
 -- a token was read
 abbrev pub reads : Option Item → ℕ → Progress → Book → List ℕ → Part

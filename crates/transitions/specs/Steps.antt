@@ -13,7 +13,7 @@ use Rattle.characters.specs.Skipping.{skipFrom}
 use Rattle.book.specs.Book.{Book, nthStep}
 use Rattle.book.specs.declared.records.Step.{Step}
 use Rattle.semantics.specs.Values.{Parse}
-use Rattle.semantics.specs.Steps.{Item, Todo, take′}
+use Rattle.semantics.specs.Steps.{Item, Todo, taking}
 use Rattle.semantics.specs.Cells.{Cell}
 use Rattle.semantics.specs.Run.{Result, met, ok, _>>=_, make, withCell, withToken}
 use Rattle.run_model.specs.Rows.{Row}
@@ -31,7 +31,7 @@ use Rattle.transitions.specs.Outcomes.{cellsOf, Held, given, failureAt}
 
 -- so many steps of a book from one on
 abbrev pub todoFrom : Book → ℕ → ℕ → List (Todo ℕ)
-todoFrom book step left = map take′ (take left (drop step (book .steps)))
+todoFrom book step left = map taking (take left (drop step (book .steps)))
 
 -- ---- What follows a parse
 unfoldable pub nextRows : Book → List ℕ → ℕ → ℕ → List (Todo ℕ) → Next → ℕ → RowNext

@@ -16,7 +16,7 @@ use Rattle.book.specs.declared.records.Step.{Step}
 use Rattle.book.specs.declared.records.Variant.{Variant}
 use Rattle.semantics.specs.Values.{Parse}
 use Rattle.semantics.specs.Steps as steps
-use Rattle.semantics.specs.Steps.{Todo, take′, stepAt, closed}
+use Rattle.semantics.specs.Steps.{Todo, taking, stepAt, closed}
 use Rattle.semantics.specs.Errors.{Error, error, stepError}
 use Rattle.semantics.specs.Cells.{Cell}
 use Rattle.semantics.specs.Run as run
@@ -266,7 +266,7 @@ token-taken book text before after j items o next s m g w e h =
 
 -- ---- A step
 abbrev stepPart : Book → List ℕ → ℕ → Step → ℕ → ℕ → Part
-stepPart book text j step x items inner n c rest s = stepsRows book text inner n c j (take′ step ∷ rest) x items s
+stepPart book text j step x items inner n c rest s = stepsRows book text inner n c j (taking step ∷ rest) x items s
 
 -- what the step took, in the model, on a state whose unit is spent
 module _ (book : Book) (text : List ℕ) (inner : Option RowRunner) (n c j : ℕ) (rest : List (Todo ℕ)) (step : Step) (x items : ℕ) (s t : RowState)

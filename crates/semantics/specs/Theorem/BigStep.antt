@@ -9,10 +9,10 @@ use Rattle.characters.specs.Skipping.{skipFrom}
 use Rattle.book.specs.Book.{Book, nthNonterminal, nthVariant}
 use Rattle.book.specs.declared.records.Associativity.{Associativity}
 use Rattle.book.specs.declared.records.Step.{Step}
-use Rattle.semantics.specs.Values.{Tree, Trees, none′, _▸_, name, absent, list, Parse}
+use Rattle.semantics.specs.Values.{Tree, Trees, no-trees, _▸_, name, absent, list, Parse}
 use Rattle.semantics.specs.Uses.{Use, Path, base, useOf, hasMark, minimum, same-start, governor, keeps}
 use Rattle.semantics.specs.Tokens.{freeEnd, spelled, claimed}
-use Rattle.semantics.specs.Steps.{Token, Taken, stepAt, After, goes, halts, afterElement, closed, Todo, take′, elements, ending, todoOf}
+use Rattle.semantics.specs.Steps.{Token, Taken, stepAt, After, goes, halts, afterElement, closed, Todo, taking, elements, ending, todoOf}
 use Rattle.semantics.specs.Derivations.{parseOf, withItem}
 use Rattle.semantics.specs.Run.{ask, newest, others}
 use Rattle.semantics.specs.Theorem.Lists.{_∈_, sift, nth, Joins}
@@ -101,28 +101,28 @@ module _ (book : Book) (text : List ℕ) where
           Variants o m n (suc j) B R B′ →
           Variants o m (suc n) j B R B′
       taken : {o : Open} {m n j : ℕ} {B B₁ B′ : List Bool} {R R₁ R₂ : List (Parse Tree)} → leb m (nthVariant book j .level) ≡ true →
-          Steps o j (todoOf book (nthVariant book j)) (o .start) none′ B R₁ B₁ → Variants o m n (suc j) B₁ R₂ B′ → Joins R₁ R₂ R →
+          Steps o j (todoOf book (nthVariant book j)) (o .start) no-trees B R₁ B₁ → Variants o m n (suc j) B₁ R₂ B′ → Joins R₁ R₂ R →
           Variants o m (suc n) j B R B′
 
     -- what is left of variant j from a place, after these items
     pub data Steps : Open → ℕ → List (Todo Trees) → ℕ → Trees → List Bool → List (Parse Tree) → List Bool → Type 0 where
       s-done : {o : Open} {j x : ℕ} {items : Trees} {B : List Bool} {R : List (Parse Tree)} → R ≡ parseOf book j x items ∷ [] → Steps o j [] x items B R B
       s-nothing : {o : Open} {j x : ℕ} {s : Step} {rest : List (Todo Trees)} {items : Trees} {B : List Bool} → stepAt book text s x ≡ Taken.nothing →
-          Steps o j (take′ s ∷ rest) x items B [] B
+          Steps o j (taking s ∷ rest) x items B [] B
       s-token : {o : Open} {j x : ℕ} {s : Step} {t : Token} {rest : List (Todo Trees)} {items : Trees} {B B′ : List Bool} {R : List (Parse Tree)} →
-          stepAt book text s x ≡ Taken.token t → Steps o j rest (t .next) (withItem text items (t .item)) B R B′ → Steps o j (take′ s ∷ rest) x items B R B′
+          stepAt book text s x ≡ Taken.token t → Steps o j rest (t .next) (withItem text items (t .item)) B R B′ → Steps o j (taking s ∷ rest) x items B R B′
       s-child : {o : Open} {j x M : ℕ} {s : Step} {rest : List (Todo Trees)} {items : Trees} {B B₁ B′ : List Bool} {Q R : List (Parse Tree)} →
           stepAt book text s x ≡ Taken.child M → Enters (inside o j (skipFrom text x)) (around o) B M (skipFrom text x) Q B₁ →
-          Each o j (plain rest items) Q B₁ R B′ → Steps o j (take′ s ∷ rest) x items B R B′
+          Each o j (plain rest items) Q B₁ R B′ → Steps o j (taking s ∷ rest) x items B R B′
       s-optional : {o : Open} {j x M : ℕ} {s : Step} {rest : List (Todo Trees)} {items : Trees} {B B₁ B₂ B′ : List Bool} {Q R R₁ R₂ : List (Parse Tree)} →
           stepAt book text s x ≡ Taken.optional M → Steps o j rest x (items ▸ absent) B R₁ B₁ →
           Enters (inside o j (skipFrom text x)) (around o) B₁ M (skipFrom text x) Q B₂ → Each o j (plain rest items) Q B₂ R₂ B′ → Joins R₁ R₂ R →
-          Steps o j (take′ s ∷ rest) x items B R B′
+          Steps o j (taking s ∷ rest) x items B R B′
       s-list : {o : Open} {j x y M : ℕ} {s : Step} {comma : Bool} {close : Option ℕ} {rest : List (Todo Trees)} {items : Trees} {B B′ : List Bool} {R : List (Parse Tree)} →
-          stepAt book text s x ≡ Taken.list comma M close y → Steps o j (elements comma M none′ close ∷ rest) y items B R B′ →
-          Steps o j (take′ s ∷ rest) x items B R B′
+          stepAt book text s x ≡ Taken.list comma M close y → Steps o j (elements comma M no-trees close ∷ rest) y items B R B′ →
+          Steps o j (taking s ∷ rest) x items B R B′
       s-unopened : {o : Open} {j x y : ℕ} {s : Step} {rest : List (Todo Trees)} {items : Trees} {B B′ : List Bool} {R : List (Parse Tree)} →
-          stepAt book text s x ≡ Taken.unopened y → Steps o j rest y (items ▸ list none′) B R B′ → Steps o j (take′ s ∷ rest) x items B R B′
+          stepAt book text s x ≡ Taken.unopened y → Steps o j rest y (items ▸ list no-trees) B R B′ → Steps o j (taking s ∷ rest) x items B R B′
       s-elements : {o : Open} {j x M : ℕ} {comma : Bool} {values : Trees} {close : Option ℕ} {rest : List (Todo Trees)} {items : Trees} {B B₁ B₂ B′ : List Bool}
           {Q R R₁ R₂ : List (Parse Tree)} → Steps o j (ending values close ∷ rest) x items B R₁ B₁ →
           Enters (inside o j (skipFrom text x)) (around o) B₁ M (skipFrom text x) Q B₂ → Each o j (listing comma M values close rest items) Q B₂ R₂ B′ →

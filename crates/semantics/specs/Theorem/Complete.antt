@@ -15,10 +15,10 @@ use lib.Dec.{leb}
 use Rattle.characters.specs.Skipping.{skipFrom}
 use Rattle.book.specs.Book.{Book, nthNonterminal, nthVariant}
 use Rattle.book.specs.declared.records.Step.{Step}
-use Rattle.semantics.specs.Values.{Tree, Trees, none′, _▸_, absent, list, Parse}
+use Rattle.semantics.specs.Values.{Tree, Trees, no-trees, _▸_, absent, list, Parse}
 use Rattle.semantics.specs.Uses.{Use, Path, base, useOf, hasMark, Governor, minimum, same-start, governor, keeps}
 use Rattle.semantics.specs.Tokens.{freeEnd, claimed}
-use Rattle.semantics.specs.Steps.{Taken, stepAt, After, afterElement, closed, Todo, take′, elements, ending, todoOf}
+use Rattle.semantics.specs.Steps.{Taken, stepAt, After, afterElement, closed, Todo, taking, elements, ending, todoOf}
 use Rattle.semantics.specs.Derivations.{parseOf, withItem}
 use Rattle.semantics.specs.Run.{newest, others}
 use Rattle.semantics.specs.Theorem.Lists.{_∈_, sift-in, nth, flag, flag-ask, flag-newest, flag-others, Le, le-then, Joins, only-in}
@@ -93,8 +93,8 @@ module _ (book : Book) (text : List ℕ) where
   Ran o j rest x items B R B′ (Taken.token t) = Steps book text o j rest (t .next) (withItem text items (t .item)) B R B′
   Ran o j rest x items B R B′ (Taken.child M) = Child o j (plain rest items) M x B R B′
   Ran o j rest x items B R B′ (Taken.optional M) = Choice o j rest (items ▸ absent) (plain rest items) M x B R B′
-  Ran o j rest x items B R B′ (Taken.list comma M close y) = Steps book text o j (elements comma M none′ close ∷ rest) y items B R B′
-  Ran o j rest x items B R B′ (Taken.unopened y) = Steps book text o j rest y (items ▸ list none′) B R B′
+  Ran o j rest x items B R B′ (Taken.list comma M close y) = Steps book text o j (elements comma M no-trees close ∷ rest) y items B R B′
+  Ran o j rest x items B R B′ (Taken.unopened y) = Steps book text o j rest y (items ▸ list no-trees) B R B′
   Ran o j rest x items B R B′ Taken.nothing = Unit {0}
 
   -- the run of a list's end, by where its closing ends
@@ -107,7 +107,7 @@ module _ (book : Book) (text : List ℕ) where
   inv-done (s-done r) = r
 
   inv-take : {o : Open} {j : ℕ} {s : Step} {rest : List (Todo Trees)} {x : ℕ} {items : Trees} {B : List Bool} {R : List (Parse Tree)} {B′ : List Bool} →
-      Steps book text o j (take′ s ∷ rest) x items B R B′ → Ran o j rest x items B R B′ (stepAt book text s x)
+      Steps book text o j (taking s ∷ rest) x items B R B′ → Ran o j rest x items B R B′ (stepAt book text s x)
   inv-take (s-nothing {o} {j} {x} {rest = rest} {items = items} {B = B} e) = subst (Ran o j rest x items B [] B) (sym e) tt
   inv-take (s-token {o} {j} {x} {rest = rest} {items = items} {B = B} {B′ = B′} {R = R} e s) = subst (Ran o j rest x items B R B′) (sym e) s
   inv-take (s-child {o} {j} {x} {rest = rest} {items = items} {B = B} {B₁ = B₁} {B′ = B′} {Q = Q} {R = R} e c es) =
@@ -132,7 +132,7 @@ module _ (book : Book) (text : List ℕ) where
 
   -- where it is known what a step takes, or where a list's closing ends
   ran : {o : Open} {j : ℕ} {s : Step} {rest : List (Todo Trees)} {x : ℕ} {items : Trees} {B : List Bool} {R : List (Parse Tree)} {B′ : List Bool} {t : Taken} →
-      stepAt book text s x ≡ t → Steps book text o j (take′ s ∷ rest) x items B R B′ → Ran o j rest x items B R B′ t
+      stepAt book text s x ≡ t → Steps book text o j (taking s ∷ rest) x items B R B′ → Ran o j rest x items B R B′ t
   ran {o} {j} {s} {rest} {x} {items} {B} {R} {B′} e r = subst (Ran o j rest x items B R B′) e (inv-take r)
 
   ended : {o : Open} {j : ℕ} {values : Trees} {close : Option ℕ} {rest : List (Todo Trees)} {x y : ℕ} {items : Trees} {B : List Bool} {R : List (Parse Tree)}
@@ -256,7 +256,7 @@ module _ (book : Book) (text : List ℕ) where
     -- variant k, number i of n from j on, is among those tried
     c-variants : {o : Open} {m n j : ℕ} {B : List Bool} {R : List (Parse Tree)} {B′ : List Bool} → Variants book text o m n j B R B′ → FullIn h o B′ →
         (i k : ℕ) → i < n → k ≡ j + i → leb m (nthVariant book k .level) ≡ true → (p : Parse Tree) →
-        DThrough book text h (o .path) (o .nonterminal) (o .start) k (todoOf book (nthVariant book k)) (o .start) none′ p → p ∈ R
+        DThrough book text h (o .path) (o .nonterminal) (o .start) k (todoOf book (nthVariant book k)) (o .start) no-trees p → p ∈ R
     c-variants no-more F i k l e high p d = absurd (omega arith)
     c-variants (too-low {m = m} {j = j} low v) F zero k l e high p d =
         let same : k ≡ j = omega (arith, e) in
@@ -264,14 +264,14 @@ module _ (book : Book) (text : List ℕ) where
     c-variants (too-low low v) F (suc i) k l e high p d = c-variants v F i k (omega arith) (omega (arith, e)) high p d
     c-variants (taken {o} {j = j} {B = B} {B₁ = B₁} {R₁ = R₁} high′ s v u) F zero k l e high p d =
         let same : k ≡ j = omega (arith, e) in
-        let s′ = subst (λ z. Steps book text o z (todoOf book (nthVariant book z)) (o .start) none′ B R₁ B₁) (sym same) s in
+        let s′ = subst (λ z. Steps book text o z (todoOf book (nthVariant book z)) (o .start) no-trees B R₁ B₁) (sym same) s in
         u .first p (c-steps d (o .sets) (o .mine) B R₁ B₁ s′ (in-le (m-variants book text v) F))
     c-variants (taken high′ s v u) F (suc i) k l e high p d = u .second p (c-variants v F i k (omega arith) (omega (arith, e)) high p d)
 
     c-runs : {P : Path} {S : Sets} {m N u : ℕ} {T : List (Parse Tree)} {B : List Bool} {R : List (Parse Tree)} {B′ : List Bool} →
         Runs book text P S m N u T B R B′ → FullIn h (open′ P S N u T) B′ → (i k : ℕ) → i < nthNonterminal book N .count →
         k ≡ nthNonterminal book N .first + i → leb m (nthVariant book k .level) ≡ true → (p : Parse Tree) →
-        DThrough book text h P N u k (todoOf book (nthVariant book k)) u none′ p → p ∈ R
+        DThrough book text h P N u k (todoOf book (nthVariant book k)) u no-trees p → p ∈ R
     c-runs (runs v) F i k l e high p d = c-variants v F i k l e high p d
 
     -- a run of a call's variants finds what is one higher, by a variant: the use has no other governor and is no mark-2 use

@@ -18,7 +18,7 @@ use Rattle.book.specs.declared.records.Step.{Step}
 use Rattle.semantics.specs.Values.{Parse}
 use Rattle.semantics.specs.Uses.{Path, base, hasMark, governor}
 use Rattle.semantics.specs.Tokens.{freeEnd, claimed}
-use Rattle.semantics.specs.Steps.{Token, Taken, stepAt, afterElement, closed, Todo, take′, elements, ending, stepsOf, todoOf}
+use Rattle.semantics.specs.Steps.{Token, Taken, stepAt, afterElement, closed, Todo, taking, elements, ending, stepsOf, todoOf}
 use Rattle.semantics.specs.Cells.{Cell}
 use Rattle.semantics.specs.Errors.{Error}
 use Rattle.semantics.specs.Run.{Result, ok, _>>=_, State, Parsed, Call, call, withMine, Runner, Go, Next, allIn, kept, newest, spend, make, chosen}
@@ -325,7 +325,7 @@ module _ (book : Book) (text : List ℕ)
           gives-from (o .grown) (good (t .next) (m .cell) set (m .state) r (ready-still (o .grown) h) (o .left) ran))
 
     -- the one step of a passing variant takes no token
-    not-passing : {C : List Cell} (j : ℕ) (step : Step) (rest : List (Todo ℕ)) (x items : ℕ) (t : Token) → Left book text C j (take′ step ∷ rest) items →
+    not-passing : {C : List Cell} (j : ℕ) (step : Step) (rest : List (Todo ℕ)) (x items : ℕ) (t : Token) → Left book text C j (taking step ∷ rest) items →
         stepAt book text step x ≡ Taken.token t → nthVariant book j .passing ≡ true → ⊥
     unfolding stepAt
     not-passing j step rest x items t l e passing =
@@ -339,13 +339,13 @@ module _ (book : Book) (text : List ℕ)
         (λ p. spend-grown s t h (rw p at e))
 
     take-gives : (c : Call) (j : ℕ) (step : Step) (rest : List (Todo ℕ)) → GoodGo c j rest (steps book text inner c j rest) →
-        GoodGo c j (take′ step ∷ rest) (steps book text inner c j (take′ step ∷ rest))
+        GoodGo c j (taking step ∷ rest) (steps book text inner c j (taking step ∷ rest))
     unfolding steps
     take-gives c j step rest good x items set s₀ r h₀ l₀ e =
         after _ _ e (λ s unit ran.
         let way = unit-grown step s₀ s (h₀ .tabled) unit in
         let h = ready-still way h₀ in
-        let l = left-still (take′ step ∷ rest) items (way .prefix) l₀ in
+        let l = left-still (taking step ∷ rest) items (way .prefix) l₀ in
         let w = wants-take l in
         gives-from way
         (taken-cases (stepAt book text step x)
@@ -364,7 +364,7 @@ module _ (book : Book) (text : List ℕ)
         choice-gives c j rest (steps book text inner c j rest) (steps-give c j rest) comma M values close x items set s r h (elements-left l) e
     steps-give c j (ending values close ∷ rest) x items set s r h l e =
         stops-give c j values close rest (steps book text inner c j rest) (steps-give c j rest) x items set s r h (ending-left l) e
-    steps-give c j (take′ step ∷ rest) x items set s r h l e = take-gives c j step rest (steps-give c j rest) x items set s r h l e
+    steps-give c j (taking step ∷ rest) x items set s r h l e = take-gives c j step rest (steps-give c j rest) x items set s r h l e
 
   -- ---- The whole run
   runner-good : (n : ℕ) (f : Runner) → runner book text n ≡ some f → Good f

@@ -11,10 +11,10 @@ use Rattle.characters.specs.Skipping.{skipFrom}
 use Rattle.book.specs.Book.{Book, nthNonterminal, nthVariant}
 use Rattle.book.specs.declared.records.Associativity.{Associativity}
 use Rattle.book.specs.declared.records.Step.{Step}
-use Rattle.semantics.specs.Values.{Tree, Trees, none′, _▸_, name, absent, list, Parse}
+use Rattle.semantics.specs.Values.{Tree, Trees, no-trees, _▸_, name, absent, list, Parse}
 use Rattle.semantics.specs.Uses.{Use, Path, base, useOf, hasMark, minimum, same-start, governor, keeps}
 use Rattle.semantics.specs.Tokens.{freeEnd, spelled, claimed}
-use Rattle.semantics.specs.Steps.{Token, Taken, stepAt, goes, halts, afterElement, closed, Todo, take′, elements, ending, todoOf}
+use Rattle.semantics.specs.Steps.{Token, Taken, stepAt, goes, halts, afterElement, closed, Todo, taking, elements, ending, todoOf}
 use Rattle.semantics.specs.Derivations.{parseOf, withItem, Derives, by-variant, by-governor, by-identifier}
 use Rattle.semantics.specs.Derivations.{Through, done, by-token, by-child, by-absent, by-one, by-list, by-unopened, by-stop, by-more, by-last, by-ending}
 
@@ -24,7 +24,7 @@ module _ (book : Book) (text : List ℕ) where
     pub data Der : ℕ → Path → ℕ → ℕ → Parse Tree → Type 0 where
       h-variant : {h : ℕ} {P : Path} {N u m i : ℕ} {p : Parse Tree} → governor P base N u ≡ minimum m →
           i < nthNonterminal book N .count → leb m (nthVariant book (nthNonterminal book N .first + i) .level) ≡ true →
-          DThrough h P N u (nthNonterminal book N .first + i) (todoOf book (nthVariant book (nthNonterminal book N .first + i))) u none′ p →
+          DThrough h P N u (nthNonterminal book N .first + i) (todoOf book (nthVariant book (nthNonterminal book N .first + i))) u no-trees p →
           Der (suc h) P N u p
       h-governor : {h : ℕ} {P Q : Path} {N u i : ℕ} {f : Use} {p : Parse Tree} → governor P base N u ≡ same-start i f Q →
           Der h Q (f .nonterminal) (f .start) p → keeps f p ≡ true → Der (suc h) P N u p
@@ -36,20 +36,20 @@ module _ (book : Book) (text : List ℕ) where
       h-done : {h : ℕ} {P : Path} {N u j x : ℕ} {items : Trees} {p : Parse Tree} → p ≡ parseOf book j x items → DThrough h P N u j [] x items p
       h-token : {h : ℕ} {P : Path} {N u j x : ℕ} {s : Step} {t : Token} {rest : List (Todo Trees)} {items : Trees} {p : Parse Tree} →
           stepAt book text s x ≡ Taken.token t → DThrough h P N u j rest (t .next) (withItem text items (t .item)) p →
-          DThrough h P N u j (take′ s ∷ rest) x items p
+          DThrough h P N u j (taking s ∷ rest) x items p
       h-child : {h : ℕ} {P : Path} {N u j x M : ℕ} {s : Step} {q p : Parse Tree} {rest : List (Todo Trees)} {items : Trees} →
           stepAt book text s x ≡ Taken.child M → Der h (useOf book N u j (skipFrom text x) ∷ P) M (skipFrom text x) q →
-          DThrough h P N u j rest (q .rest) (items ▸ q .value) p → DThrough h P N u j (take′ s ∷ rest) x items p
+          DThrough h P N u j rest (q .rest) (items ▸ q .value) p → DThrough h P N u j (taking s ∷ rest) x items p
       h-absent : {h : ℕ} {P : Path} {N u j x M : ℕ} {s : Step} {p : Parse Tree} {rest : List (Todo Trees)} {items : Trees} →
-          stepAt book text s x ≡ Taken.optional M → DThrough h P N u j rest x (items ▸ absent) p → DThrough h P N u j (take′ s ∷ rest) x items p
+          stepAt book text s x ≡ Taken.optional M → DThrough h P N u j rest x (items ▸ absent) p → DThrough h P N u j (taking s ∷ rest) x items p
       h-one : {h : ℕ} {P : Path} {N u j x M : ℕ} {s : Step} {q p : Parse Tree} {rest : List (Todo Trees)} {items : Trees} →
           stepAt book text s x ≡ Taken.optional M → Der h (useOf book N u j (skipFrom text x) ∷ P) M (skipFrom text x) q →
-          DThrough h P N u j rest (q .rest) (items ▸ q .value) p → DThrough h P N u j (take′ s ∷ rest) x items p
+          DThrough h P N u j rest (q .rest) (items ▸ q .value) p → DThrough h P N u j (taking s ∷ rest) x items p
       h-list : {h : ℕ} {P : Path} {N u j x y M : ℕ} {s : Step} {comma : Bool} {close : Option ℕ} {p : Parse Tree} {rest : List (Todo Trees)} {items : Trees} →
-          stepAt book text s x ≡ Taken.list comma M close y → DThrough h P N u j (elements comma M none′ close ∷ rest) y items p →
-          DThrough h P N u j (take′ s ∷ rest) x items p
+          stepAt book text s x ≡ Taken.list comma M close y → DThrough h P N u j (elements comma M no-trees close ∷ rest) y items p →
+          DThrough h P N u j (taking s ∷ rest) x items p
       h-unopened : {h : ℕ} {P : Path} {N u j x y : ℕ} {s : Step} {p : Parse Tree} {rest : List (Todo Trees)} {items : Trees} →
-          stepAt book text s x ≡ Taken.unopened y → DThrough h P N u j rest y (items ▸ list none′) p → DThrough h P N u j (take′ s ∷ rest) x items p
+          stepAt book text s x ≡ Taken.unopened y → DThrough h P N u j rest y (items ▸ list no-trees) p → DThrough h P N u j (taking s ∷ rest) x items p
       h-stop : {h : ℕ} {P : Path} {N u j x M : ℕ} {comma : Bool} {values : Trees} {close : Option ℕ} {p : Parse Tree} {rest : List (Todo Trees)}
           {items : Trees} → DThrough h P N u j (ending values close ∷ rest) x items p → DThrough h P N u j (elements comma M values close ∷ rest) x items p
       h-more : {h : ℕ} {P : Path} {N u j x y M : ℕ} {comma : Bool} {values : Trees} {close : Option ℕ} {q p : Parse Tree} {rest : List (Todo Trees)}

@@ -19,7 +19,7 @@ use Rattle.book.specs.declared.records.Step.{Step}
 use Rattle.semantics.specs.Values.{Tree, Trees, Parse}
 use Rattle.semantics.specs.Uses.{Use, keeps}
 use Rattle.semantics.specs.Tokens.{when}
-use Rattle.semantics.specs.Steps.{Item as Read, Todo, take′, elements, ending, stepsOf, todoOf}
+use Rattle.semantics.specs.Steps.{Item as Read, Todo, taking, elements, ending, stepsOf, todoOf}
 use Rattle.semantics.specs.Cells.{Cell, one, several, meaningOf, meanings}
 use Rattle.semantics.specs.Errors.{Error}
 use Rattle.semantics.specs.Run.{ok, State, Parsed, parsed, Made, made, Call, kept, add, addAll, make, itemCell, begin, withCell, withToken, complete}
@@ -62,13 +62,13 @@ pub record Ready (text : List ℕ) (C : List Cell) (c : Call) (U : List (Parse �
 -- of what is left to do, the lists under way have values
 unfoldable pub Values : List ℕ → List Cell → List (Todo ℕ) → Type 0
 Values text C [] = Unit {0}
-Values text C (take′ step ∷ rest) = Values text C rest
+Values text C (taking step ∷ rest) = Values text C rest
 Values text C (elements comma M values close ∷ rest) = Chain text C values × Values text C rest
 Values text C (ending values close ∷ rest) = Chain text C values × Values text C rest
 
 -- what is sure to add an item if it goes on: of the steps a child, the only one that a passing variant has, and every list
 abbrev pub Adds : Todo ℕ → Type 0
-Adds (take′ step) = (M : ℕ) × (step ≡ Step.Nonterminal M)
+Adds (taking step) = (M : ℕ) × (step ≡ Step.Nonterminal M)
 Adds (elements comma M values close) = Unit {0}
 Adds (ending values close) = Unit {0}
 
@@ -127,7 +127,7 @@ gives-set h = record { grown = grown-refl (h .tabled); set = h .set }
 pub values-still : (text : List ℕ) {C C′ : List Cell} (todo : List (Todo ℕ)) → Prefix C C′ → Values text C todo → Values text C′ todo
 unfolding Values
 values-still text [] p h = tt
-values-still text (take′ step ∷ rest) p h = values-still text rest p h
+values-still text (taking step ∷ rest) p h = values-still text rest p h
 values-still text (elements comma M values close ∷ rest) p h = (chain-still text p values (h .0), values-still text rest p (h .1))
 values-still text (ending values close ∷ rest) p h = (chain-still text p values (h .0), values-still text rest p (h .1))
 
@@ -147,7 +147,7 @@ module _ {book : Book} {text : List ℕ} {C C′ : List Cell} {j : ℕ} (todo : 
   wants-still h = record { values = values-still text todo p (h .values); plain = λ t. chain-still text p items (h .plain t); passing = h .passing }
 
 pub wants-take : {book : Book} {text : List ℕ} {C : List Cell} {j : ℕ} {step : Step} {rest : List (Todo ℕ)} {items : ℕ} →
-    Left book text C j (take′ step ∷ rest) items → Wants book text C j rest items
+    Left book text C j (taking step ∷ rest) items → Wants book text C j rest items
 unfolding Values
 wants-take h = record { values = h .values; plain = h .plain; passing = λ t. h .passing t .1 }
 
@@ -296,7 +296,7 @@ module _ {text : List ℕ} (s : State) (m : Made) (tabled : Tabled text (s .cell
   new-read (Read.variable i kind) fits e = make-item (Cell.variable i kind) _ refl tt e
 
 -- ---- The cells of a variant
-steps-values : (text : List ℕ) (C : List Cell) (l : List Step) → Values text C (map take′ l)
+steps-values : (text : List ℕ) (C : List Cell) (l : List Step) → Values text C (map taking l)
 unfolding Values
 steps-values text C [] = tt
 steps-values text C (step ∷ l) = steps-values text C l
@@ -324,8 +324,8 @@ module _ (book : Book) (text : List ℕ) (j : ℕ) where
       the-steps : List Step
       the-steps = stepsOf book (nthVariant book j)
 
-      one-step : (C : List Cell) → (M : ℕ) × (the-steps ≡ Step.Nonterminal M ∷ []) → Passing text C (map take′ the-steps) 0
-      one-step C h = subst (λ (l : List Step). Passing text C (map take′ l) 0) (sym (h .1)) ((h .0, refl), refl)
+      one-step : (C : List Cell) → (M : ℕ) × (the-steps ≡ Step.Nonterminal M ∷ []) → Passing text C (map taking the-steps) 0
+      one-step C h = subst (λ (l : List Step). Passing text C (map taking l) 0) (sym (h .1)) ((h .0, refl), refl)
 
   -- an item is added
   pub with-cell-onward : (rest : List (Todo ℕ)) (items item : ℕ) (s : State) (m : Made) → Tabled text (s .cells) → Wants book text (s .cells) j rest items →

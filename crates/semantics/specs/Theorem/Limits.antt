@@ -16,7 +16,7 @@ use Rattle.book.specs.declared.records.Step.{Step}
 use Rattle.semantics.specs.Values.{Parse}
 use Rattle.semantics.specs.Uses.{Path, base, hasMark, governor}
 use Rattle.semantics.specs.Tokens.{freeEnd, claimed}
-use Rattle.semantics.specs.Steps.{Item, stepAt, afterElement, closed, Todo, take′, elements, ending}
+use Rattle.semantics.specs.Steps.{Item, stepAt, afterElement, closed, Todo, taking, elements, ending}
 use Rattle.semantics.specs.Cells.{Cell, findCell}
 use Rattle.semantics.specs.Errors.{Error}
 use Rattle.semantics.specs.Run.{Result, met, ok, _>>=_, State, Parsed, Call, Runner, Go, Next, has, allIn, newest, add, addAll, spend, make, begin, withCell}
@@ -239,7 +239,7 @@ module _ (book : Book) (text : List ℕ) where
     steps-limited c j (elements comma M values close ∷ rest) x items set s =
         choice-limited c j comma M values close rest _ (λ y is u t. steps-limited c j rest y is u t) x items set s
     steps-limited c j (ending values close ∷ rest) x items set s = stops-limited j values close _ (λ y is u t. steps-limited c j rest y is u t) x items set s
-    steps-limited c j (take′ step ∷ rest) x items set s₀ =
+    steps-limited c j (taking step ∷ rest) x items set s₀ =
         let go = steps book text inner c j rest in
         let h : LimitedGo go = λ y is u t. steps-limited c j rest y is u t in
         then _ _ (step-unit-limited step s₀) (λ s.

@@ -12,10 +12,10 @@ use Rattle.characters.specs.Cases.{by-test}
 use Rattle.book.specs.Book.{Book, nthNonterminal, nthVariant}
 use Rattle.book.specs.declared.records.Associativity.{Associativity}
 use Rattle.book.specs.declared.records.Step.{Step}
-use Rattle.semantics.specs.Values.{Tree, Trees, none′, Parse}
+use Rattle.semantics.specs.Values.{Tree, Trees, no-trees, Parse}
 use Rattle.semantics.specs.Uses.{Use, Path, base, hasMark, minimum, same-start, governor, keeps}
 use Rattle.semantics.specs.Tokens.{freeEnd, claimed}
-use Rattle.semantics.specs.Steps.{Todo, take′, elements, ending, stepsOf, todoOf}
+use Rattle.semantics.specs.Steps.{Todo, taking, elements, ending, stepsOf, todoOf}
 use Rattle.semantics.specs.Cells.{Cell}
 use Rattle.semantics.specs.Errors.{Error}
 use Rattle.semantics.specs.Run.{ok, State, Parsed, parsed, Made, Call, call, withMine, Runner, allIn, kept, ask, newest, others, withAsked, spend, variants, oneRun, rounds, runCall, named, runIdentifier, reentry, enter, run}
@@ -42,16 +42,16 @@ module _ (text : List ℕ) (Cf : List Cell) where
   trees set = map (tree (treeFor text Cf)) set
 
   abbrev pub todoFor : Todo ℕ → Todo Trees
-  todoFor (take′ s) = take′ s
+  todoFor (taking s) = taking s
   todoFor (elements comma M values close) = elements comma M (treesFor text Cf values) close
   todoFor (ending values close) = ending (treesFor text Cf values) close
 
   abbrev pub openFor : Call → Open
   openFor c = open′ (c .path) (map trees (c .stored)) (c .nonterminal) (c .start) (trees (c .mine))
 
-  steps-for : (l : List Step) → map todoFor (map take′ l) ≡ map take′ l
+  steps-for : (l : List Step) → map todoFor (map taking l) ≡ map taking l
   steps-for [] = refl
-  steps-for (s ∷ l) = ap (λ (t : List (Todo Trees)). take′ s ∷ t) (steps-for l)
+  steps-for (s ∷ l) = ap (λ (t : List (Todo Trees)). taking s ∷ t) (steps-for l)
 
 module _ (book : Book) (text : List ℕ) (Cf : List Cell) (table : Table text Cf) where
   -- what the relation finds, of a variant's rest, beside a set
@@ -111,15 +111,15 @@ module _ (book : Book) (text : List ℕ) (Cf : List Cell) (table : Table text Cf
   taken-ok : (c : Call) (m n j : ℕ) (set : List (Parse ℕ)) (s : State) (b : Made) (a r : Parsed) → leb m (nthVariant book j .level) ≡ true →
       BeginOk text Cf table book j s b → RunOk c j (todoOf book (nthVariant book j)) (c .start) (b .cell) set (b .state) (a .set) (a .state) →
       VariantsOk c m n (suc j) (a .set) (a .state) r → VariantsOk c m (suc n) j set s r
-  taken-ok c m n j set s b a r t g w v = with-first (w .finds none′ (g .stands))
+  taken-ok c m n j set s b a r t g w v = with-first (w .finds no-trees (g .stands))
     where
-      with-first : Finds c j (todoOf book (nthVariant book j)) (c .start) none′ set (b .state) (a .set) (a .state) → VariantsOk c m (suc n) j set s r
+      with-first : Finds c j (todoOf book (nthVariant book j)) (c .start) no-trees set (b .state) (a .set) (a .state) → VariantsOk c m (suc n) j set s r
       with-first f = record {
         back = g .way .back;
         R = f .R ++ v .R;
         run = taken t
-            (subst (λ B. Steps book text (openFor text Cf c) j (todoOf book (nthVariant book j)) (c .start) none′ B (f .R) (a .state .asked)) (g .way .asked)
-            (subst (λ l. Steps book text (openFor text Cf c) j l (c .start) none′ (b .state .asked) (f .R) (a .state .asked)) (steps-for text Cf (stepsOf book (nthVariant book j))) (f .run)))
+            (subst (λ B. Steps book text (openFor text Cf c) j (todoOf book (nthVariant book j)) (c .start) no-trees B (f .R) (a .state .asked)) (g .way .asked)
+            (subst (λ l. Steps book text (openFor text Cf c) j l (c .start) no-trees (b .state .asked) (f .R) (a .state .asked)) (steps-for text Cf (stepsOf book (nthVariant book j))) (f .run)))
             (v .run) (joins-append (f .R) (v .R));
         joins = joins-two (f .joins) (v .joins);
       }

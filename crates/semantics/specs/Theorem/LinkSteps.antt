@@ -9,8 +9,8 @@ use Rattle.characters.specs.Classes.{between}
 use Rattle.characters.specs.Skipping.{skipFrom}
 use Rattle.book.specs.Book.{Book, nthVariant, stepNumber}
 use Rattle.book.specs.declared.records.Step.{Step}
-use Rattle.semantics.specs.Values.{Tree, Trees, none′, _▸_, Parse}
-use Rattle.semantics.specs.Steps.{Token, Taken, stepAt, After, goes, halts, afterElement, closed, Todo, take′, elements, ending}
+use Rattle.semantics.specs.Values.{Tree, Trees, no-trees, _▸_, Parse}
+use Rattle.semantics.specs.Steps.{Token, Taken, stepAt, After, goes, halts, afterElement, closed, Todo, taking, elements, ending}
 use Rattle.semantics.specs.Derivations.{valueOf, withItem}
 use Rattle.semantics.specs.Cells.{Cell}
 use Rattle.semantics.specs.Errors.{Error}
@@ -271,12 +271,12 @@ module _ (book : Book) (text : List ℕ) (Cf : List Cell) (table : Table text Cf
     or-absent-ok : (c : Call) (j M : ℕ) (step : Step) (rest : List (Todo ℕ)) (go : Go) → GoodGo c j rest go →
         (x items : ℕ) (set : List (Parse ℕ)) (s : State) (r : Parsed) →
         stepAt book text step x ≡ Taken.optional M → orAbsent book text inner c j M rest go x items set s ≡ ok r → Before Cf (r .state) →
-        RunOk c j (take′ step ∷ rest) x items set s (r .set) (r .state)
+        RunOk c j (taking step ∷ rest) x items set s (r .set) (r .state)
     unfolding orAbsent
     or-absent-ok c j M step rest go good x items set s r takes e b =
         after _ _ e (λ absent made e₁. after _ _ e₁ (λ m with-it e₂. after _ _ e₂ (λ a went-first e₃. after _ _ e₃ (λ d entered e₄. after _ _ e₄ (λ l went is.
-        subst (λ (z : Parsed). Before Cf (z .state) → RunOk c j (take′ step ∷ rest) x items set s (z .set) (z .state)) (ok-inj is)
-        (chosen-same c (skipFrom text x) (a .failure) l (λ out t. Before Cf t → RunOk c j (take′ step ∷ rest) x items set s out t)
+        subst (λ (z : Parsed). Before Cf (z .state) → RunOk c j (taking step ∷ rest) x items set s (z .set) (z .state)) (ok-inj is)
+        (chosen-same c (skipFrom text x) (a .failure) l (λ out t. Before Cf t → RunOk c j (taking step ∷ rest) x items set s out t)
         (λ b′. let t = tail-ok c j M x items _ _ (plain-next-ok c j rest items) (a .set) (a .state) d l entered went b′ in
         let w = with-item-ok c j rest go good x items (absent .cell) Tree.absent set (absent .state) m a with-it went-first (t .back) (λ b″. made-absent text Cf table s absent made b″) in
         let v = make-way text Cf table s absent Cell.absent made (w .back) in
@@ -284,14 +284,14 @@ module _ (book : Book) (text : List ℕ) (Cf : List Cell) (table : Table text Cf
       where
         one-or-absent : {ts : Trees} {t : State} {out : List (Parse ℕ)} {u : State} →
             BothFind c j M x (plain (map (todoFor text Cf) rest) ts) (Steps book text (openFor text Cf c) j (map (todoFor text Cf) rest) x (ts ▸ Tree.absent)) set t out u →
-            Finds c j (take′ step ∷ rest) x ts set t out u
+            Finds c j (taking step ∷ rest) x ts set t out u
         one-or-absent z = record { R = z .R₁ ++ z .R₂; run = s-optional takes (z .one) (z .called) (z .each) (joins-append (z .R₁) (z .R₂)); joins = z .joins }
 
     listing-ok : (c : Call) (j : ℕ) (step : Step) (comma : Bool) (M : ℕ) (close : Option ℕ) (rest : List (Todo ℕ)) (go : Go) → GoodGo c j rest go →
         (x y items : ℕ) (set : List (Parse ℕ))
         (s : State) (r : Parsed) → stepAt book text step x ≡ Taken.list comma M close y →
         listing book text inner c j comma M close rest go y items set s ≡ ok r → Before Cf (r .state) →
-        RunOk c j (take′ step ∷ rest) x items set s (r .set) (r .state)
+        RunOk c j (taking step ∷ rest) x items set s (r .set) (r .state)
     unfolding listing
     listing-ok c j step comma M close rest go good x y items set s r takes e b =
         after _ _ e (λ m made ran.
@@ -299,8 +299,8 @@ module _ (book : Book) (text : List ℕ) (Cf : List Cell) (table : Table text Cf
         let v = make-way text Cf table s m Cell.empty made (w .back) in
         record { back = v .back; finds = λ ts h. begun (made-empty text Cf table s m made (w .back)) (finds-from book text Cf table v (w .finds ts h)) })
       where
-        begun : {n : ℕ} {ts : Trees} → treesFor text Cf n ≡ none′ → Finds c j (elements comma M n close ∷ rest) y ts set s (r .set) (r .state) →
-            Finds c j (take′ step ∷ rest) x ts set s (r .set) (r .state)
+        begun : {n : ℕ} {ts : Trees} → treesFor text Cf n ≡ no-trees → Finds c j (elements comma M n close ∷ rest) y ts set s (r .set) (r .state) →
+            Finds c j (taking step ∷ rest) x ts set s (r .set) (r .state)
         begun {ts = ts} empty g = record {
           R = g .R;
           run = s-list takes (subst (λ l. Steps book text (openFor text Cf c) j (elements comma M l close ∷ map (todoFor text Cf) rest) y ts (s .asked) (g .R) (r .state .asked)) empty (g .run));
@@ -311,7 +311,7 @@ module _ (book : Book) (text : List ℕ) (Cf : List Cell) (table : Table text Cf
         (x y items : ℕ) (set : List (Parse ℕ)) (s : State) (r : Parsed) →
         stepAt book text step x ≡ Taken.unopened y → (make text Cell.empty s >>= (λ e. stops book text j (e .cell) none go y items set (e .state))) ≡ ok r →
         Before Cf (r .state) →
-        RunOk c j (take′ step ∷ rest) x items set s (r .set) (r .state)
+        RunOk c j (taking step ∷ rest) x items set s (r .set) (r .state)
     unfolding stops closed
     unopened-ok c j step rest go good x y items set s r takes e b =
         after _ _ e (λ m made e₁. after _ _ e₁ (λ l listed-it e₂. after _ _ e₂ (λ n with-it went.
@@ -321,8 +321,8 @@ module _ (book : Book) (text : List ℕ) (Cf : List Cell) (table : Table text Cf
         let u = make-way text Cf table s m Cell.empty made (v .back) in
         record { back = u .back; finds = λ ts h. none-there (made-empty text Cf table s m made (v .back)) (finds-from book text Cf table u (finds-from book text Cf table v (w .finds ts h))) })))
       where
-        none-there : {ts values : Trees} → values ≡ none′ → Finds c j rest y (ts ▸ Tree.list values) set s (r .set) (r .state) →
-            Finds c j (take′ step ∷ rest) x ts set s (r .set) (r .state)
+        none-there : {ts values : Trees} → values ≡ no-trees → Finds c j rest y (ts ▸ Tree.list values) set s (r .set) (r .state) →
+            Finds c j (taking step ∷ rest) x ts set s (r .set) (r .state)
         none-there {ts} empty g = record {
           R = g .R;
           run = s-unopened takes (subst (λ l. Steps book text (openFor text Cf c) j (map (todoFor text Cf) rest) y (ts ▸ Tree.list l) (s .asked) (g .R) (r .state .asked)) empty (g .run));
@@ -334,7 +334,7 @@ module _ (book : Book) (text : List ℕ) (Cf : List Cell) (table : Table text Cf
         (x items : ℕ) (set : List (Parse ℕ)) (s : State) (r : Parsed) →
         stepAt book text step x ≡ Taken.token t → (withToken book text j items (t .item) s >>= (λ m. go (t .next) (m .cell) set (m .state))) ≡ ok r →
         Before Cf (r .state) →
-        RunOk c j (take′ step ∷ rest) x items set s (r .set) (r .state)
+        RunOk c j (taking step ∷ rest) x items set s (r .set) (r .state)
     token-ok c j step t rest go good x items set s r takes e b =
         after _ _ e (λ m made went.
         let w = good (t .next) (m .cell) set (m .state) r went b in
@@ -347,7 +347,7 @@ module _ (book : Book) (text : List ℕ) (Cf : List Cell) (table : Table text Cf
     child-ok : (c : Call) (j M : ℕ) (step : Step) (rest : List (Todo ℕ)) (x items : ℕ) (set : List (Parse ℕ)) (s : State) (r : Parsed) →
         stepAt book text step x ≡ Taken.child M →
         (enterChild book text inner c j M x s >>= (λ d. followed book text inner (plainNext book text c j rest items) set d)) ≡ ok r → Before Cf (r .state) →
-        RunOk c j (take′ step ∷ rest) x items set s (r .set) (r .state)
+        RunOk c j (taking step ∷ rest) x items set s (r .set) (r .state)
     child-ok c j M step rest x items set s r takes e b =
         after _ _ e (λ d entered went.
         let t = tail-ok c j M x items _ _ (plain-next-ok c j rest items) set s d r entered went b in
@@ -355,7 +355,7 @@ module _ (book : Book) (text : List ℕ) (Cf : List Cell) (table : Table text Cf
 
     nothing-ok : (c : Call) (j : ℕ) (step : Step) (rest : List (Todo ℕ)) (x items : ℕ) (set : List (Parse ℕ)) (s : State) →
         stepAt book text step x ≡ Taken.nothing → Before Cf s →
-        RunOk c j (take′ step ∷ rest) x items set s set s
+        RunOk c j (taking step ∷ rest) x items set s set s
     nothing-ok c j step rest x items set s takes b = record { back = b; finds = λ ts h. record { R = []; run = s-nothing takes; joins = joins-nil } }
 
     -- a variant's end: its value, and its parse
@@ -406,12 +406,12 @@ module _ (book : Book) (text : List ℕ) (Cf : List Cell) (table : Table text Cf
         choice-ok c j comma M values close rest (steps book text inner c j rest) (λ y is u t q d b′. steps-ok c j rest y is u t q d b′) x items set s r e b
     steps-ok c j (ending values close ∷ rest) x items set s r e b =
         stops-ok c j values close rest (steps book text inner c j rest) (λ y is u t q d b′. steps-ok c j rest y is u t q d b′) x items set s r e b
-    steps-ok c j (take′ step ∷ rest) x items set s₀ r e b =
+    steps-ok c j (taking step ∷ rest) x items set s₀ r e b =
         let go = steps book text inner c j rest in
         let good : GoodGo c j rest go = λ y is u t q d b′. steps-ok c j rest y is u t q d b′ in
-        after _ _ e (λ s unit ran. run-from c j (take′ step ∷ rest) x items set s₀ s r (λ b′. unit-way step s₀ s unit b′)
+        after _ _ e (λ s unit ran. run-from c j (taking step ∷ rest) x items set s₀ s r (λ b′. unit-way step s₀ s unit b′)
         (taken-cases (stepAt book text step x)
-        (λ takes. subst (λ (z : Parsed). Before Cf (z .state) → RunOk c j (take′ step ∷ rest) x items set s (z .set) (z .state)) (ok-inj (rw takes at ran)) (nothing-ok c j step rest x items set s takes) b)
+        (λ takes. subst (λ (z : Parsed). Before Cf (z .state) → RunOk c j (taking step ∷ rest) x items set s (z .set) (z .state)) (ok-inj (rw takes at ran)) (nothing-ok c j step rest x items set s takes) b)
         (λ t takes. token-ok c j step t rest go good x items set s r takes (rw takes at ran) b)
         (λ M takes. child-ok c j M step rest x items set s r takes (rw takes at ran) b)
         (λ M takes. or-absent-ok c j M step rest go good x items set s r takes (rw takes at ran) b)

@@ -8,7 +8,7 @@ use lib.Pow.{split}
 use Rattle.characters.specs.Cases.{by-test, clash}
 use Rattle.characters.specs.Spelling.{partOf}
 use Rattle.book.specs.Book.{Book, nthVariant}
-use Rattle.semantics.specs.Values.{Tree, Trees, none′, _▸_}
+use Rattle.semantics.specs.Values.{Tree, Trees, no-trees, _▸_}
 use Rattle.semantics.specs.Steps.{Item}
 use Rattle.semantics.specs.Derivations.{lastOf, treeOf, withItem}
 use Rattle.semantics.specs.Cells.{Cell, treeIn, treesIn, meaningOf}
@@ -44,7 +44,7 @@ module _ (text : List ℕ) (Cf : List Cell) (table : Table text Cf) where
     pub make-way : (c : Cell) → make text c s ≡ ok m → Before Cf (m .state) → Way Cf s (m .state)
     make-way c e b = let g = make-grows text c s m e in record { back = prefix-then (g .prefix) b; asked = g .asked }
 
-    pub made-empty : make text Cell.empty s ≡ ok m → Before Cf (m .state) → treesFor text Cf (m .cell) ≡ none′
+    pub made-empty : make text Cell.empty s ≡ ok m → Before Cf (m .state) → treesFor text Cf (m .cell) ≡ no-trees
     unfolding meaningOf treesIn
     made-empty e b = ap treesIn (make-means text Cf table Cell.empty s m e b)
 
@@ -85,7 +85,7 @@ module _ (text : List ℕ) (Cf : List Cell) (table : Table text Cf) where
 
     pub record BeginOk (s : State) (m : Made) : Type 0 where
       pub way : Way Cf s (m .state)
-      pub stands : Stands (m .cell) none′
+      pub stands : Stands (m .cell) no-trees
 
     pub begin-ok : (s : State) (m : Made) → begin book text j s ≡ ok m → Before Cf (m .state) → BeginOk s m
     unfolding begin lastOf treeIn

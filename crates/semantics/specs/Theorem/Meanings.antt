@@ -9,7 +9,7 @@ use Prim.Native.Nat.{ℕ, zero, suc, _+_, _-_, _*_, _^_, _≤_, _<_}
 use native.Mathlib.Omega.{arith}
 use lib.ListN.{length, getD, length-append, List·getD-append}
 use lib.Seq.{getD-at}
-use Rattle.semantics.specs.Values.{Tree, Trees, none′, _▸_}
+use Rattle.semantics.specs.Values.{Tree, Trees, no-trees, _▸_}
 use Rattle.semantics.specs.Cells.{Cell, numbersOf, identityOf, Meaning, one, several, treeIn, treesIn, nthMeaning, meaningOf, meanings}
 
 -- what cell n of a list of cells stands for
@@ -145,11 +145,11 @@ module _ (text : List ℕ) where
   -- ---- By the identity one knows the meaning
   -- the meaning of a cell with this identity
   byIdentity : List Meaning → List ℕ → Meaning
-  byIdentity before [] = several none′
+  byIdentity before [] = several no-trees
   byIdentity before (form ∷ identity) =
       let a = getD identity 0 0 in
       let b = getD identity 1 0 in
-      getD (several none′
+      getD (several no-trees
       ∷ several (treesIn (nthMeaning before a) ▸ treeIn (nthMeaning before b))
       ∷ one (Tree.variant a (treesIn (nthMeaning before b)))
       ∷ one (Tree.name identity)
@@ -158,7 +158,7 @@ module _ (text : List ℕ) where
       ∷ one Tree.absent
       ∷ one (Tree.list (treesIn (nthMeaning before a)))
       ∷ [])
-      (form - 1) (several none′)
+      (form - 1) (several no-trees)
 
   by-identity : (before : List Meaning) (c : Cell) → meaningOf text before c ≡ byIdentity before (identityOf text c)
   unfolding meaningOf byIdentity identityOf numbersOf
@@ -181,7 +181,7 @@ module _ (text : List ℕ) where
 
   -- the identity of a cell that fits and has this meaning
   Key : List Cell → Meaning → List ℕ → Type 0
-  Key C (several none′) id = id ≡ 1 ∷ 0 ∷ 0 ∷ []
+  Key C (several no-trees) id = id ≡ 1 ∷ 0 ∷ 0 ∷ []
   Key C (several (ts ▸ t)) id = (c item : ℕ) × Stands C c (several ts) × Stands C item (one t) × (id ≡ 2 ∷ c ∷ item ∷ [])
   Key C (one (Tree.variant j ts)) id = (c : ℕ) × Stands C c (several ts) × (id ≡ 3 ∷ j ∷ c ∷ [])
   Key C (one (Tree.name spelling)) id = id ≡ 4 ∷ spelling
@@ -221,7 +221,7 @@ module _ (text : List ℕ) where
 
   key-once : (C : List Cell) → Single C → (M : Meaning) (a b : List ℕ) → Key C M a → Key C M b → a ≡ b
   unfolding Key
-  key-once C single (several none′) a b k l = k ∙ sym l
+  key-once C single (several no-trees) a b k l = k ∙ sym l
   key-once C single (several (ts ▸ t)) a b k l =
       let chains = stands-once single (k .2) (l .2) in
       let items = stands-once single (k .3) (l .3) in

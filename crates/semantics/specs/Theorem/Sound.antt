@@ -9,7 +9,7 @@ use native.Mathlib.Omega.{arith}
 use lib.Dec.{leb, eqb}
 use Rattle.characters.specs.Skipping.{skipFrom}
 use Rattle.book.specs.Book.{Book, nthNonterminal, nthVariant}
-use Rattle.semantics.specs.Values.{Tree, Trees, none′, Parse}
+use Rattle.semantics.specs.Values.{Tree, Trees, no-trees, Parse}
 use Rattle.semantics.specs.Uses.{Use, Path, base, useOf, hasMark, Governor, minimum, same-start, outwards, govern, governor, keeps}
 use Rattle.semantics.specs.Tokens.{freeEnd, claimed}
 use Rattle.semantics.specs.Steps.{After, goes, halts, afterElement, Todo, elements, todoOf}
@@ -78,10 +78,10 @@ module _ (book : Book) (text : List ℕ) where
     below : i < n
     is : k ≡ j + i
     high : leb m (nthVariant book k .level) ≡ true
-    way : Through book text (o .path) (o .nonterminal) (o .start) k (todoOf book (nthVariant book k)) (o .start) none′ p
+    way : Through book text (o .path) (o .nonterminal) (o .start) k (todoOf book (nthVariant book k)) (o .start) no-trees p
 
   way-first : {o : Open} {m n j : ℕ} {p : Parse Tree} → leb m (nthVariant book j .level) ≡ true →
-      Through book text (o .path) (o .nonterminal) (o .start) j (todoOf book (nthVariant book j)) (o .start) none′ p → Way o m (suc n) j p
+      Through book text (o .path) (o .nonterminal) (o .start) j (todoOf book (nthVariant book j)) (o .start) no-trees p → Way o m (suc n) j p
   way-first {j = j} e t = record { i = zero; k = j; below = omega arith; is = omega arith; high = e; way = t }
 
   way-later : {o : Open} {m n j : ℕ} {p : Parse Tree} → Way o m n (suc j) p → Way o m (suc n) j p
@@ -91,7 +91,7 @@ module _ (book : Book) (text : List ℕ) where
       Way (open′ P S N u T) m (nthNonterminal book N .count) (nthNonterminal book N .first) p → Derives book text P N u p
   by-way {P} {N = N} {u = u} {m = m} {p = p} e w =
       by-variant e (w .below) (subst (λ k. leb m (nthVariant book k .level) ≡ true) (w .is) (w .high))
-      (subst (λ k. Through book text P N u k (todoOf book (nthVariant book k)) u none′ p) (w .is) (w .way))
+      (subst (λ k. Through book text P N u k (todoOf book (nthVariant book k)) u no-trees p) (w .is) (w .way))
 
   by-named : {P : Path} {N u m : ℕ} {p : Parse Tree} → governor P base N u ≡ minimum m → hasMark book 2 N ≡ true → (b : Bool) →
       claimed book text P base u ≡ b →
