@@ -7,13 +7,12 @@ use Prim.Native.Nat.{ℕ, zero, suc}
 use lib.Dec.{leb}
 use Rattle.characters.specs.Skipping.{skipFrom}
 use Rattle.book.specs.Book.{Book, nthNonterminal, nthVariant}
-use Rattle.book.specs.declared.records.Associativity.{Associativity}
 use Rattle.book.specs.declared.records.Step.{Step}
-use Rattle.semantics.specs.Values.{Tree, Trees, no-trees, _▸_, name, absent, list, Parse}
+use Rattle.semantics.specs.Values.{Tree, Trees, no-trees, _▸_, absent, list, Parse}
 use Rattle.semantics.specs.Uses.{Use, Path, base, useOf, hasMark, minimum, same-start, governor, keeps}
-use Rattle.semantics.specs.Tokens.{freeEnd, spelled, claimed}
+use Rattle.semantics.specs.Tokens.{freeEnd, claimed}
 use Rattle.semantics.specs.Steps.{Token, Taken, stepAt, After, goes, halts, afterElement, closed, Todo, taking, elements, ending, todoOf}
-use Rattle.semantics.specs.Derivations.{parseOf, withItem}
+use Rattle.semantics.specs.Derivations.{parseOf, identifierParse, withItem}
 use Rattle.semantics.specs.Run.{ask, newest, others}
 use Rattle.semantics.specs.Theorem.Lists.{_∈_, sift, nth, Joins}
 
@@ -60,7 +59,7 @@ module _ (book : Book) (text : List ℕ) where
   -- what a mark-2 use finds
   abbrev pub named : Option ℕ → ℕ → List (Parse Tree)
   named none u = []
-  named (some end) u = record { rest = end; level = 255; associativity = Associativity.Both; value = name (spelled text u end) } ∷ []
+  named (some end) u = identifierParse text u end ∷ []
 
   abbrev pub identifiers : Path → ℕ → List (Parse Tree)
   identifiers P u = cond (claimed book text P base u) [] (named (freeEnd book text u) u)

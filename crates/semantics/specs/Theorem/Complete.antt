@@ -19,7 +19,7 @@ use Rattle.semantics.specs.Values.{Tree, Trees, no-trees, _▸_, absent,
 use Rattle.semantics.specs.Uses.{Use, Path, base, useOf, hasMark, Governor, minimum, same-start, governor, keeps}
 use Rattle.semantics.specs.Tokens.{freeEnd, claimed}
 use Rattle.semantics.specs.Steps.{Taken, stepAt, After, afterElement, closed, Todo, taking, elements, ending, todoOf}
-use Rattle.semantics.specs.Derivations.{parseOf, withItem}
+use Rattle.semantics.specs.Derivations.{parseOf, withItem, attempt}
 use Rattle.semantics.specs.Run.{newest, others}
 use Rattle.semantics.specs.Theorem.Lists.{_∈_, sift-in, nth, flag, flag-ask, flag-newest, flag-others, Le, le-then, Joins, only-in}
 use Rattle.semantics.specs.Theorem.BigStep.{Sets, Open, open′, around, inside, Follows, plain, listing, Left, onward, resume, named, identifiers}
@@ -239,7 +239,7 @@ module _ (book : Book) (text : List ℕ) where
     element-ok {o} {j} {comma} {M} {values} {close} {rest} {items = items} {q = q} {p = p} d e k y F =
         with-ok d (subst (λ z. FindsLeft h o j (onward book text z (q .value) comma M values close rest items) p) (sym e) k) y F
 
-    c-steps : {P : Path} {N u j : ℕ} {todo : List (Todo Trees)} {x : ℕ} {items : Trees} {p : Parse Tree} → DThrough book text h P N u j todo x items p →
+    c-steps : {P : Path} {N u j : ℕ} {todo : List (Todo Trees)} {x : ℕ} {items : Trees} {p : Parse Tree} → DThrough book text h (attempt P N u j p) todo x items →
         (S : Sets) (T : List (Parse Tree)) → Finds h (open′ P S N u T) j todo x items p
     c-steps (h-done e) S T = λ B R B′ s F. only-in (inv-done s) e
     c-steps (h-token e t) S T = λ B R B′ s F. c-steps t S T B R B′ (ran e s) F
@@ -256,7 +256,7 @@ module _ (book : Book) (text : List ℕ) where
     -- variant k, number i of n from j on, is among those tried
     c-variants : {o : Open} {m n j : ℕ} {B : List Bool} {R : List (Parse Tree)} {B′ : List Bool} → Variants book text o m n j B R B′ → FullIn h o B′ →
         (i k : ℕ) → i < n → k ≡ j + i → leb m (nthVariant book k .level) ≡ true → (p : Parse Tree) →
-        DThrough book text h (o .path) (o .nonterminal) (o .start) k (todoOf book (nthVariant book k)) (o .start) no-trees p → p ∈ R
+        DThrough book text h (attempt (o .path) (o .nonterminal) (o .start) k p) (todoOf book (nthVariant book k)) (o .start) no-trees → p ∈ R
     c-variants no-more F i k l e high p d = absurd (omega arith)
     c-variants (too-low {m = m} {j = j} low v) F zero k l e high p d =
         let same : k ≡ j = omega (arith, e) in
@@ -271,7 +271,7 @@ module _ (book : Book) (text : List ℕ) where
     c-runs : {P : Path} {S : Sets} {m N u : ℕ} {T : List (Parse Tree)} {B : List Bool} {R : List (Parse Tree)} {B′ : List Bool} →
         Runs book text P S m N u T B R B′ → FullIn h (open′ P S N u T) B′ → (i k : ℕ) → i < nthNonterminal book N .count →
         k ≡ nthNonterminal book N .first + i → leb m (nthVariant book k .level) ≡ true → (p : Parse Tree) →
-        DThrough book text h P N u k (todoOf book (nthVariant book k)) u no-trees p → p ∈ R
+        DThrough book text h (attempt P N u k p) (todoOf book (nthVariant book k)) u no-trees → p ∈ R
     c-runs (runs v) F i k l e high p d = c-variants v F i k l e high p d
 
     -- a run of a call's variants finds what is one higher, by a variant: the use has no other governor and is no mark-2 use

@@ -13,7 +13,7 @@ use Rattle.semantics.specs.Values.{Tree, Trees, no-trees, Parse}
 use Rattle.semantics.specs.Uses.{Use, Path, base, useOf, hasMark, Governor, minimum, same-start, outwards, govern, governor, keeps}
 use Rattle.semantics.specs.Tokens.{freeEnd, claimed}
 use Rattle.semantics.specs.Steps.{After, goes, halts, afterElement, Todo, elements, todoOf}
-use Rattle.semantics.specs.Derivations.{Derives, by-variant, by-governor, by-identifier}
+use Rattle.semantics.specs.Derivations.{attempt, Derives, by-variant, by-governor, by-identifier}
 use Rattle.semantics.specs.Derivations.{Through, done, by-token, by-child, by-absent, by-one, by-list, by-unopened, by-stop, by-more, by-last, by-ending}
 use Rattle.semantics.specs.Theorem.Lists.{_∈_, sift-out, nth, only, either}
 use Rattle.semantics.specs.Theorem.BigStep.{Sets, Open, open′, around, inside, Follows, Left, onward, resume, named}
@@ -78,10 +78,10 @@ module _ (book : Book) (text : List ℕ) where
     below : i < n
     is : k ≡ j + i
     high : leb m (nthVariant book k .level) ≡ true
-    way : Through book text (o .path) (o .nonterminal) (o .start) k (todoOf book (nthVariant book k)) (o .start) no-trees p
+    way : Through book text (attempt (o .path) (o .nonterminal) (o .start) k p) (todoOf book (nthVariant book k)) (o .start) no-trees
 
   way-first : {o : Open} {m n j : ℕ} {p : Parse Tree} → leb m (nthVariant book j .level) ≡ true →
-      Through book text (o .path) (o .nonterminal) (o .start) j (todoOf book (nthVariant book j)) (o .start) no-trees p → Way o m (suc n) j p
+      Through book text (attempt (o .path) (o .nonterminal) (o .start) j p) (todoOf book (nthVariant book j)) (o .start) no-trees → Way o m (suc n) j p
   way-first {j = j} e t = record { i = zero; k = j; below = omega arith; is = omega arith; high = e; way = t }
 
   way-later : {o : Open} {m n j : ℕ} {p : Parse Tree} → Way o m n (suc j) p → Way o m (suc n) j p
@@ -91,7 +91,7 @@ module _ (book : Book) (text : List ℕ) where
       Way (open′ P S N u T) m (nthNonterminal book N .count) (nthNonterminal book N .first) p → Derives book text P N u p
   by-way {P} {N = N} {u = u} {m = m} {p = p} e w =
       by-variant e (w .below) (subst (λ k. leb m (nthVariant book k .level) ≡ true) (w .is) (w .high))
-      (subst (λ k. Through book text P N u k (todoOf book (nthVariant book k)) u no-trees p) (w .is) (w .way))
+      (subst (λ k. Through book text (attempt P N u k p) (todoOf book (nthVariant book k)) u no-trees) (w .is) (w .way))
 
   by-named : {P : Path} {N u m : ℕ} {p : Parse Tree} → governor P base N u ≡ minimum m → hasMark book 2 N ≡ true → (b : Bool) →
       claimed book text P base u ≡ b →
@@ -103,7 +103,7 @@ module _ (book : Book) (text : List ℕ) where
   -- ---- What follows a child
   -- what is left to do has a parse
   abbrev ThroughLeft : Path → ℕ → ℕ → ℕ → Left → Parse Tree → Type 0
-  ThroughLeft P N u j l p = Through book text P N u j (l .todo) (l .place) (l .items) p
+  ThroughLeft P N u j l p = Through book text (attempt P N u j p) (l .todo) (l .place) (l .items)
 
   -- one of a child's parses, and what follows it
   record Followed (o : Open) (j : ℕ) (c : Follows) (Q : List (Parse Tree)) (p : Parse Tree) : Type 0 where
@@ -117,7 +117,7 @@ module _ (book : Book) (text : List ℕ) where
   after-element : {P : Path} {N u j x M : ℕ} {comma : Bool} {values : Trees} {close : Option ℕ} {q p : Parse Tree} {rest : List (Todo Trees)} {items : Trees} →
       Derives book text (useOf book N u j (skipFrom text x) ∷ P) M (skipFrom text x) q → (z : After) → afterElement text comma (q .rest) ≡ z →
       ThroughLeft P N u j (onward book text z (q .value) comma M values close rest items) p →
-      Through book text P N u j (elements comma M values close ∷ rest) x items p
+      Through book text (attempt P N u j p) (elements comma M values close ∷ rest) x items
   after-element d (goes y) e t = by-more d e t
   after-element d (halts y) e t = by-last d e t
 
@@ -151,7 +151,7 @@ module _ (book : Book) (text : List ℕ) where
 
     s-steps : {o : Open} {j : ℕ} {todo : List (Todo Trees)} {x : ℕ} {items : Trees} {B : List Bool} {R : List (Parse Tree)} {B′ : List Bool} →
         Steps book text o j todo x items B R B′ → Truthful (o .path) (o .sets) → Mine o → (p : Parse Tree) → p ∈ R →
-        Through book text (o .path) (o .nonterminal) (o .start) j todo x items p
+        Through book text (attempt (o .path) (o .nonterminal) (o .start) j p) todo x items
     s-steps (s-done r) h t p m = done (only r m)
     s-steps (s-nothing e) h t p m = absurd (List·Memᴰ·not-nil m)
     s-steps (s-token e s) h t p m = by-token e (s-steps s h t p m)
