@@ -51,7 +51,7 @@ module _ (text cells : List ℕ) where
 
 -- ---- Entries and derivations
 -- entry i of the parses list holds a parse: "rest, level, associativity, cell"
-pub record Holds (text : List ℕ) (a : Answered) (i : ℕ) (p : Parse Tree) : Type 0 where
+pub record Entry (text : List ℕ) (a : Answered) (i : ℕ) (p : Parse Tree) : Type 0 where
   pub rest : getD (a .parses) (4 * i) 0 ≡ p .rest
   pub level : getD (a .parses) (4 * i + 1) 0 ≡ p .level
   pub associativity : getD (a .parses) (4 * i + 2) 0 ≡ associativityNumber (p .associativity)
@@ -65,20 +65,20 @@ pub record Reaches (book : Book) (text : List ℕ) (start : ℕ) (p : Parse Tree
 module _ (book : Book) (text : List ℕ) (start : ℕ) where
   -- some derivation reaches the end, and all that do have the same value
   pub record Agree : Type 0 where
-    pub some′ : (p : Parse Tree) × Reaches book text start p
+    pub exists : (p : Parse Tree) × Reaches book text start p
     pub all : (p q : Parse Tree) → Reaches book text start p → Reaches book text start q → p .value ≡ q .value
 
   -- there are parses, and none is whole
   pub record NoneWhole : Type 0 where
-    pub some′ : (p : Parse Tree) × DerivesText book text start p
+    pub exists : (p : Parse Tree) × DerivesText book text start p
     pub all : (p : Parse Tree) → DerivesText book text start p → whole text p ≡ false
 
   -- two derivations reach the end, with different values
   pub record Differ : Type 0 where
-    pub one′ : Parse Tree
-    pub other : Parse Tree
-    pub reaches : Reaches book text start one′ × Reaches book text start other
-    pub apart : one′ .value ≡ other .value → ⊥
+    pub first : Parse Tree
+    pub second : Parse Tree
+    pub reaches : Reaches book text start first × Reaches book text start second
+    pub apart : first .value ≡ second .value → ⊥
 
   -- there is none
   abbrev pub NoParse : Type 0
@@ -86,10 +86,10 @@ module _ (book : Book) (text : List ℕ) (start : ℕ) where
 
   pub record Exact (a : Answered) : Type 0 where
     -- "exactly those with a finite derivation"
-    pub derivable : (p : Parse Tree) → DerivesText book text start p ↔ ((i : ℕ) × (i < a .answer .parses) × Holds text a i p)
+    pub derivable : (p : Parse Tree) → DerivesText book text start p ↔ ((i : ℕ) × (i < a .answer .parses) × Entry text a i p)
     -- "each once": a parse stands in one entry, and each entry that counts holds one parse
-    pub once : (p : Parse Tree) (i k : ℕ) → i < a .answer .parses → k < a .answer .parses → Holds text a i p → Holds text a k p → i ≡ k
-    pub each : (i : ℕ) → i < a .answer .parses → (p : Parse Tree) × Holds text a i p × ((q : Parse Tree) → Holds text a i q → q ≡ p)
+    pub once : (p : Parse Tree) (i k : ℕ) → i < a .answer .parses → k < a .answer .parses → Entry text a i p → Entry text a k p → i ≡ k
+    pub each : (i : ℕ) → i < a .answer .parses → (p : Parse Tree) × Entry text a i p × ((q : Parse Tree) → Entry text a i q → q ≡ p)
     -- a value is returned exactly when .., and its cell stands for it
     pub value : a .answer .refusal ≡ 0 ↔ Agree
     pub value-cell : a .answer .refusal ≡ 0 → (p : Parse Tree) → Reaches book text start p → StandsFor text (a .cells) (a .answer .value) (p .value)

@@ -40,10 +40,10 @@ module _ (book : Book) (text : List ℕ) where
         after _ _ e (λ a ran next.
         list-cases (a .set)
         (λ empty. subst Fails (ok-inj (rw empty at next)) (failed _ _ refl refl))
-        (λ p ps some-found. let some′ : a .set ≡ [] → ⊥ = λ h. cons≢nil (sym some-found ∙ h) in
+        (λ p ps some-found. let not-empty : a .set ≡ [] → ⊥ = λ h. cons≢nil (sym some-found ∙ h) in
         by-test (newest (a .state .asked))
-        (λ t. rounds-fails 65 (withMine c (a .set)) m (a .state) r (rw t at (rw some-found at next)) some′)
-        (λ t. subst Fails (ok-inj (rw t at (rw some-found at next))) (found _ refl some′))))
+        (λ t. rounds-fails 65 (withMine c (a .set)) m (a .state) r (rw t at (rw some-found at next)) not-empty)
+        (λ t. subst Fails (ok-inj (rw t at (rw some-found at next))) (found _ refl not-empty))))
 
   identifier-fails : (c : Call) (s : State) (r : Parsed) → runIdentifier book text c s ≡ ok r → Fails r
   unfolding runIdentifier named

@@ -31,7 +31,7 @@ use Rattle.semantics.specs.Theorem.Made.{treeFor}
 use Rattle.semantics.specs.Theorem.LinkSteps.{run-ok}
 use Rattle.semantics.specs.Exact.{StandsFor, Reaches, Exact, FoundIsExactlyDerivable}
 use Rattle.semantics.specs.Theorem.Outcomes.{Says, says-value, says-no-parse, says-none-whole, says-differ}
-use Rattle.semantics.specs.Theorem.Listing.{treeNow, entry, stands-for, holds-entry, holds-only, holds-once, listed, unlisted, value-once}
+use Rattle.semantics.specs.Theorem.Listing.{treeNow, parseFor, stands-for, entry-there, entry-only, entry-once, listed, unlisted, value-once}
 
 -- ---- The values of the whole parses
 module _ (text : List ℕ) where
@@ -116,11 +116,11 @@ module _ (bytes : List ℕ) (book : Book) (accepted : checkBook bytes ≡ Outcom
         λ d. let l = listed text r h lentCells lentParses a p (found p .1 d) in (l .0, omega (arith, l .1, number), l .2),
         λ l. found p .0 (unlisted text r h lentCells lentParses a p (l .0) (omega (arith, l .1, number)) (l .2)),
       );
-      once = λ p i k x y e f. holds-once text r h lentCells lentParses a p i k (omega (arith, x, number)) (omega (arith, y, number)) e f;
+      once = λ p i k x y e f. entry-once text r h lentCells lentParses a p i k (omega (arith, x, number)) (omega (arith, y, number)) e f;
       each = λ i x. (
-        treeNow text r (entry r i),
-        holds-entry text r h lentCells lentParses a i (omega (arith, x, number)),
-        λ q k. holds-only text r h lentCells lentParses a i (omega (arith, x, number)) q k,
+        treeNow text r (parseFor r i),
+        entry-there text r h lentCells lentParses a i (omega (arith, x, number)),
+        λ q k. entry-only text r h lentCells lentParses a i (omega (arith, x, number)) q k,
       );
       value = says .value;
       value-cell = cell;
@@ -133,16 +133,16 @@ module _ (bytes : List ℕ) (book : Book) (accepted : checkBook bytes ≡ Outcom
   no-value e = absurd (omega arith)
 
   -- the set isn't empty: 31, 32 or a value
-  module _ (some′ : r .set ≡ [] → ⊥) where
+  module _ (not-empty : r .set ≡ [] → ⊥) where
     first-parse : (p : Parse ℕ) × (p ∈ r .set)
-    first-parse = list-cases (r .set) (λ e. absurd (some′ e)) (λ p ps e. (p, subst (λ l. p ∈ l) (sym e) (List·Memᴰ·head refl)))
+    first-parse = list-cases (r .set) (λ e. absurd (not-empty e)) (λ p ps e. (p, subst (λ l. p ∈ l) (sym e) (List·Memᴰ·head refl)))
 
     exact-none-whole : wholeValues text (r .set) ≡ [] →
         Exact book text start (filled lentCells lentParses (answer 31 0 0 0 (allowance - r .state .units) (length (r .set)) 0) r)
     exact-none-whole none-whole =
         exact-filled (answer 31 0 0 0 (allowance - r .state .units) (length (r .set)) 0) refl
         (says-none-whole book text start (record {
-          some′ = (treeNow text r (first-parse .0), derives (first-parse .0) (first-parse .1));
+          exists = (treeNow text r (first-parse .0), derives (first-parse .0) (first-parse .1));
           all = λ p d. by-test (whole text p)
               (λ t. let q = reached p (record { derived = d; ends = t }) in absurd (List·Memᴰ·not-nil (subst (λ l. q .0 .parse .value ∈ l) none-whole (q .1))))
               (λ t. t);
@@ -168,7 +168,7 @@ module _ (bytes : List ℕ) (book : Book) (accepted : checkBook bytes ≡ Outcom
         exact-value =
             let w = reaches v-in in
             exact-filled (answer 0 0 0 0 (allowance - r .state .units) (length (r .set)) v) refl
-            (says-value book text start (record { some′ = (treeNow text r (w .0), w .2); all = λ p q d e. sym (value-is p d) ∙ value-is q e }))
+            (says-value book text start (record { exists = (treeNow text r (w .0), w .2); all = λ p q d e. sym (value-is p d) ∙ value-is q e }))
             (λ e p d. subst (λ t. StandsFor text (filled lentCells lentParses (answer 0 0 0 0 (allowance - r .state .units) (length (r .set)) v) r .cells) v t) (value-is p d)
             (stands-for text r h lentCells lentParses (answer 0 0 0 0 (allowance - r .state .units) (length (r .set)) v) v (subst (λ n. Item text (r .state .cells) n) (sym (w .3)) (h .values (w .0) (w .1)))))
 
@@ -181,8 +181,8 @@ module _ (bytes : List ℕ) (book : Book) (accepted : checkBook bytes ≡ Outcom
           let z = reaches (subst (λ l. u .0 ∈ l) (sym values) (List·Memᴰ·tail (u .1))) in
           exact-filled (answer 32 0 0 0 (allowance - r .state .units) (length (r .set)) 0) refl
           (says-differ book text start (record {
-            one′ = treeNow text r (w .0);
-            other = treeNow text r (z .0);
+            first = treeNow text r (w .0);
+            second = treeNow text r (z .0);
             reaches = (w .2, z .2);
             apart = λ e. u .2 (w .3 ∙ value-once text r h lentCells lentParses (answer 32 0 0 0 (allowance - r .state .units) (length (r .set)) 0) (w .0) (z .0) (w .1) (z .1) e ∙ sym (z .3));
           }))

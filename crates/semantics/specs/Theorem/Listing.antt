@@ -16,7 +16,7 @@ use Rattle.semantics.specs.Theorem.Forward.{Kept}
 use Rattle.semantics.specs.Theorem.Numbers.{cell-back, ParseAt, parse-back}
 use Rattle.semantics.specs.Theorem.Standing.{stands-once, Listed, table-stands}
 use Rattle.semantics.specs.Theorem.Made.{treeFor}
-use Rattle.semantics.specs.Exact.{StandsFor, Holds}
+use Rattle.semantics.specs.Exact.{StandsFor, Entry}
 
 -- a member stands at some place
 pub place-of : {A : Type 0} (l : List A) (d : A) {a : A} → a ∈ l → (i : ℕ) × (i < length l) × (getD l i d ≡ a)
@@ -25,8 +25,8 @@ place-of (b ∷ l) d (List·Memᴰ·head e) = (zero, omega arith, sym e)
 place-of (b ∷ l) d (List·Memᴰ·tail m) = let r = place-of l d m in (suc (r .0), omega (arith, r .1), r .2)
 
 -- the parse that a run's set has for entry i
-abbrev pub entry : Parsed → ℕ → Parse ℕ
-entry r i = getD (r .set) i (record { rest = 0; level = 0; associativity = Associativity.Left; value = 0 })
+abbrev pub parseFor : Parsed → ℕ → Parse ℕ
+parseFor r i = getD (r .set) i (record { rest = 0; level = 0; associativity = Associativity.Left; value = 0 })
 
 -- a parse with the tree that its cell stands for as the run ends
 abbrev pub treeNow : List ℕ → Parsed → Parse ℕ → Parse Tree
@@ -47,24 +47,24 @@ module _ (text : List ℕ) (r : Parsed) (h : Kept text r) (lentCells lentParses 
       rw (item-means n item) at (table-stands text (at-exit .cells) (h .table) all n (item .placed))
 
   module _ (i : ℕ) (there : i < length (r .set)) where
-    entry-item : Item text (r .state .cells) (entry r i .value)
-    entry-item = h .values (entry r i) (getD-in (r .set) i _ there)
+    entry-item : Item text (r .state .cells) (parseFor r i .value)
+    entry-item = h .values (parseFor r i) (getD-in (r .set) i _ there)
 
-    numbers : ParseAt (written 256 (parseNumbers (r .set)) lentParses) i (entry r i)
+    numbers : ParseAt (written 256 (parseNumbers (r .set)) lentParses) i (parseFor r i)
     numbers = parse-back (r .set) lentParses _ (h .size) i there
 
-    pub holds-entry : Holds text at-exit i (treeNow text r (entry r i))
-    holds-entry = record {
+    pub entry-there : Entry text at-exit i (treeNow text r (parseFor r i))
+    entry-there = record {
       rest = numbers .rest;
       level = numbers .level;
       associativity = numbers .associativity;
-      value = subst (λ n. StandsFor text (at-exit .cells) n (treeFor text (r .state .cells) (entry r i .value))) (sym (numbers .value)) (stands-for (entry r i .value) entry-item);
+      value = subst (λ n. StandsFor text (at-exit .cells) n (treeFor text (r .state .cells) (parseFor r i .value))) (sym (numbers .value)) (stands-for (parseFor r i .value) entry-item);
     }
 
-    pub holds-only : (p : Parse Tree) → Holds text at-exit i p → p ≡ treeNow text r (entry r i)
-    holds-only p k =
-        let e = holds-entry in
-        parse-fields p (treeNow text r (entry r i)) (sym (k .rest) ∙ e .rest) (sym (k .level) ∙ e .level) (associativity-once _ _ (sym (k .associativity) ∙ e .associativity))
+    pub entry-only : (p : Parse Tree) → Entry text at-exit i p → p ≡ treeNow text r (parseFor r i)
+    entry-only p k =
+        let e = entry-there in
+        parse-fields p (treeNow text r (parseFor r i)) (sym (k .rest) ∙ e .rest) (sym (k .level) ∙ e .level) (associativity-once _ _ (sym (k .associativity) ∙ e .associativity))
         (stands-once text (at-exit .cells) (k .value) (e .value))
 
   -- two parses of the set that stand for the same are one
@@ -82,17 +82,17 @@ module _ (text : List ℕ) (r : Parsed) (h : Kept text r) (lentCells lentParses 
       let b = h .values q n in
       same-cell text (r .state .cells) (h .table) (p .value) (q .value) (a .placed) (b .placed) (item-means (p .value) a ∙ ap one e ∙ sym (item-means (q .value) b))
 
-  pub holds-once : (p : Parse Tree) (i k : ℕ) → i < length (r .set) → k < length (r .set) → Holds text at-exit i p → Holds text at-exit k p → i ≡ k
-  holds-once p i k a b x y =
+  pub entry-once : (p : Parse Tree) (i k : ℕ) → i < length (r .set) → k < length (r .set) → Entry text at-exit i p → Entry text at-exit k p → i ≡ k
+  entry-once p i k a b x y =
       distinct-places (h .distinct) _ i k a b
-      (entries-once (entry r i) (entry r k) (getD-in (r .set) i _ a) (getD-in (r .set) k _ b) (sym (holds-only i a p x) ∙ holds-only k b p y))
+      (entries-once (parseFor r i) (parseFor r k) (getD-in (r .set) i _ a) (getD-in (r .set) k _ b) (sym (entry-only i a p x) ∙ entry-only k b p y))
 
   -- a tree of the set stands in an entry, and an entry's in the set
-  pub listed : (p : Parse Tree) → p ∈ map (treeNow text r) (r .set) → (i : ℕ) × (i < length (r .set)) × Holds text at-exit i p
+  pub listed : (p : Parse Tree) → p ∈ map (treeNow text r) (r .set) → (i : ℕ) × (i < length (r .set)) × Entry text at-exit i p
   listed p m =
       let q = Memᴰ·of-map (treeNow text r) (r .set) m in
       let at = place-of (r .set) (record { rest = 0; level = 0; associativity = Associativity.Left; value = 0 }) (q .1) in
-      (at .0, at .1, subst (λ z. Holds text at-exit (at .0) z) (ap (treeNow text r) (at .2) ∙ q .2) (holds-entry (at .0) (at .1)))
+      (at .0, at .1, subst (λ z. Entry text at-exit (at .0) z) (ap (treeNow text r) (at .2) ∙ q .2) (entry-there (at .0) (at .1)))
 
-  pub unlisted : (p : Parse Tree) (i : ℕ) → i < length (r .set) → Holds text at-exit i p → p ∈ map (treeNow text r) (r .set)
-  unlisted p i there k = Memᴰ·cast (holds-only i there p k) (Memᴰ·map (treeNow text r) (getD-in (r .set) i _ there))
+  pub unlisted : (p : Parse Tree) (i : ℕ) → i < length (r .set) → Entry text at-exit i p → p ∈ map (treeNow text r) (r .set)
+  unlisted p i there k = Memᴰ·cast (entry-only i there p k) (Memᴰ·map (treeNow text r) (getD-in (r .set) i _ there))

@@ -17,34 +17,34 @@ module _ (book : Book) (text : List ℕ) (start : ℕ) where
     pub differ : refusal ≡ 32 ↔ Differ book text start
 
   agree-none-whole : Agree book text start → NoneWhole book text start → ⊥
-  agree-none-whole a n = let p = a .some′ in clash (p .1 .ends) (n .all (p .0) (p .1 .derived))
+  agree-none-whole a n = let p = a .exists in clash (p .1 .ends) (n .all (p .0) (p .1 .derived))
 
   agree-differ : Agree book text start → Differ book text start → ⊥
-  agree-differ a d = d .apart (a .all (d .one′) (d .other) (d .reaches .0) (d .reaches .1))
+  agree-differ a d = d .apart (a .all (d .first) (d .second) (d .reaches .0) (d .reaches .1))
 
   none-whole-differ : NoneWhole book text start → Differ book text start → ⊥
-  none-whole-differ n d = let p = d .reaches .0 in clash (p .ends) (n .all (d .one′) (p .derived))
+  none-whole-differ n d = let p = d .reaches .0 in clash (p .ends) (n .all (d .first) (p .derived))
 
   pub says-value : Agree book text start → Says 0
   says-value a = record {
     value = (λ e. a, λ s. refl);
-    no-parse = (λ e. absurd (omega arith), λ s. absurd (s (a .some′ .0) (a .some′ .1 .derived)));
+    no-parse = (λ e. absurd (omega arith), λ s. absurd (s (a .exists .0) (a .exists .1 .derived)));
     none-whole = (λ e. absurd (omega arith), λ s. absurd (agree-none-whole a s));
     differ = (λ e. absurd (omega arith), λ s. absurd (agree-differ a s));
   }
 
   pub says-no-parse : NoParse book text start → Says 30
   says-no-parse n = record {
-    value = (λ e. absurd (omega arith), λ s. absurd (n (s .some′ .0) (s .some′ .1 .derived)));
+    value = (λ e. absurd (omega arith), λ s. absurd (n (s .exists .0) (s .exists .1 .derived)));
     no-parse = (λ e. n, λ s. refl);
-    none-whole = (λ e. absurd (omega arith), λ s. absurd (n (s .some′ .0) (s .some′ .1)));
-    differ = (λ e. absurd (omega arith), λ s. absurd (n (s .one′) (s .reaches .0 .derived)));
+    none-whole = (λ e. absurd (omega arith), λ s. absurd (n (s .exists .0) (s .exists .1)));
+    differ = (λ e. absurd (omega arith), λ s. absurd (n (s .first) (s .reaches .0 .derived)));
   }
 
   pub says-none-whole : NoneWhole book text start → Says 31
   says-none-whole n = record {
     value = (λ e. absurd (omega arith), λ s. absurd (agree-none-whole s n));
-    no-parse = (λ e. absurd (omega arith), λ s. absurd (s (n .some′ .0) (n .some′ .1)));
+    no-parse = (λ e. absurd (omega arith), λ s. absurd (s (n .exists .0) (n .exists .1)));
     none-whole = (λ e. n, λ s. refl);
     differ = (λ e. absurd (omega arith), λ s. absurd (none-whole-differ n s));
   }
@@ -52,7 +52,7 @@ module _ (book : Book) (text : List ℕ) (start : ℕ) where
   pub says-differ : Differ book text start → Says 32
   says-differ d = record {
     value = (λ e. absurd (omega arith), λ s. absurd (agree-differ s d));
-    no-parse = (λ e. absurd (omega arith), λ s. absurd (s (d .one′) (d .reaches .0 .derived)));
+    no-parse = (λ e. absurd (omega arith), λ s. absurd (s (d .first) (d .reaches .0 .derived)));
     none-whole = (λ e. absurd (omega arith), λ s. absurd (none-whole-differ s d));
     differ = (λ e. d, λ s. refl);
   }
