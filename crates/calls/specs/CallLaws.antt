@@ -1,4 +1,11 @@
 -- Laws for the functions over the open calls: a sequence of stores to one row, and searching the rows.
+--
+-- Contents:
+-- - stores to one row: row-after, row-else, then-row, open-law, variant-law
+-- - governors: not-live, not-same, not-scope, by-child, Seeking, seeking-start, seeking-hit, seeking-on, seeking-end,
+--   governor-above, governor-none, governor-same, governor-minimum
+-- - claims: claims-live, claims-start, claims-scope, claims-mark, Asking, asking-start, asking-hit, asking-on,
+--   asking-end
 use mathlib.Core.Path.{_≡_, refl, sym, ap, _∙_}
 use mathlib.Core.Bool.{Bool, true, false, _&&_}
 use mathlib.Core.List.{List, []}

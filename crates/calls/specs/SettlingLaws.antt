@@ -1,4 +1,10 @@
 -- Laws for a stored answer and the end of a run, and what the additions to a row's sets are in the model.
+--
+-- Contents:
+-- - a stored answer: answer-law
+-- - a parse joins the run's set, in the model: run-added-model
+-- - the first run: first-failed, first-again, first-over
+-- - a further run: next-over, next-again, next-full
 use mathlib.Core.Path.{_≡_, refl, sym, ap, _∙_}
 use mathlib.Core.Bool.{Bool, true, false, cond}
 use mathlib.Core.List.{List, [], _∷_}

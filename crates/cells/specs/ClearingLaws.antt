@@ -1,4 +1,7 @@
 -- A store without cells: its heads are 0.
+--
+-- Contents:
+-- - Clearing, clearing-first, clearing-on, clearing-last
 use mathlib.Core.Path.{_≡_, refl, _∙_}
 use mathlib.Core.List.{List}
 use Prim.Native.Nat.{ℕ, _+_, _≤_, _<_}

@@ -1,4 +1,9 @@
 -- One cell more: the store holds it with the others, and `make` is what the definitions say.
+--
+-- Contents:
+-- - what a store after a push has: Pushed, has-pushed, pushed-by
+-- - one cell more: holds-more
+-- - `make`: making, makes-found, makes-new, makes-full
 use mathlib.Core.Path.{_≡_, refl, sym, ap, _∙_}
 use mathlib.Core.List.{List, [], _∷_, _++_}
 use mathlib.Core.Logic.{_⊎_, inl, inr}

@@ -1,5 +1,10 @@
 -- Laws of the index: every equal cell is found, by what `Holds` says, and the first equal one is found, since equal
 -- ones stand in a list once.
+--
+-- Contents:
+-- - along a chain: find-none, find-end, find-hit, find-less
+-- - the first equal cell in a list: nowhere, first-at
+-- - in a store that holds the cells: not-found, finds
 use mathlib.Core.Path.{_≡_, refl, sym, _∙_}
 use mathlib.Core.Bool.{true, false}
 use mathlib.Core.List.{List, [], _∷_}

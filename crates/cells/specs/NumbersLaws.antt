@@ -1,4 +1,9 @@
 -- Laws of the numbers of cells: identities, equality and hashes.
+--
+-- Contents:
+-- - identities by numbers: identity-name, identity-other, identity-numbers
+-- - equality: same-forms, same-names, same-a, same-b
+-- - hashes: hash-lt, hash-on, hash-end, hash-name, hash-other
 use mathlib.Core.Path.{_≡_, sym, ap, _∙_}
 use mathlib.Core.Bool.{false}
 use mathlib.Core.List.{List, [], _∷_}

@@ -1,4 +1,7 @@
 -- What stands at the head of a store that holds cells: their numbers, so that the cells can be read from it.
+--
+-- Contents:
+-- - stored-numbers, stored-cells
 use mathlib.Core.Path.{_≡_, refl, sym, ap, _∙_}
 use mathlib.Core.List.{List, [], _∷_, _++_, append-nil}
 use Prim.Native.Nat.{ℕ, suc, _+_, _-_, _*_, _≤_, _<_}

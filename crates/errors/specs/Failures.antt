@@ -1,4 +1,9 @@
 -- `counted`, `failedCall` and `chosen` of the run, over the numbers that they read of a call rather than the call.
+--
+-- Contents:
+-- - counted, failedCall, chosen
+-- - they are the run's: counted-run, failedCall-run, chosen-run
+-- - errors that consumed nothing since a choice drop; another stays: choice-drops, choice-keeps
 use mathlib.Core.Bool.{Bool, cond}
 use mathlib.Core.List.{List}
 use mathlib.Core.Option.{Option, none, some}

@@ -1,5 +1,11 @@
 -- Laws for calls: a use of a nonterminal, its first run and further runs. One for each return and each turn of a loop,
 -- over the code's own values.
+--
+-- Contents:
+-- - runners: runner-some
+-- - a use of a nonterminal: enter-over, enter-runs
+-- - the runs of a call: run-call-over, run-call-rounds
+-- - further runs: rounds-none, rounds-over, rounds-again
 use mathlib.Core.Path.{_≡_, sym, ap, subst, _∙_}
 use mathlib.Core.Bool.{true, false}
 use mathlib.Core.List.{List}

@@ -1,5 +1,8 @@
 -- Laws for children: the call of one, and what follows its parses. One for each return and each turn of a loop, over
 -- the code's own values.
+--
+-- Contents:
+-- - children: descended, follow-ended, follow-whole, follow-end, follow-deep, follow-stop, follow-again
 use mathlib.Core.Path.{_≡_, refl, sym, ap, subst, _∙_}
 use mathlib.Core.Bool.{true, false}
 use mathlib.Core.List.{List}

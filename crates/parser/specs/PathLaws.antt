@@ -1,5 +1,11 @@
 -- Laws for the path through a variant: choices, what it does next, its steps. One for each return, over the code's own
 -- values.
+--
+-- Contents:
+-- - choices: choice-stopped, choice-both
+-- - what a path does next
+-- - steps: rank-few, rank-child, rank-optional, rank-elements, path-ended, path-child, path-optional, path-elements,
+--   path-end, path-step
 use mathlib.Core.Path.{_≡_, refl, sym, ap, subst, _∙_}
 use mathlib.Core.Bool.{true, false}
 use mathlib.Core.List.{List, _∷_}

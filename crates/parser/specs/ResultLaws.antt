@@ -1,5 +1,10 @@
 -- Laws of what the parts of a run give, one after another; a limit ends all that would follow, and a failure what
 -- follows a path.
+--
+-- Contents:
+-- - Going, sub-turn, sub-end
+-- - one part after another: bind-assoc, bind-map, bind-assoc-in, bind-map-in, limit-ends, goes-to
+-- - whether a path goes on: goes-without-limit, goes-without-failure, goes-on, ended
 use mathlib.Core.Path.{_≡_, refl, sym, ap, _∙_}
 use mathlib.Core.Bool.{Bool, true, false, _&&_}
 use mathlib.Core.List.{List}

@@ -1,5 +1,10 @@
 -- Laws for variants: those of a call one after the other, and one. One for each return and each turn of a loop, over
 -- the code's own values.
+--
+-- Contents:
+-- - variants, one after the other: variants-end, variants-stop, variants-again, one-run-whole
+-- - one variant: variant-skipped, variant-ran
+-- - ranges: variants-fit, StepsFit, steps-fit
 use mathlib.Core.Path.{_≡_, sym, ap, subst, _∙_}
 use mathlib.Core.Bool.{true, false}
 use mathlib.Core.List.{List, []}

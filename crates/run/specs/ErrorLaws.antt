@@ -3,6 +3,10 @@
 --
 -- Plan: a run keeps what holds of its call, its steps left, its place and its sets (the rests of their parses fit), one
 -- law for each part of the definition of the run; a runner by recursion on the levels left.
+--
+-- Contents:
+-- - the run: run-fine
+-- - the arguments of a book's steps are bytes: Arguments, book-arguments
 use mathlib.Core.Path.{_≡_, refl, sym}
 use mathlib.Core.Bool.{Bool, true, false, cond}
 use mathlib.Core.List.{List, [], _∷_}

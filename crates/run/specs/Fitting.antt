@@ -1,5 +1,14 @@
 -- What fits into 32 bits in a run: the numbers of a book's steps, of errors, of parses and calls, and of what a step
 -- takes.
+--
+-- Contents:
+-- - what fits: StepArguments, FailFits, Rests, Fine, On, Any, on-any, on-bind, on-next, Closing, TodoFits, Todos,
+--   CallFits, RunnerFine, GoFine, NextFine, InnerFine, fine, fails
+-- - sets: rests-none, rests-one, rests-snoc, add-fits, add-all-fits, kept-rests
+-- - errors: join-fits, beyond-fits, join-with-fits, either-fits, choice-error-fits, failed-call-fits, counted-fits,
+--   chosen-fine
+-- - steps: identifier-error-fits, number-error-fits, step-error-fits, TakenIn, at-fits, number-taken, step-taken,
+--   todos-of, closing
 use mathlib.Core.Path.{_≡_, refl}
 use mathlib.Core.Bool.{Bool, true, false, cond}
 use mathlib.Core.List.{List, [], _∷_, _++_, map}

@@ -1,4 +1,12 @@
 -- Lists that are cleared and filled, whole parses and high bytes: a law for each turn and each end of a loop.
+--
+-- Contents:
+-- - zeros: clear-first, clear-again
+-- - one number more: copy-again
+-- - parses: parses-first, parses-again, parses-end
+-- - whole parses: values-again, values-end, by-values-is
+-- - high bytes: high-hit, high-on, high-end
+-- - what the outermost row found: found-few
 use mathlib.Core.Path.{_≡_, refl, sym, ap, _∙_}
 use mathlib.Core.Bool.{Bool, true, false, cond}
 use mathlib.Core.List.{List, [], _∷_, _++_}

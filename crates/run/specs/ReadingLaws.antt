@@ -1,4 +1,11 @@
 -- The run, the end and the call: a law for each return, over the code's own values.
+--
+-- Contents:
+-- - the run: seen-limit, seen-result, run-is
+-- - the end: end-limit, end-failed, end-found
+-- - the start and the text: not-in-book, too-long, high-found, book-run
+-- - the call: call-short, call-allowance, call-refused, call-book, long-cells, verdict-refused
+-- - demand 3: reads, reads-nothing, reads-in, room
 use mathlib.Core.Path.{_≡_, refl, sym, ap, subst, _∙_}
 use mathlib.Core.Bool.{Bool, true, false, cond, _||_}
 use mathlib.Core.List.{List, []}

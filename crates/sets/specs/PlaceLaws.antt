@@ -1,4 +1,12 @@
 -- Sets in a list of numbers: what a store changes, and what stays.
+--
+-- Contents:
+-- - only: only-refl, only-trans, only-wide, only-set
+-- - what lies elsewhere stays: parse-apart, list-moved, list-apart
+-- - lists of parses: list-length, list-snoc, list-item
+-- - counts: count-le, count-suc
+-- - sets: set-length, set-list, set-le, size-le, set-apart, set-none, set-item
+-- - a parse that is written, number by number: written-length, written-only, written-parse
 use mathlib.Core.Path.{_≡_, refl, sym, ap, _∙_}
 use mathlib.Core.Bool.{Bool, true, false, cond}
 use mathlib.Core.List.{List, [], _∷_, _++_}

@@ -1,4 +1,14 @@
 -- Sets in a list of numbers: what each function of the code has shown where it returns, and where a loop goes on.
+--
+-- Contents:
+-- - clear: cleared
+-- - has: q is the parse that the loop has read: has-hit, has-miss, has-none
+-- - append: n parses were there: append-stored, append-as, append-full
+-- - add: add-had, add-new
+-- - all_in: q is the parse that the loop has read: all-on, all-not, all-end
+-- - add_all: Joining, joining-start, joining-again, joining-full, joining-end
+-- - copy: Copying, copying-start, copying-again, copying-end
+-- - kept: keep-yes, keep-no, Keeping, keeping-start, keeping-again, keeping-end
 use mathlib.Core.Path.{_≡_, refl, sym, _∙_}
 use mathlib.Core.Bool.{Bool, true, false, cond}
 use mathlib.Core.List.{List, [], _∷_, _++_, append-assoc, append-nil}

@@ -1,5 +1,10 @@
 -- Laws for what a call does after a run, and for its variants: one for each way out of a function, over the values that
 -- the function has there.
+--
+-- Contents:
+-- - runs: stops, ended-failed, ended-over, ended-full, ended-again, first-limit, round-limit, first-settled,
+--   round-settled
+-- - variants: reached, variant-begins, counted-limit, counted-done
 use mathlib.Core.Path.{_≡_, sym, ap, subst, _∙_}
 use mathlib.Core.Bool.{true, false}
 use mathlib.Core.List.{List}

@@ -1,5 +1,12 @@
 -- Laws for what a call does before its runs: one for each way out of a function, over the values that the function has
 -- there.
+--
+-- Contents:
+-- - a stored answer: stored-none, stored-some
+-- - claims: claimed-named, claimed-nothing
+-- - a use of mark 2: identifier-claimed, identifier-nothing, identifier-full, identifier-named, is-marked
+-- - one level of nesting: ends, opens-deep, opens-identifier, opens-runs
+-- - a use of a nonterminal: enters-spent, enters-stored, enters-open
 use mathlib.Core.Path.{_≡_, refl, sym, ap, subst, _∙_}
 use mathlib.Core.Bool.{Bool, true, false, true≢false}
 use mathlib.Core.List.{List, [], _∷_}

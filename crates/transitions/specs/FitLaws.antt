@@ -1,5 +1,10 @@
 -- The numbers of an accepted book fit into 32 bits: the check tests the range of each field, and sums of few small
 -- fields are small.
+--
+-- Contents:
+-- - rows
+-- - the records
+-- - the whole book: accepted-fits
 use mathlib.Core.Path.{_≡_, refl, sym, ap, subst}
 use mathlib.Core.Bool.{Bool, true, false, cond, and-eq-true-iff}
 use mathlib.Core.List.{List, [], _∷_, map}

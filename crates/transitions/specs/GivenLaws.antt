@@ -1,4 +1,8 @@
 -- Laws on outcomes and cells as the code gives them, in the terms of the model.
+--
+-- Contents:
+-- - outcomes of the code: given-done, ran-with
+-- - cells in the model: makes-met, makes-ok
 use mathlib.Core.Path.{_≡_, refl, sym, ap, subst, _∙_}
 use mathlib.Core.List.{List}
 use Prim.Native.Nat.{ℕ}

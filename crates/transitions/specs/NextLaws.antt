@@ -1,4 +1,9 @@
 -- Laws of what follows a parse and of choices: one for each way through their functions of steps.rt and choices.rt.
+--
+-- Contents:
+-- - what follows a parse: plain-next, list-next, element-limit, element-on, element-last, joined-limit, joined-first,
+--   joined-both
+-- - choices: absent-limit, absent-goes, side-limit, side-stops, first-next, both-limit, both-chosen
 use mathlib.Core.Path.{_≡_, refl, sym, ap, _∙_}
 use mathlib.Core.List.{List}
 use mathlib.Core.Option.{Option, none, some}

@@ -1,4 +1,13 @@
 -- Laws of outcomes, units and cells: one for each way through the functions of outcomes.rt and items.rt.
+--
+-- Contents:
+-- - outcomes: given-ok, given-met, limit-stops, failure-done, goes-as, failure-none, failure-some, done-nothing,
+--   done-at
+-- - units: spend-one, spend-none, unit-spent, no-unit
+-- - cells: cell-ok, cell-met, cells-held, now-held, got-in, makes-at, makes-full
+-- - the cells of a variant: begin-passing, begin-made, with-passing, with-made, value-passing, value-made
+-- - what a token adds: name-fit, variable-fit, item-nothing, item-cell, item-name, item-number, item-variable,
+--   token-nothing, token-limit, token-made
 use mathlib.Core.Path.{_≡_, refl, sym, ap, _∙_}
 use mathlib.Core.Bool.{Bool, true, false, true≢false}
 use mathlib.Core.List.{List}

@@ -1,5 +1,11 @@
 -- Laws of how a path through a variant goes on after a part of it: not at all at a limit or with a failure, else with
 -- what it does next.
+--
+-- Contents:
+-- - the values of the small functions: endedBy, reachedWith, thenSteps, thenDoes, stateIn
+-- - results: bind-met, bind-ok, unit-met, unit-ok
+-- - cells in the model: makes-ok, makes-met
+-- - how a path goes on: resumes-met, resumes-on, resumes-failed, made-resumes
 use mathlib.Core.Path.{_≡_, refl, sym, ap, _∙_}
 use mathlib.Core.List.{List}
 use mathlib.Core.Option.{Option, none, some}

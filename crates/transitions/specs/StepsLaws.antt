@@ -1,5 +1,13 @@
 -- Laws of the end of a variant, of lists that begin and stop, and of steps: one for each way through their functions of
 -- steps.rt.
+--
+-- Contents:
+-- - the end of a variant: level-fits, parse-of-variant, finish-limit, finish-added, finish-full
+-- - a list stops: stopsPart, stop-limit, stop-unclosed, stop-closed
+-- - a step's unit: free-many, free-list, paid-unit
+-- - a list begins, or has no opening: list-begun, unopened-limit, unopened-stops
+-- - a token was read: token-taken
+-- - a step: step-limit, step-fails, step-reads, step-descends, step-chooses, step-lists, step-unopens, at-step
 use mathlib.Core.Path.{_≡_, refl, sym, ap, _∙_}
 use mathlib.Core.Bool.{Bool, true, false, cond}
 use mathlib.Core.List.{List, _∷_}

@@ -1,4 +1,13 @@
 -- What a step takes fits into 32 bits: places of a short text, and the numbers of a book that fit.
+--
+-- Contents:
+-- - by-option
+-- - places: skip-fits, identifier-within, free-end-within, free-end-fits
+-- - characters: character-within, character-fits, closed-fits, after-fits, goes-fits, halts-fits
+-- - names: name-fits
+-- - variables: variable-fits
+-- - what a step takes: taken-fits
+-- - the same by what was taken: token-fits, child-fits, optional-fits, list-fits, unopened-fits
 use mathlib.Core.Path.{_≡_, refl, ap, _∙_}
 use mathlib.Core.Bool.{Bool, true, false, cond}
 use mathlib.Core.List.{List, [], _∷_}
