@@ -41,7 +41,7 @@ fn associativity_of(number: u8) -> Associativity
 }
 
 // The step of a kind. The check refuses a kind that document 01 doesn't name; here it reads as the character 0, which no book asks for.
-fn step_of(kind: u8, a: usize, b: usize, c: usize) -> Step
+fn step_of(kind: u8, a: u32, b: u32, c: u32) -> Step
     ensures { λ r. ⌜ r ≡ stepOf kind a b c ⌝ }
 {
     match kind {
@@ -120,6 +120,13 @@ pub fn number_after(book: &[u8], at: usize, k: usize) -> usize
     byte_after(book, at, k) as usize
 }
 
+fn argument_after(book: &[u8], at: usize, k: usize) -> u32
+    requires { ⌜ k ≤ 3 ⌝ }
+    ensures { λ r. ⌜ r ≡ getD (now (book .entry)) (at + k) 0 ⌝ }
+{
+    byte_after(book, at, k) as u32
+}
+
 // How many nonterminals there are, whatever the bytes are.
 pub fn nonterminals(index: &[usize]) -> usize
     ensures { λ r. ⌜ ((book : List ℕ) → r ≡ length (bookIn book (now (index .entry)) .nonterminals)) ⌝ }
@@ -179,9 +186,9 @@ pub fn step(book: &[u8], index: &[usize], k: usize) -> Step
         let at = place(index, STEPS, k);
         step_of(
             byte_after(book, at, 0),
-            number_after(book, at, 1),
-            number_after(book, at, 2),
-            number_after(book, at, 3),
+            argument_after(book, at, 1),
+            argument_after(book, at, 2),
+            argument_after(book, at, 3),
         )
     } else {
         Step::Character(0)

@@ -31,27 +31,28 @@ pub struct Variant {
     pub count: usize,
 }
 
+// Its numbers are bytes of the book; the run keeps them as u32.
 pub enum Step {
-    Character(usize),
-    Word(usize),
+    Character(u32),
+    Word(u32),
     Identifier,
     Number,
     Variable,
-    VariableOfKind(usize),
+    VariableOfKind(u32),
     RejectVariable,
     RejectReserved,
-    Nonterminal(usize),
-    Optional(usize),
-    Many(usize),
-    CommaList(usize),
+    Nonterminal(u32),
+    Optional(u32),
+    Many(u32),
+    CommaList(u32),
     Delimited {
-        nonterminal: usize,
-        opening: usize,
-        closing: usize,
+        nonterminal: u32,
+        opening: u32,
+        closing: u32,
     },
     OptionalDelimited {
-        nonterminal: usize,
-        opening: usize,
-        closing: usize,
+        nonterminal: u32,
+        opening: u32,
+        closing: u32,
     },
 }

@@ -14,34 +14,34 @@ ghost use Rattle.errors.specs.Failures.{counted as countedOf, failedCall
 ghost use Rattle.errors.specs.Maps.{errorOf, failureOf};
 
 // ---- The kinds
-pub const CHARACTER_WANTED: usize = 1;
+pub const CHARACTER_WANTED: u32 = 1;
 
-pub const WORD_WANTED: usize = 2;
+pub const WORD_WANTED: u32 = 2;
 
-pub const IDENTIFIER_WANTED: usize = 3;
+pub const IDENTIFIER_WANTED: u32 = 3;
 
-pub const TEXT_ENDED: usize = 4;
+pub const TEXT_ENDED: u32 = 4;
 
-pub const VARIABLE_FOUND: usize = 5;
+pub const VARIABLE_FOUND: u32 = 5;
 
-pub const RESERVED_FOUND: usize = 6;
+pub const RESERVED_FOUND: u32 = 6;
 
-pub const UNKNOWN_NAME: usize = 7;
+pub const UNKNOWN_NAME: u32 = 7;
 
-pub const WRONG_KIND: usize = 8;
+pub const WRONG_KIND: u32 = 8;
 
-pub const DIGITS_WANTED: usize = 9;
+pub const DIGITS_WANTED: u32 = 9;
 
-pub const NUMBER_TOO_LARGE: usize = 10;
+pub const NUMBER_TOO_LARGE: u32 = 10;
 
-pub const NONTERMINAL_WANTED: usize = 11;
+pub const NONTERMINAL_WANTED: u32 = 11;
 
-pub const MORE_WANTED: usize = 12;
+pub const MORE_WANTED: u32 = 12;
 
 pub struct Error {
-    pub place: usize,
-    pub kind: usize,
-    pub argument: usize,
+    pub place: u32,
+    pub kind: u32,
+    pub argument: u32,
 }
 
 // `Option Error`: an error, or none where something was found.
@@ -76,7 +76,7 @@ pub fn join(a: Error, b: Error) -> Error
 }
 
 // An error that counts only where it lies beyond a place.
-pub fn beyond(place: usize, e: Error) -> Failure
+pub fn beyond(place: u32, e: Error) -> Failure
     ensures { λ r. ⌜ failureOf r ≡ errorBeyond place (errorOf e) ⌝ }
 {
     if place < e.place {
@@ -114,7 +114,7 @@ pub fn either(first: Failure, second: Failure) -> Failure
 
 // Both sides of a choice failed: their error, where it consumed something since the choice, else that more was wanted
 // there.
-pub fn choice_error(at: usize, nonterminal: usize, a: Error, b: Error) -> Error
+pub fn choice_error(at: u32, nonterminal: u32, a: Error, b: Error) -> Error
     ensures { λ r. ⌜ errorOf r ≡ choiceError at nonterminal (errorOf a) (errorOf b) ⌝ }
 {
     let Failure::At(e) = beyond(at, join(a, b)) else {
@@ -128,7 +128,7 @@ pub fn choice_error(at: usize, nonterminal: usize, a: Error, b: Error) -> Error
 }
 
 // Both sides of a choice at a place, in a variant of the nonterminal: a parse on either side leaves no error.
-pub fn chosen(at: usize, nonterminal: usize, first: Failure, second: Failure) -> Failure
+pub fn chosen(at: u32, nonterminal: u32, first: Failure, second: Failure) -> Failure
     ensures { λ r. ⌜ failureOf r ≡ chosenOf at nonterminal (failureOf first) (failureOf second) ⌝ }
 {
     let Failure::At(a) = first else {
@@ -141,7 +141,7 @@ pub fn chosen(at: usize, nonterminal: usize, first: Failure, second: Failure) ->
 }
 
 // What a variant's failure counts for a call that begins at `start`: a variant that isn't committed counts nothing.
-pub fn counted(committed: bool, start: usize, failure: Failure) -> Failure
+pub fn counted(committed: bool, start: u32, failure: Failure) -> Failure
     ensures { λ r. ⌜ failureOf r ≡ countedOf committed start (failureOf failure) ⌝ }
 {
     let Failure::At(e) = failure else {
@@ -155,7 +155,7 @@ pub fn counted(committed: bool, start: usize, failure: Failure) -> Failure
 }
 
 // What a call without a parse gives: "With none, a call gives 11 at its start".
-pub fn failed_call(start: usize, nonterminal: usize, failure: Failure) -> Error
+pub fn failed_call(start: u32, nonterminal: u32, failure: Failure) -> Error
     ensures { λ r. ⌜ errorOf r ≡ failedCall start nonterminal (failureOf failure) ⌝ }
 {
     let Failure::At(e) = failure else {

@@ -59,8 +59,10 @@ impl Cursor {
         }
     }
 
-    fn is_step(self, file: &[u8], a: usize, b: usize, c: usize) -> Cursor {
-        self.is(file, a).is(file, b).is(file, c)
+    fn is_step(self, file: &[u8], a: u32, b: u32, c: u32) -> Cursor {
+        self.is(file, a as usize)
+            .is(file, b as usize)
+            .is(file, c as usize)
     }
 }
 

@@ -26,7 +26,7 @@ use Rattle.run_model.specs.Model as model
 use Rattle.run_model.specs.Model.{RowState, rowState, outcome, RowRunner, makes, spendRows, stopsRows}
 use Rattle.run_model.specs.Model.{completeRows, stepsRows, enterChildRows, followedRows, orChild, orAbsentRows, choiceRows, chosenRows}
 use Rattle.errors.specs.Maps.{failureOf}
-use Rattle.tokens.specs.Maps.{endOf}
+use Rattle.tokens.specs.Maps.{closingIn}
 use Rattle.transitions.specs.declared.outcomes.Outcome.{Outcome}
 use Rattle.transitions.specs.declared.outcomes.State.{State}
 use Rattle.transitions.specs.declared.stages.Doing.{Doing}
@@ -54,7 +54,7 @@ sides-elements : (book : Book) (text : List ℕ) (inner : Option RowRunner) (n c
 unfolding sidesRows choosesRows sideRows nextRows choiceRows
 sides-elements book text inner n c j rest l x items s =
     bind-assoc (spendRows s)
-    (λ t. stopsRows book text j (l .values) (endOf (l .closing)) (stepsRows book text inner n c j rest) x items t)
+    (λ t. stopsRows book text j (l .values) (closingIn (l .closing)) (stepsRows book text inner n c j rest) x items t)
     (λ a. orChild book text inner n c (l .nonterminal) (nextRows book text c j rest (Next.Elements l) items) x a)
 
 module _ (book : Book) (text : List ℕ) (inner : Option RowRunner) (n c j : ℕ) (rest : List (Todo ℕ)) (next : Next) (M x items : ℕ) (s : State)

@@ -2,7 +2,5 @@
 pub mod Promise
 pub mod Reading
 pub mod ListLaws
-pub mod Fitting
-pub mod ErrorLaws
 pub mod RefusalLaws
 pub mod ReadingLaws

@@ -14,16 +14,14 @@ use Rattle.book.specs.Check.{checkBook}
 use Rattle.book.specs.Check as check
 use Rattle.book.specs.Index.{bookIn}
 use Rattle.semantics.specs.Values.{Parse, whole}
-use Rattle.semantics.specs.Errors.{Error}
 use Rattle.semantics.specs.Run.{Result, Parsed}
 use Rattle.semantics.specs.Run as definition
 use Rattle.semantics.specs.Answer.{Answer, Answered, answer, written, parseNumbers}
 use Rattle.run_model.specs.Theorem.{seen}
 use Rattle.calls.specs.Table.{table, rowIn}
-use Rattle.errors.specs.declared.Failure.{Failure}
 use Rattle.transitions.specs.declared.outcomes.Outcome.{Outcome}
-use Rattle.transitions.specs.Outcomes.{cellsOf, Held, given, failureAt}
-use Rattle.transitions.specs.Fit.{Fit, Fits}
+use Rattle.transitions.specs.Outcomes.{cellsOf, Held, given}
+use Rattle.transitions.specs.Fit.{Fit}
 use Rattle.run.specs.Promise.{answered}
 use Rattle.run.specs.declared.reader.Answer as code
 use Rattle.run.specs.declared.whole.Values.{Values}
@@ -68,19 +66,10 @@ endAnswer Values.Different work parses = answer 32 0 0 0 work parses 0
 unfoldable pub seenOf : Outcome → List ℕ → List ℕ → Result Parsed
 seenOf o store rows = seen (given o (cellsOf store (o .state .cells)) (table rows))
 
--- an error's numbers fit into 32 bits
-abbrev pub ErrorFits : Error → Type 0
-ErrorFits e = Fits (e .place) × Fits (e .kind) × Fits (e .argument)
-
-abbrev pub FailureFits : Failure → Type 0
-FailureFits Failure.Nothing = Unit {0}
-FailureFits (Failure.At e) = Fits (e .place) × Fits (e .kind) × Fits (e .argument)
-
 -- the code's outcome, with the store and the rows after it, is the definition's run
 pub record RunsText (book : Book) (text : List ℕ) (units start : ℕ) (store rows : List ℕ) (o : Outcome) : Type 0 where
   pub is : seenOf o store rows ≡ definition.run book text units start
   pub held : Held text store (o .state .cells)
-  pub fits : o .limit ≡ 0 → FailureFits (failureAt o)
 
 -- ---- The lists
 -- the first `size` numbers of a lent list become these and zeros
@@ -112,7 +101,7 @@ CanFill cells parses store rows count =
 abbrev pub CanEnd : Slice → Slice → Slice → Slice → Slice → Outcome → Type 0
 CanEnd text cells parses store rows o =
     (12288 ≤ length (now cells)) × (256 ≤ length (now parses)) × (rowsSize ≤ length (now rows)) ×
-    Held (now text) (now store) (o .state .cells) × (o .limit ≡ 0 → FailureFits (failureAt o))
+    Held (now text) (now store) (o .state .cells)
 
 -- the run can begin
 abbrev pub CanStart : Slice → Slice → Slice → Slice → Slice → Type 0

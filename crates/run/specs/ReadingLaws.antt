@@ -45,10 +45,8 @@ use Rattle.transitions.specs.Fit.{Fits, Fit}
 use Rattle.run.specs.declared.reader.Answer as parse
 use Rattle.run.specs.declared.whole.Values.{Values}
 use Rattle.run.specs.Promise.{answerIn, answered, noRoom, Reads, answerWith}
-use Rattle.run.specs.Reading.{short, noAllowance, within, withValues, endAnswer, seenOf, FailureFits, RunsText}
+use Rattle.run.specs.Reading.{short, noAllowance, within, withValues, endAnswer, seenOf, RunsText}
 use Rattle.run.specs.ListLaws.{by-values-is}
-use Rattle.run.specs.Fitting.{StepArguments, FailFits, no-error, an-error, Fine, On, result}
-use Rattle.run.specs.ErrorLaws.{run-fine}
 
 -- the three parts of what is answered
 module _ {a : parse.Answer} {b : Answer} {cells cells′ parses parses′ : List ℕ} where
@@ -76,16 +74,6 @@ module _ (o : code.Outcome) (store rows : List ℕ) where
   unfolding seenOf given seen
   seen-result e = rw (eq-eqb (o .limit) 0 e)
 
-failure-fits : (f : Failure) → FailFits (failureOf f) → FailureFits f
-failure-fits Failure.Nothing no-error = tt
-failure-fits (Failure.At e) (an-error h) = h
-
-outcome-fits : (o : code.Outcome) (store rows : List ℕ) (z : Result Parsed) → On Fine z → seenOf o store rows ≡ z → o .limit ≡ 0 → FailureFits (failureAt o)
-outcome-fits o store rows z h e l = failure-fits (failureAt o) (of (subst (λ (z : Result Parsed). On Fine z) (sym e ∙ seen-result o store rows l) h))
-  where
-    of : {r : Parsed} → On Fine (ok r) → FailFits (r .failure)
-    of (result f) = f .failure
-
 module _ (book : Book) (text store₀ store₁ store₂ rows rows′ : List ℕ) (units start first : ℕ) (o : code.Outcome) where
   -- what `enter` says of the code's outcome, seen from outside, is the definition's run
   run-seen : Ran text store₂ (table rows′) o (enterRows book text (runnerRows book text 200) 200 start first (rowState units (cellsOf store₁ 0) (table rows))) →
@@ -97,13 +85,10 @@ module _ (book : Book) (text store₀ store₁ store₂ rows rows′ : List ℕ)
       ∙ ap (λ (u : ℕ). seen (enterRows book text (runnerRows book text 200) 200 start u (rowState units [] (table rows)))) e
       ∙ sym (rows-run book text units start (table rows) (table-length rows))
 
-  pub run-is : Fit book text → ((k : ℕ) → StepArguments (nthStep (book .steps) k)) → Fits start → Cleared store₀ store₁ → 17408 ≤ length store₀ → first ≡ skipFrom text 0 →
+  pub run-is : Cleared store₀ store₁ → 17408 ≤ length store₀ → first ≡ skipFrom text 0 →
       Runs text store₁ 0 store₂ (table rows′) o (λ cells. enterRows book text (runnerRows book text 200) 200 start first (rowState units cells (table rows))) →
       RunsText book text units start store₂ rows′ o
-  run-is fit arguments h c room e runs =
-      let ran = runs (held-none text store₀ store₁ c room) in
-      let is = run-seen ran e in
-      record { is = is; held = ran .held; fits = outcome-fits o store₂ rows′ (definition.run book text units start) (run-fine book text fit arguments units start h) is }
+  run-is c room e runs = let ran = runs (held-none text store₀ store₁ c room) in record { is = run-seen ran e; held = ran .held }
 
 -- ---- The end
 module _ (text cells cells′ parses parses′ store rows : List ℕ) (allowance work : ℕ) (o : code.Outcome) (a : parse.Answer) (w : work ≡ allowance - o .state .units) where

@@ -2,13 +2,13 @@
 //
 // `read` (reader.rt) is that call. Its answer and both lists equal `answerOf` (specs/Answer.antt of the crate
 // semantics) on every book, text, start, allowance and lists, and demand 3 holds of that answer and those lists:
-// `Reads` of specs/Reading.antt. `read_in` is the same with working memory that is lent, whatever it holds. Neither has
+// `Read` of specs/Promise.antt. `read_in` is the same with working memory that is lent, whatever it holds. Neither has
 // a `requires`.
 //
 // The crate relies on the promises of parser, transitions, calls, sets, cells, characters and book and on the theorems
-// of semantics and run_model, and assumes nothing. specs/ has what the functions equal (Reading) and laws: of the lists
-// (ListLaws), of the call (ReadingLaws), and that the numbers of an error and of a refusal fit into 32 bits (Fitting,
-// ErrorLaws, RefusalLaws).
+// of semantics and run_model, and assumes nothing. specs/ has the promise (Promise), what the parts of the call equal
+// (Reading), and laws: of the lists (ListLaws), of the call (ReadingLaws), and that the numbers of a refusal fit into 32
+// bits (RefusalLaws).
 mod lists;
 mod reader;
 mod refusals;

@@ -11,7 +11,7 @@ ghost use Rattle.semantics.specs.Answer as answers;
 ghost use Rattle.semantics.specs.Answer.{answer, firstHigh, answerOf};
 ghost use Rattle.transitions.specs.Fit.{Fits};
 ghost use Rattle.run.specs.Promise.{answerIn, noRoom, Read, ReadIn};
-ghost use Rattle.run.specs.Reading.{short, noAllowance, within, endAnswer, seenOf, ErrorFits, Gives};
+ghost use Rattle.run.specs.Reading.{short, noAllowance, within, endAnswer, seenOf, Gives};
 ghost use Rattle.run.specs.Reading.{CanEnd, CanStart, CanRead, HasRoom, RunsText};
 use crate::lists::cleared;
 use crate::lists::filled;
@@ -88,14 +88,13 @@ fn at_end(refusal: u32, work: u32, parses: u32, value: u32) -> Answer
 
 // "no parse; kind and argument filled"
 fn failed(e: Error, work: u32) -> Answer
-    requires { ⌜ Fits (e .place) × Fits (e .kind) × Fits (e .argument) ⌝ }
     ensures { λ r. ⌜ answerIn r ≡ answer 30 (e .place) (e .kind) (e .argument) work 0 0 ⌝ }
 {
     Answer {
         refusal: NO_PARSE,
-        place: e.place as u32,
-        kind: e.kind as u32,
-        argument: e.argument as u32,
+        place: e.place,
+        kind: e.kind,
+        argument: e.argument,
         work,
         parses: 0,
         value: 0,

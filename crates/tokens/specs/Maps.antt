@@ -4,6 +4,7 @@ use Prim.Native.Nat.{ℕ}
 use Rattle.semantics.specs.Steps as steps
 use Rattle.semantics.specs.Tokens as tokens
 use Rattle.tokens.specs.declared.steps.After.{After}
+use Rattle.tokens.specs.declared.steps.Closing.{Closing}
 use Rattle.tokens.specs.declared.steps.Item.{Item}
 use Rattle.tokens.specs.declared.steps.Taken.{Taken}
 use Rattle.tokens.specs.declared.tokens.End.{End}
@@ -12,6 +13,10 @@ use Rattle.tokens.specs.declared.tokens.Variable.{Variable}
 abbrev pub endOf : End → Option ℕ
 endOf End.Nothing = none
 endOf (End.At end) = some end
+
+abbrev pub closingIn : Closing → Option ℕ
+closingIn Closing.Nothing = none
+closingIn (Closing.Character c) = some c
 
 abbrev pub variableOf : Variable → Option tokens.Variable
 variableOf Variable.Nothing = none
@@ -28,7 +33,7 @@ takenOf Taken.Nothing = steps.Taken.nothing
 takenOf (Taken.Token next item) = steps.read next (itemOf item)
 takenOf (Taken.Child N) = steps.Taken.child N
 takenOf (Taken.Optional N) = steps.Taken.optional N
-takenOf (Taken.List comma N closing place) = steps.Taken.list comma N (endOf closing) place
+takenOf (Taken.List comma N closing place) = steps.Taken.list comma N (closingIn closing) place
 takenOf (Taken.Unopened place) = steps.Taken.unopened place
 
 abbrev pub afterOf : After → steps.After

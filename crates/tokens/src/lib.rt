@@ -11,6 +11,7 @@ mod steps;
 mod tokens;
 
 pub use steps::After;
+pub use steps::Closing;
 pub use steps::Item;
 pub use steps::Taken;
 pub use steps::after_element;

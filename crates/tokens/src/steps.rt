@@ -5,13 +5,12 @@ ghost use mathlib.Core.Path.{_≡_};
 ghost use Rattle.book.specs.Book.{Book};
 ghost use Rattle.book.specs.Index.{bookAt};
 ghost use Rattle.book.specs.declared.records.Step.{Step};
-ghost use Rattle.characters.specs.Skipping.{skipFrom};
 ghost use Rattle.semantics.specs.Errors.{error, identifierError, stepError};
 ghost use Rattle.semantics.specs.Run.{closingOf};
 ghost use Rattle.semantics.specs.Tokens.{when, isSome, variableAt};
 ghost use Rattle.semantics.specs.Steps.{read, stepAt, afterElement, closed as closedAt};
 ghost use Rattle.errors.specs.Maps.{errorOf};
-ghost use Rattle.tokens.specs.Maps.{endOf, takenOf, afterOf};
+ghost use Rattle.tokens.specs.Maps.{endOf, closingIn, takenOf, afterOf};
 use crate::tokens::End;
 use crate::tokens::Variable;
 use crate::tokens::character_end;
@@ -59,17 +58,23 @@ pub enum Taken {
         item: Item,
     },
     // kinds 8 and 9: a child of a nonterminal, or perhaps one
-    Child(usize),
-    Optional(usize),
+    Child(u32),
+    Optional(u32),
     // kinds 10 to 13: a list begins, with commas or without, up to a closing or none
     List {
         comma: bool,
-        nonterminal: usize,
-        closing: End,
+        nonterminal: u32,
+        closing: Closing,
         place: usize,
     },
     // kind 13 without its opening: the empty list, at a place
     Unopened(usize),
+}
+
+// `Option ℕ`: the character that closes a list, if one does.
+pub enum Closing {
+    Nothing,
+    Character(u32),
 }
 
 // After an element a list goes on at a place, or halts there.
@@ -88,7 +93,7 @@ fn bare(next: usize) -> Taken
     }
 }
 
-fn character(text: &[u8], a: usize, x: usize) -> Taken
+fn character(text: &[u8], a: u32, x: usize) -> Taken
     ensures { λ r. ⌜ ((book : Book) → takenOf r ≡ stepAt book (now (text .entry)) (Step.Character a) x) ⌝ }
 {
     let End::At(end) = character_end(text, a, x) else {
@@ -97,7 +102,7 @@ fn character(text: &[u8], a: usize, x: usize) -> Taken
     bare(end)
 }
 
-fn word_at(book: &[u8], index: &[usize], text: &[u8], a: usize, x: usize) -> Taken
+fn word_at(book: &[u8], index: &[usize], text: &[u8], a: u32, x: usize) -> Taken
     ensures { λ r. ⌜ takenOf r ≡ stepAt (bookAt book index) (now (text .entry)) (Step.Word a) x ⌝ }
 {
     let at = skip(text, x);
@@ -105,7 +110,7 @@ fn word_at(book: &[u8], index: &[usize], text: &[u8], a: usize, x: usize) -> Tak
         return Taken::Nothing;
     };
     let spelled = part(text, at, length(at, end));
-    if same_bytes(spelled, word(book, index, a)) {
+    if same_bytes(spelled, word(book, index, a as usize)) {
         bare(end)
     } else {
         Taken::Nothing
@@ -153,12 +158,12 @@ fn variable(book: &[u8], index: &[usize], text: &[u8], x: usize) -> Taken
     }
 }
 
-fn variable_of_kind(book: &[u8], index: &[usize], text: &[u8], a: usize, x: usize) -> Taken
+fn variable_of_kind(book: &[u8], index: &[usize], text: &[u8], a: u32, x: usize) -> Taken
     ensures { λ r. ⌜ takenOf r ≡ stepAt (bookAt book index) (now (text .entry)) (Step.VariableOfKind a) x ⌝ }
 {
     match variable_at(book, index, text, skip(text, x)) {
         Variable::Named { end, number, kind } => {
-            if kind == a {
+            if kind == a as usize {
                 Taken::Token {
                     next: end,
                     item: Item::Variable { number, kind },
@@ -197,7 +202,7 @@ fn reject_reserved(book: &[u8], index: &[usize], text: &[u8], x: usize) -> Taken
     }
 }
 
-fn delimited(text: &[u8], nonterminal: usize, opening: usize, closing: usize, x: usize) -> Taken
+fn delimited(text: &[u8], nonterminal: u32, opening: u32, closing: u32, x: usize) -> Taken
     ensures { λ r. ⌜ ((book : Book) →
         takenOf r ≡ stepAt book (now (text .entry)) (Step.Delimited nonterminal opening closing) x) ⌝ }
 {
@@ -207,19 +212,13 @@ fn delimited(text: &[u8], nonterminal: usize, opening: usize, closing: usize, x:
     Taken::List {
         comma: true,
         nonterminal,
-        closing: End::At(closing),
+        closing: Closing::Character(closing),
         place,
     }
 }
 
 // An opening looked for in vain still leaves the place skipped.
-fn optional_delimited(
-    text: &[u8],
-    nonterminal: usize,
-    opening: usize,
-    closing: usize,
-    x: usize,
-) -> Taken
+fn optional_delimited(text: &[u8], nonterminal: u32, opening: u32, closing: u32, x: usize) -> Taken
     ensures { λ r. ⌜ ((book : Book) →
         takenOf r ≡ stepAt book (now (text .entry)) (Step.OptionalDelimited nonterminal opening closing) x) ⌝ }
 {
@@ -229,7 +228,7 @@ fn optional_delimited(
     Taken::List {
         comma: true,
         nonterminal,
-        closing: End::At(closing),
+        closing: Closing::Character(closing),
         place,
     }
 }
@@ -252,13 +251,13 @@ pub fn step_at(book: &[u8], index: &[usize], text: &[u8], step: Step, x: usize) 
         Step::Many(a) => Taken::List {
             comma: false,
             nonterminal: a,
-            closing: End::Nothing,
+            closing: Closing::Nothing,
             place: x,
         },
         Step::CommaList(a) => Taken::List {
             comma: true,
             nonterminal: a,
-            closing: End::Nothing,
+            closing: Closing::Nothing,
             place: x,
         },
         Step::Delimited {
@@ -289,17 +288,17 @@ pub fn after_element(text: &[u8], comma: bool, place: usize) -> After
 }
 
 // Behind a list: the closing of a delimited one, or nothing.
-pub fn closed(text: &[u8], closing: End, place: usize) -> End
-    ensures { λ r. ⌜ endOf r ≡ closedAt (now (text .entry)) (endOf closing) place ⌝ }
+pub fn closed(text: &[u8], closing: Closing, place: usize) -> End
+    ensures { λ r. ⌜ endOf r ≡ closedAt (now (text .entry)) (closingIn closing) place ⌝ }
 {
-    let End::At(c) = closing else {
+    let Closing::Character(c) = closing else {
         return End::At(place);
     };
     character_end(text, c, place)
 }
 
 // ---- Errors, each at a skipped place
-fn error_at(place: usize, kind: usize, argument: usize) -> Error
+fn error_at(place: u32, kind: u32, argument: u32) -> Error
     ensures { λ r. ⌜ errorOf r ≡ error place kind argument ⌝ }
 {
     Error {
@@ -310,39 +309,40 @@ fn error_at(place: usize, kind: usize, argument: usize) -> Error
 }
 
 // The closing of a list is missing: 1, with its code.
-pub fn closing_error(text: &[u8], closing: End, place: usize) -> Error
-    ensures { λ r. ⌜ errorOf r ≡ error (skipFrom (now (text .entry)) place) 1 (closingOf (endOf closing)) ⌝ }
+pub fn closing_error(closing: Closing, at: u32) -> Error
+    ensures { λ r. ⌜ errorOf r ≡ error at 1 (closingOf (closingIn closing)) ⌝ }
 {
-    let at = skip(text, place);
     match closing {
-        End::At(c) => error_at(at, CHARACTER_WANTED, c),
-        End::Nothing => error_at(at, CHARACTER_WANTED, 0),
+        Closing::Character(c) => error_at(at, CHARACTER_WANTED, c),
+        Closing::Nothing => error_at(at, CHARACTER_WANTED, 0),
     }
 }
 
 // An identifier was wanted: the text ended, none is there, or it is reserved; else another error.
-fn identifier_error(book: &[u8], index: &[usize], text: &[u8], at: usize, other: Error) -> Error
+fn identifier_error(book: &[u8], index: &[usize], text: &[u8], at: u32, other: Error) -> Error
     ensures { λ r. ⌜ errorOf r ≡ identifierError (bookAt book index) (now (text .entry)) at (errorOf other) ⌝ }
 {
-    if at == text.len() {
+    let place = at as usize;
+    if place == text.len() {
         return error_at(at, TEXT_ENDED, 0);
     }
-    if reserved_at(book, index, text, at) {
+    if reserved_at(book, index, text, place) {
         return error_at(at, RESERVED_FOUND, 0);
     }
-    match identifier_end(text, at) {
+    match identifier_end(text, place) {
         End::At(_) => other,
         End::Nothing => error_at(at, IDENTIFIER_WANTED, 0),
     }
 }
 
-fn number_error(text: &[u8], at: usize) -> Error
+fn number_error(text: &[u8], at: u32) -> Error
     ensures { λ r. ⌜ ((book : Book) → errorOf r ≡ stepError book (now (text .entry)) Step.Number at) ⌝ }
 {
-    if at == text.len() {
+    let place = at as usize;
+    if place == text.len() {
         return error_at(at, TEXT_ENDED, 0);
     }
-    match number_at(text, at) {
+    match number_at(text, place) {
         Number::Nothing => error_at(at, DIGITS_WANTED, 0),
         Number::TooLarge => error_at(at, NUMBER_TOO_LARGE, 0),
         Number::Value { value: _, end: _ } => error_at(at, NUMBER_TOO_LARGE, 0),
@@ -350,11 +350,11 @@ fn number_error(text: &[u8], at: usize) -> Error
 }
 
 // No variable of the kind: a name of another kind, or none.
-fn kind_error(book: &[u8], index: &[usize], text: &[u8], kind: usize, at: usize) -> Error
+fn kind_error(book: &[u8], index: &[usize], text: &[u8], kind: u32, at: u32) -> Error
     ensures { λ r. ⌜ errorOf r ≡ when (isSome (variableAt (bookAt book index) (now (text .entry)) at))
         (λ _. error at 8 kind) (λ _. error at 7 0) ⌝ }
 {
-    match variable_at(book, index, text, at) {
+    match variable_at(book, index, text, at as usize) {
         Variable::Named {
             end: _,
             number: _,
@@ -364,7 +364,7 @@ fn kind_error(book: &[u8], index: &[usize], text: &[u8], kind: usize, at: usize)
     }
 }
 
-pub fn step_error(book: &[u8], index: &[usize], text: &[u8], step: Step, at: usize) -> Error
+pub fn step_error(book: &[u8], index: &[usize], text: &[u8], step: Step, at: u32) -> Error
     ensures { λ r. ⌜ errorOf r ≡ stepError (bookAt book index) (now (text .entry)) step at ⌝ }
 {
     match step {

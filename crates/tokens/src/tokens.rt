@@ -29,12 +29,12 @@ pub enum Variable {
 }
 
 // The end of the character `a`, after skipping.
-pub fn character_end(text: &[u8], a: usize, place: usize) -> End
+pub fn character_end(text: &[u8], a: u32, place: usize) -> End
     ensures { λ r. ⌜ endOf r ≡ characterEnd (now (text .entry)) a place ⌝ }
 {
     let at = skip(text, place);
     if at < text.len() {
-        if byte_at(text, at) as usize == a {
+        if byte_at(text, at) as u32 == a {
             return End::At(at + 1);
         }
     }

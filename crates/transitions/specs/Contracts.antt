@@ -2,7 +2,7 @@
 -- text, the store of cells and the rows. Each unfolds to a definition of Outcomes or Steps. Scaffolding: no definition
 -- of document 01.
 --
--- What is asked: Fitting, Ready. What is promised: Makes of a cell, Does of a part of the run, Continues of one that
+-- What is asked: Short, Fitting, Ready. What is promised: Makes of a cell, Does of a part of the run, Continues of one that
 -- goes on from an outcome, Stages and Reaches of a part that calls nothing. Then the parts of the model, from where a
 -- path is.
 use mathlib.Core.Bool.{Bool}
@@ -21,8 +21,8 @@ use Rattle.semantics.specs.Run.{Result}
 use Rattle.run_model.specs.Model.{RowState, rowState, Outcome, runIdentifierRows, completeRows}
 use Rattle.run_model.specs.Model.{stopsRows, listingRows, stepsRows}
 use Rattle.calls.specs.Table.{tableAt, tableAfter}
-use Rattle.tokens.specs.Maps.{endOf}
-use Rattle.tokens.specs.declared.tokens.End.{End}
+use Rattle.tokens.specs.Maps.{closingIn}
+use Rattle.tokens.specs.declared.steps.Closing.{Closing}
 use Rattle.transitions.specs.declared.outcomes.Outcome as code
 use Rattle.transitions.specs.declared.outcomes.State.{State}
 use Rattle.transitions.specs.declared.items.Made.{Made}
@@ -36,6 +36,10 @@ use Rattle.transitions.specs.Steps as steps
 use Rattle.transitions.specs.Steps.{Part, nextRows, sideRows, unopenedRows, tokenRows}
 
 -- ---- What is asked
+-- "above 4,096 bytes" is a refusal, so that a text's places fit into 32 bits
+abbrev pub Short : Slice → Type 0
+Short text = length (now text) ≤ 4096
+
 -- the numbers of the book and of the text fit into 32 bits
 abbrev pub Fitting : Slice → Slice → Slice → Type 0
 Fitting book index text = Fit (bookIn (now book) (now index)) (now text)
@@ -100,9 +104,9 @@ abbrev pub reads : Option Item → ℕ → Progress → Book → List ℕ → Pa
 reads item next here book text inner n c rest s = tokenRows book text inner n c (here .variant) rest item next (here .items) s
 
 -- a list begins at a place
-abbrev pub lists : Bool → ℕ → End → ℕ → Progress → Book → List ℕ → Part
+abbrev pub lists : Bool → ℕ → Closing → ℕ → Progress → Book → List ℕ → Part
 lists comma M closing place here book text inner n c rest s =
-    listingRows book text inner n c (here .variant) comma M (endOf closing) rest
+    listingRows book text inner n c (here .variant) comma M (closingIn closing) rest
     (stepsRows book text inner n c (here .variant) rest) place (here .items) s
 
 -- kind 13 without its opening
@@ -110,9 +114,9 @@ abbrev pub unopens : ℕ → Progress → Book → List ℕ → Part
 unopens place here book text inner n c rest s = unopenedRows book text inner n c (here .variant) rest place (here .items) s
 
 -- a list stops at a place
-abbrev pub stops : ℕ → End → ℕ → Progress → Book → List ℕ → Part
+abbrev pub stops : ℕ → Closing → ℕ → Progress → Book → List ℕ → Part
 stops values closing place here book text inner n c rest s =
-    stopsRows book text (here .variant) values (endOf closing) (stepsRows book text inner n c (here .variant) rest) place (here .items) s
+    stopsRows book text (here .variant) values (closingIn closing) (stepsRows book text inner n c (here .variant) rest) place (here .items) s
 
 -- the first side of a choice
 abbrev pub sides : Next → Progress → Book → List ℕ → Part

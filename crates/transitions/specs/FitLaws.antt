@@ -16,14 +16,13 @@ use lib.ListN.{length, getD}
 use borrow.Author.Tests.{eqb-true, ltb-true}
 use Rattle.characters.specs.Classes.{between}
 use Rattle.book.specs.Book.{Entry, Book}
-use Rattle.book.specs.Check.{Checked, refused, accepted, andThen, Reader, row, placed, entry, nonterminal, variant, step, stepOf, argument, spelling, total, allPass, ended, whole, Outcome, outcome, checkBook}
+use Rattle.book.specs.Check.{Checked, refused, accepted, andThen, Reader, row, placed, entry, nonterminal, variant, spelling, total, allPass, ended, whole, Outcome, outcome, checkBook}
 use Rattle.book.specs.ReaderLaws.{between-high}
 use Rattle.book.specs.declared.records.Associativity.{Associativity}
 use Rattle.book.specs.declared.records.Nonterminal.{Nonterminal}
 use Rattle.book.specs.declared.records.Variant.{Variant}
-use Rattle.book.specs.declared.records.Step.{Step}
 use Rattle.semantics.specs.Theorem.BookFacts.{refused-accepted, accepted-inj, by-then, by-field, by-section}
-use Rattle.transitions.specs.Fit.{Fits, StepFits, Fit}
+use Rattle.transitions.specs.Fit.{Fits, Fit}
 
 -- ---- Rows
 module _ {A : Type 0} (size : A → ℕ) (one : ℕ → Reader A) (bytes : List ℕ) where
@@ -125,44 +124,6 @@ variant-fits bytes first place x end e =
     subst (λ (v : Variant). VariantFits v × (v .first ≡ first)) (accepted-inj all)
     (record { level = between-high 0 255 level low; few = between-high 0 8 number few }, refl)))))))
 
--- the argument of every kind of step is small
-small-argument : (words nonterminals kind a : ℕ) → words ≤ 64 → nonterminals ≤ 32 → argument words nonterminals kind a ≡ true → Fits a
-small-argument words nonterminals kind a w n e = by (eqb kind 0) (eqb kind 1) (eqb kind 5) (leb 8 kind) e
-  where
-    by : (p q r s : Bool) →
-        cond p (between 33 126 a) (cond q (ltb a words) (cond r (between 0 7 a) (cond s (ltb a nonterminals) (eqb a 0)))) ≡ true → Fits a
-    by true q r s e = omega (arith, between-high 33 126 a e)
-    by false true r s e = omega (arith, ltb-true a words e)
-    by false false true s e = omega (arith, between-high 0 7 a e)
-    by false false false true e = omega (arith, ltb-true a nonterminals e)
-    by false false false false e = omega (arith, eqb-true a 0 e)
-
-record Fitting (s : Step) : Type 0 where
-  fits : StepFits s
-
-stepOf-fits : (kind a b c : ℕ) → Fits a → Fitting (stepOf kind a b c)
-unfolding stepOf
-stepOf-fits kind a b c f =
-    by (eqb kind 0) (record { fits = tt }) (by (eqb kind 1) (record { fits = tt }) (by (eqb kind 2) (record { fits = tt })
-    (by (eqb kind 3) (record { fits = tt }) (by (eqb kind 4) (record { fits = tt }) (by (eqb kind 5) (record { fits = tt })
-    (by (eqb kind 6) (record { fits = tt }) (by (eqb kind 7) (record { fits = tt }) (by (eqb kind 8) (record { fits = f })
-    (by (eqb kind 9) (record { fits = f }) (by (eqb kind 10) (record { fits = f }) (by (eqb kind 11) (record { fits = f })
-    (by (eqb kind 12) (record { fits = f }) (by (eqb kind 13) (record { fits = f }) (record { fits = tt }))))))))))))))
-  where
-    by : (t : Bool) {x y : Step} → Fitting x → Fitting y → Fitting (cond t x y)
-    by true h k = h
-    by false h k = k
-
-step-fits : (bytes : List ℕ) (words nonterminals place : ℕ) (x : Step) (end : ℕ) → words ≤ 64 → nonterminals ≤ 32 →
-    step words nonterminals bytes place ≡ accepted x end → StepFits x
-unfolding step
-step-fits bytes words nonterminals place x end w n e =
-    by-field _ bytes place _ e (λ kind at₁ _ next₁.
-    by-field _ bytes at₁ _ next₁ (λ a at₂ one next₂.
-    by-field _ bytes at₂ _ next₂ (λ b at₃ _ next₃.
-    by-field _ bytes at₃ _ next₃ (λ c at₄ _ all.
-    subst StepFits (accepted-inj all) (stepOf-fits kind a b c (small-argument words nonterminals kind a w n one) .fits)))))
-
 -- a variant without its place
 without-place : (P : Variant → Type 0) (xs : List (ℕ × Variant)) (d : ℕ × Variant) → ((i : ℕ) → P (getD xs i d .1)) → (j : ℕ) → P (getD (map (λ v. v .1) xs) j (d .1))
 without-place P [] d h j = h 0
@@ -206,8 +167,6 @@ whole-fits bytes book text end short e =
       few = λ j. omega (arith, fits₄ j .few);
       steps = λ j. omega (arith, within₄ j, steps₅);
       all = omega (arith, steps₅, few₄, most₄);
-      arguments = row-each _ _ StepFits bytes 0 0 (λ n. 0) (λ n. omega arith)
-          (λ sum place x end l told. (step-fits bytes (length words) (length nonterminals) place x end most₁ all₃ told, omega arith)) _ tt n₅ 0 s₅ (omega arith) read₅;
     }))))))))
 
 pub accepted-fits : (bytes : List ℕ) (b : Book) (text : List ℕ) → checkBook bytes ≡ Outcome.book b → length text ≤ 4096 → Fit b text

@@ -22,7 +22,7 @@ use Rattle.run_model.specs.Model.{plainNextRows, listNextRows, stopsRows, chose
 use Rattle.sets.specs.Sets.{parse}
 use Rattle.errors.specs.Failures as failures
 use Rattle.errors.specs.Maps.{failureOf}
-use Rattle.tokens.specs.Maps.{endOf, afterOf}
+use Rattle.tokens.specs.Maps.{closingIn, afterOf}
 use Rattle.errors.specs.declared.Failure.{Failure}
 use Rattle.tokens.specs.declared.steps.After.{After}
 use Rattle.transitions.specs.declared.outcomes.State.{State}
@@ -65,13 +65,13 @@ module _ (book : Book) (text : List ℕ) (inner : Option RowRunner) (n c j : ℕ
     (e : makes (run.make text (Cell.chain (l .values) (q .value))) s ≡ ok m) where
   element-goes : (y : ℕ) → afterElement text (l .comma) (q .rest) ≡ goes y →
       nextPart book text j (Next.Elements l) items q inner n c rest s
-      ≡ choiceRows book text inner n c j (l .comma) (l .nonterminal) (m .cell) (endOf (l .closing)) rest (stepsRows book text inner n c j rest) y items (m .state)
+      ≡ choiceRows book text inner n c j (l .comma) (l .nonterminal) (m .cell) (closingIn (l .closing)) rest (stepsRows book text inner n c j rest) y items (m .state)
   unfolding nextRows listNextRows stepsRows _>>=_
   element-goes y d = rw (e, listNextRows, _>>=_) (rw d)
 
   element-halts : (y : ℕ) → afterElement text (l .comma) (q .rest) ≡ halts y →
       nextPart book text j (Next.Elements l) items q inner n c rest s
-      ≡ stopsRows book text j (m .cell) (endOf (l .closing)) (stepsRows book text inner n c j rest) y items (m .state)
+      ≡ stopsRows book text j (m .cell) (closingIn (l .closing)) (stepsRows book text inner n c j rest) y items (m .state)
   unfolding nextRows listNextRows stepsRows _>>=_
   element-halts y d = rw (e, listNextRows, _>>=_) (rw d)
 
@@ -221,7 +221,7 @@ module _ (book : Book) (text before : List ℕ) (j at items : ℕ) (l : lists.Li
       record {
         is = λ inner n c rest T.
             u .is inner n c rest T
-            ∙ ap (λ k. stopsRows book text j (l .values) (endOf (l .closing)) (stepsRows book text inner n c j rest) at items (rowState (spent .state .units) k T))
+            ∙ ap (λ k. stopsRows book text j (l .values) (closingIn (l .closing)) (stepsRows book text inner n c j rest) at items (rowState (spent .state .units) k T))
             (ap (λ k. cellsOf before k) (p .cells))
             ∙ sym (bind-ok _ (spend-goes s spent p (cellsOf before (s .cells)) T b));
         held = u .held;

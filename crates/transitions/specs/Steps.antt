@@ -20,7 +20,7 @@ use Rattle.run_model.specs.Rows.{Row}
 use Rattle.run_model.specs.Model.{RowState, rowState, Outcome, outcome, RowRunner, RowNext, makes, spendRows, together}
 use Rattle.run_model.specs.Model.{plainNextRows, listNextRows, stopsRows, enterChildRows, followedRows, chosenRows, orAbsentRows, choiceRows, stepUnitRows, stepsRows}
 use Rattle.errors.specs.Maps.{failureOf}
-use Rattle.tokens.specs.Maps.{endOf}
+use Rattle.tokens.specs.Maps.{closingIn}
 use Rattle.transitions.specs.declared.outcomes.Outcome as code
 use Rattle.transitions.specs.declared.outcomes.State.{State}
 use Rattle.transitions.specs.declared.stages.Doing.{Doing}
@@ -36,7 +36,7 @@ todoFrom book step left = map taking (take left (drop step (book .steps)))
 -- ---- What follows a parse
 unfoldable pub nextRows : Book → List ℕ → ℕ → ℕ → List (Todo ℕ) → Next → ℕ → RowNext
 nextRows book text c j rest Next.Steps items = plainNextRows book text c j rest items
-nextRows book text c j rest (Next.Elements l) items = listNextRows book text c j (l .comma) (l .nonterminal) (l .values) (endOf (l .closing)) rest items
+nextRows book text c j rest (Next.Elements l) items = listNextRows book text c j (l .comma) (l .nonterminal) (l .values) (closingIn (l .closing)) rest items
 
 -- ---- With n levels of nesting left, in variant j of the call of row c, what is done next before the rest
 module _ (book : Book) (text : List ℕ) (inner : Option RowRunner) (n c j : ℕ) (rest : List (Todo ℕ)) where
@@ -48,7 +48,7 @@ module _ (book : Book) (text : List ℕ) (inner : Option RowRunner) (n c j : ℕ
   unfoldable pub choosesRows : Next → ℕ → ℕ → ℕ → RowState → Result Outcome
   choosesRows Next.Steps M at items s = orAbsentRows book text inner n c j M rest (stepsRows book text inner n c j rest) at items s
   choosesRows (Next.Elements l) M at items s =
-      choiceRows book text inner n c j (l .comma) M (l .values) (endOf (l .closing)) rest (stepsRows book text inner n c j rest) at items s
+      choiceRows book text inner n c j (l .comma) M (l .values) (closingIn (l .closing)) rest (stepsRows book text inner n c j rest) at items s
 
   unfoldable pub doesRows : Doing → ℕ → ℕ → RowState → Result Outcome
   doesRows Doing.Steps at items s = stepsRows book text inner n c j rest at items s
@@ -67,7 +67,7 @@ module _ (book : Book) (text : List ℕ) (inner : Option RowRunner) (n c j : ℕ
       makes (withCell book text j items (absent .cell)) (absent .state) >>= (λ m.
       stepsRows book text inner n c j rest at (m .cell) (m .state)))
   sideRows (Next.Elements l) at items s =
-      spendRows s >>= (λ t. stopsRows book text j (l .values) (endOf (l .closing)) (stepsRows book text inner n c j rest) at items t)
+      spendRows s >>= (λ t. stopsRows book text j (l .values) (closingIn (l .closing)) (stepsRows book text inner n c j rest) at items t)
 
   -- kind 13 without its opening: the empty list
   unfoldable pub unopenedRows : ℕ → ℕ → RowState → Result Outcome

@@ -37,11 +37,12 @@ use Rattle.sets.specs.Sets.{parse}
 use Rattle.calls.specs.Table.{RunAdded}
 use Rattle.calls.specs.SettlingLaws.{run-added-model}
 use Rattle.errors.specs.Maps.{errorOf, failureOf}
-use Rattle.tokens.specs.Maps.{endOf, itemOf, takenOf}
+use Rattle.tokens.specs.Maps.{endOf, closingIn, itemOf, takenOf}
 use Rattle.errors.specs.declared.Error as code
 use Rattle.errors.specs.declared.Failure.{Failure}
 use Rattle.tokens.specs.declared.steps.Item.{Item}
 use Rattle.tokens.specs.declared.steps.Taken.{Taken}
+use Rattle.tokens.specs.declared.steps.Closing.{Closing}
 use Rattle.tokens.specs.declared.tokens.End.{End}
 use Rattle.transitions.specs.declared.outcomes.State.{State}
 use Rattle.transitions.specs.declared.outcomes.Outcome.{Outcome}
@@ -118,10 +119,10 @@ module _ (book : Book) (text : List ℕ) (j values : ℕ) (close : Option ℕ) (
   stops-closed y n = rw (e, stopsRows, _>>=_) (rw n)
 
 -- the list's part of the model
-abbrev pub stopsPart : Book → List ℕ → ℕ → ℕ → End → ℕ → ℕ → Part
-stopsPart book text j values closing at items inner n c rest s = stopsRows book text j values (endOf closing) (stepsRows book text inner n c j rest) at items s
+abbrev pub stopsPart : Book → List ℕ → ℕ → ℕ → Closing → ℕ → ℕ → Part
+stopsPart book text j values closing at items inner n c rest s = stopsRows book text j values (closingIn closing) (stepsRows book text inner n c j rest) at items s
 
-module _ (book : Book) (text before middle : List ℕ) (j values : ℕ) (closing : End) (at items : ℕ) (s : State) (m : Made)
+module _ (book : Book) (text before middle : List ℕ) (j values : ℕ) (closing : Closing) (at items : ℕ) (s : State) (m : Made)
     (w : MadeBy text before middle s m (run.make text (Cell.list values))) where
   pub stop-limit : (g : Reached) → (m .limit ≡ 0 → ⊥) → g ≡ reachedWith m 0 → Reaches book text before s middle j g (stopsPart book text j values closing at items)
   unfolding stopsRows
@@ -134,8 +135,8 @@ module _ (book : Book) (text before middle : List ℕ) (j values : ℕ) (closing
         held = v .held;
       })
 
-  module _ (l : m .limit ≡ 0) (end : End) (ee : endOf end ≡ closed text (endOf closing) at) where
-    pub stop-unclosed : (g : Reached) (e : code.Error) (o : Outcome) → end ≡ End.Nothing → errorOf e ≡ error (skipFrom text at) 1 (closingOf (endOf closing)) →
+  module _ (l : m .limit ≡ 0) (end : End) (ee : endOf end ≡ closed text (closingIn closing) at) where
+    pub stop-unclosed : (g : Reached) (e : code.Error) (o : Outcome) → end ≡ End.Nothing → errorOf e ≡ error (skipFrom text at) 1 (closingOf (closingIn closing)) →
         o ≡ doneWith (Failure.At e) (m .state) → g ≡ endedBy o → Reaches book text before s middle j g (stopsPart book text j values closing at items)
     stop-unclosed g e o n d eo q h =
         let v = w h in
@@ -143,7 +144,7 @@ module _ (book : Book) (text before middle : List ℕ) (j values : ℕ) (closing
           is = λ inner n₁ c rest T.
               resumes-failed book text inner n₁ c j rest Doing.Steps 0 0 e (m .state) (cellsOf middle (m .state .cells)) T
               ∙ ap (λ z. ok (outcome (some z) (stateIn (m .state) middle T))) d
-              ∙ sym (stops-unclosed book text j values (endOf closing) (stepsRows book text inner n₁ c j rest) at items (rowState (s .units) (cellsOf before (s .cells)) T)
+              ∙ sym (stops-unclosed book text j values (closingIn closing) (stepsRows book text inner n₁ c j rest) at items (rowState (s .units) (cellsOf before (s .cells)) T)
               (rowMade (m .cell) (stateIn (m .state) middle T))
               (makes-ok text middle m (run.make text (Cell.list values)) (s .units) (cellsOf before (s .cells)) v T l) (sym ee ∙ ap endOf n));
           held = v .held;
@@ -160,7 +161,7 @@ module _ (book : Book) (text before middle : List ℕ) (j values : ℕ) (closing
           is = λ inner n₁ c rest T.
               made-resumes book text inner n₁ c j rest Doing.Steps next (r .cell) after r (run.withCell book text j items (m .cell)) (m .state .units)
               (cellsOf middle (m .state .cells)) u T (λ b. stepsRows book text inner n₁ c j rest next (b .cell) (b .state)) refl
-              ∙ sym (stops-closed book text j values (endOf closing) (stepsRows book text inner n₁ c j rest) at items (rowState (s .units) (cellsOf before (s .cells)) T)
+              ∙ sym (stops-closed book text j values (closingIn closing) (stepsRows book text inner n₁ c j rest) at items (rowState (s .units) (cellsOf before (s .cells)) T)
               (rowMade (m .cell) (stateIn (m .state) middle T))
               (makes-ok text middle m (run.make text (Cell.list values)) (s .units) (cellsOf before (s .cells)) v T l) next (sym ee ∙ ap endOf n));
           held = u .held;
@@ -212,7 +213,7 @@ module _ (r : Outcome) (step : Step) (s : State) (p : StepSpent r step s) (book 
 
 -- ---- A list begins, or has no opening
 module _ (book : Book) (text before after : List ℕ) (j : ℕ) (s : State) (m : Made) (w : MadeBy text before after s m (run.make text Cell.empty)) (place items : ℕ) where
-  pub list-begun : (comma : Bool) (M : ℕ) (closing : End) (o : Outcome) → o ≡ limitOf (m .limit) (m .state) →
+  pub list-begun : (comma : Bool) (M : ℕ) (closing : Closing) (o : Outcome) → o ≡ limitOf (m .limit) (m .state) →
       Stages book text before s after j
       (record {
         outcome = o;
@@ -220,7 +221,7 @@ module _ (book : Book) (text before after : List ℕ) (j : ℕ) (s : State) (m :
         items = items;
         doing = Doing.Elements (record { comma = comma; nonterminal = M; values = m .cell; closing = closing });
       })
-      (λ inner n c rest s. listingRows book text inner n c j comma M (endOf closing) rest (stepsRows book text inner n c j rest) place items s)
+      (λ inner n c rest s. listingRows book text inner n c j comma M (closingIn closing) rest (stepsRows book text inner n c j rest) place items s)
   unfolding listingRows doesRows choosesRows
   list-begun comma M closing o e h =
       let v = w h in
@@ -229,7 +230,7 @@ module _ (book : Book) (text before after : List ℕ) (j : ℕ) (s : State) (m :
             made-resumes book text inner n c j rest
             (Doing.Elements (record { comma = comma; nonterminal = M; values = m .cell; closing = closing })) place items after m (run.make text Cell.empty)
             (s .units) (cellsOf before (s .cells)) v T
-            (λ b. choiceRows book text inner n c j comma M (b .cell) (endOf closing) rest (stepsRows book text inner n c j rest) place items (b .state)) refl;
+            (λ b. choiceRows book text inner n c j comma M (b .cell) (closingIn closing) rest (stepsRows book text inner n c j rest) place items (b .state)) refl;
         held = v .held;
       })
 
@@ -246,7 +247,7 @@ module _ (book : Book) (text before after : List ℕ) (j : ℕ) (s : State) (m :
       })
 
   pub unopened-stops : (last : List ℕ) (g : Reached) → m .limit ≡ 0 →
-      Reaches book text after (m .state) last j g (stopsPart book text j (m .cell) End.Nothing place items) →
+      Reaches book text after (m .state) last j g (stopsPart book text j (m .cell) Closing.Nothing place items) →
       Reaches book text before s last j g (λ inner n c rest s. unopenedRows book text inner n c j rest place items s)
   unfolding unopenedRows
   unopened-stops last g l k h =
@@ -383,9 +384,9 @@ module _ (book : Book) (text store : List ℕ) (j : ℕ) (s : State) (x items : 
           held = spent-held h;
         })
 
-    pub step-lists : (after : List ℕ) (comma : Bool) (M : ℕ) (closing : End) (y : ℕ) (g : Stage) → t ≡ Taken.List comma M closing y →
+    pub step-lists : (after : List ℕ) (comma : Bool) (M : ℕ) (closing : Closing) (y : ℕ) (g : Stage) → t ≡ Taken.List comma M closing y →
         Stages book text store (spent .state) after j g
-        (λ inner n c rest s. listingRows book text inner n c j comma M (endOf closing) rest (stepsRows book text inner n c j rest) y items s) →
+        (λ inner n c rest s. listingRows book text inner n c j comma M (closingIn closing) rest (stepsRows book text inner n c j rest) y items s) →
         Stages book text store s after j g (stepPart book text j step x items)
     step-lists after comma M closing y g k w h =
         let u = w (spent-held h) in
@@ -393,7 +394,7 @@ module _ (book : Book) (text store : List ℕ) (j : ℕ) (s : State) (x items : 
           is = λ inner n c rest T.
               u .is inner n c rest T
               ∙ sym (step-list book text inner n c j rest step x items (rowState (s .units) (cellsOf store (s .cells)) T) (stateIn (spent .state) store T)
-              (spends inner n T) comma M (endOf closing) y (sym et ∙ ap takenOf k));
+              (spends inner n T) comma M (closingIn closing) y (sym et ∙ ap takenOf k));
           held = u .held;
         }
 

@@ -34,8 +34,8 @@ use Rattle.semantics.specs.Steps.{After, goes, halts, afterElement, closed, ste
 use Rattle.tokens.specs.Maps.{itemOf, takenOf}
 use Rattle.tokens.specs.declared.steps.Item.{Item}
 use Rattle.tokens.specs.declared.steps.Taken.{Taken}
-use Rattle.tokens.specs.declared.tokens.End.{End}
-use Rattle.transitions.specs.Fit.{Fits, StepFits, Fit, ItemFits, TakenFits}
+use Rattle.tokens.specs.declared.steps.Closing.{Closing}
+use Rattle.transitions.specs.Fit.{Fits, Fit, ItemFits, TakenFits}
 
 pub by-option : {A P : Type 0} (o : Option A) → ((a : A) → o ≡ some a → P) → (o ≡ none → P) → P
 by-option none f g = g refl
@@ -161,9 +161,9 @@ ItemIn (some (steps.Item.variable number kind)) = Fits number × Fits kind
 
 abbrev TakenIn : steps.Taken → Type 0
 TakenIn (steps.Taken.token t) = Fits (t .next) × ItemIn (t .item)
-TakenIn (steps.Taken.child N) = Fits N
-TakenIn (steps.Taken.optional N) = Fits N
-TakenIn (steps.Taken.list comma N close place) = Fits N × Fits place
+TakenIn (steps.Taken.child N) = Unit {0}
+TakenIn (steps.Taken.optional N) = Unit {0}
+TakenIn (steps.Taken.list comma N close place) = Fits place
 TakenIn (steps.Taken.unopened place) = Fits place
 TakenIn steps.Taken.nothing = Unit {0}
 
@@ -224,32 +224,32 @@ module _ (book : Book) (text : List ℕ) (fit : Fit book text) (x : ℕ) (h : Fi
   unfolding stepAt
   reject-reserved-taken = by-test (reservedAt book text (skipFrom text x)) (λ e. rw (e, stepAt) tt) (λ e. rw (e, stepAt) (h, tt))
 
-  delimited-taken : (M b c : ℕ) → Fits M → TakenIn (stepAt book text (Step.Delimited M b c) x)
+  delimited-taken : (M b c : ℕ) → TakenIn (stepAt book text (Step.Delimited M b c) x)
   unfolding stepAt
-  delimited-taken M b c f =
-      by-option (characterEnd text b x) (λ end e. rw (e, stepAt) (f, character-fits text b x end (fit .short) e)) (λ e. rw (e, stepAt) tt)
+  delimited-taken M b c =
+      by-option (characterEnd text b x) (λ end e. rw (e, stepAt) (character-fits text b x end (fit .short) e)) (λ e. rw (e, stepAt) tt)
 
-  optional-taken : (M b c : ℕ) → Fits M → TakenIn (stepAt book text (Step.OptionalDelimited M b c) x)
+  optional-taken : (M b c : ℕ) → TakenIn (stepAt book text (Step.OptionalDelimited M b c) x)
   unfolding stepAt
-  optional-taken M b c f =
-      by-option (characterEnd text b x) (λ end e. rw (e, stepAt) (f, character-fits text b x end (fit .short) e)) (λ e. rw (e, stepAt) at-fits)
+  optional-taken M b c =
+      by-option (characterEnd text b x) (λ end e. rw (e, stepAt) (character-fits text b x end (fit .short) e)) (λ e. rw (e, stepAt) at-fits)
 
-  step-taken : (step : Step) → StepFits step → TakenIn (stepAt book text step x)
+  step-taken : (step : Step) → TakenIn (stepAt book text step x)
   unfolding stepAt
-  step-taken (Step.Character a) f = character-taken a
-  step-taken (Step.Word a) f = word-taken a
-  step-taken Step.Identifier f = identifier-taken
-  step-taken Step.Number f = number-told (numberAt text (skipFrom text x)) refl
-  step-taken Step.Variable f = variable-taken
-  step-taken (Step.VariableOfKind a) f = kind-taken a
-  step-taken Step.RejectVariable f = reject-variable-taken
-  step-taken Step.RejectReserved f = reject-reserved-taken
-  step-taken (Step.Nonterminal M) f = f
-  step-taken (Step.Optional M) f = f
-  step-taken (Step.Many M) f = (f, h)
-  step-taken (Step.CommaList M) f = (f, h)
-  step-taken (Step.Delimited M b c) f = delimited-taken M b c f
-  step-taken (Step.OptionalDelimited M b c) f = optional-taken M b c f
+  step-taken (Step.Character a) = character-taken a
+  step-taken (Step.Word a) = word-taken a
+  step-taken Step.Identifier = identifier-taken
+  step-taken Step.Number = number-told (numberAt text (skipFrom text x)) refl
+  step-taken Step.Variable = variable-taken
+  step-taken (Step.VariableOfKind a) = kind-taken a
+  step-taken Step.RejectVariable = reject-variable-taken
+  step-taken Step.RejectReserved = reject-reserved-taken
+  step-taken (Step.Nonterminal M) = tt
+  step-taken (Step.Optional M) = tt
+  step-taken (Step.Many M) = h
+  step-taken (Step.CommaList M) = h
+  step-taken (Step.Delimited M b c) = delimited-taken M b c
+  step-taken (Step.OptionalDelimited M b c) = optional-taken M b c
 
 item-in : (i : Item) → ItemIn (itemOf i) → ItemFits i
 item-in Item.Nothing f = f
@@ -265,24 +265,16 @@ taken-in (Taken.Optional N) f = f
 taken-in (Taken.List comma N closing place) f = f
 taken-in (Taken.Unopened place) f = f
 
-pub taken-fits : (book : Book) (text : List ℕ) → Fit book text → (k x : ℕ) → Fits x → (step : Step) → step ≡ nthStep (book .steps) k →
+pub taken-fits : (book : Book) (text : List ℕ) → Fit book text → (x : ℕ) → Fits x → (step : Step) →
     (t : Taken) → takenOf t ≡ stepAt book text step x → TakenFits t
-taken-fits book text fit k x h step es t e =
-    let f : StepFits step = rw es (fit .arguments k) in
-    taken-in t (rw e (step-taken book text fit x h step f))
+taken-fits book text fit x h step t e = taken-in t (rw e (step-taken book text fit x h step))
 
 -- ---- The same by what was taken
 module _ (t : Taken) (f : TakenFits t) where
   pub token-fits : (next : ℕ) (item : Item) → t ≡ Taken.Token next item → Fits next × ItemFits item
   token-fits next item e = rw e at f
 
-  pub child-fits : (N : ℕ) → t ≡ Taken.Child N → Fits N
-  child-fits N e = rw e at f
-
-  pub optional-fits : (N : ℕ) → t ≡ Taken.Optional N → Fits N
-  optional-fits N e = rw e at f
-
-  pub list-fits : (comma : Bool) (N : ℕ) (closing : End) (place : ℕ) → t ≡ Taken.List comma N closing place → Fits N × Fits place
+  pub list-fits : (comma : Bool) (N : ℕ) (closing : Closing) (place : ℕ) → t ≡ Taken.List comma N closing place → Fits place
   list-fits comma N closing place e = rw e at f
 
   pub unopened-fits : (place : ℕ) → t ≡ Taken.Unopened place → Fits place

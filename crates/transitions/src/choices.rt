@@ -1,7 +1,7 @@
 // The first side of a choice, and both sides together.
 ghost use Rattle.calls.specs.Table.{InTable, tableAt};
 ghost use Rattle.transitions.specs.Steps.{Chosen};
-ghost use Rattle.transitions.specs.Contracts.{Fitting, Reaches, sides};
+ghost use Rattle.transitions.specs.Contracts.{Short, Fitting, Reaches, sides};
 ghost use Rattle.transitions.specs.declared.stages.Next.{Next};
 use crate::items::make;
 use crate::items::with_cell;
@@ -10,6 +10,7 @@ use crate::outcomes::State;
 use crate::outcomes::done;
 use crate::outcomes::failure_of;
 use crate::outcomes::spend;
+use crate::places::skipped;
 use crate::stages::List;
 use crate::stages::Next;
 use crate::stages::Progress;
@@ -17,7 +18,6 @@ use crate::stages::Reached;
 use crate::stages::ended;
 use crate::stages::reached_with;
 use crate::steps::stop;
-use characters::skip;
 
 // An optional child is absent: the cell, then its chain cell.
 fn absent(
@@ -103,7 +103,7 @@ pub fn first_side(
 
 // Both sides of a choice.
 pub fn both(text: &[u8], rows: &[u32], here: Progress, a: Outcome, b: Outcome) -> Outcome
-    requires { ⌜ InTable (here .call) rows ⌝ }
+    requires { ⌜ InTable (here .call) rows × Short text ⌝ }
     ensures { λ r. ⌜ Chosen (now (text .entry)) (tableAt rows) (here .call) (here .at) a b r ⌝ }
 {
     if b.limit != 0 {
@@ -111,9 +111,7 @@ pub fn both(text: &[u8], rows: &[u32], here: Progress, a: Outcome, b: Outcome) -
     }
     let first = failure_of(a);
     let second = failure_of(b);
-    let nonterminal = calls::nonterminal_of(rows, here.call) as usize;
-    done(
-        errors::chosen(skip(text, here.at as usize), nonterminal, first, second),
-        b.state,
-    )
+    let at = skipped(text, here.at);
+    let nonterminal = calls::nonterminal_of(rows, here.call);
+    done(errors::chosen(at, nonterminal, first, second), b.state)
 }

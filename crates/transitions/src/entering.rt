@@ -26,6 +26,7 @@ use crate::outcomes::at_limit;
 use crate::outcomes::done;
 use crate::outcomes::failure_of;
 use crate::outcomes::spend;
+use crate::places::skipped;
 use crate::stages::Progress;
 use crate::stages::Reached;
 use crate::stages::reached_with;
@@ -33,9 +34,9 @@ use book::Associativity;
 use book::Mark;
 use calls::Governor;
 use calls::Settled;
-use characters::skip;
 use errors::Error;
 use errors::Failure;
+use errors::NONTERMINAL_WANTED;
 use sets::Parse;
 use tokens::End;
 use tokens::Variable;
@@ -69,9 +70,9 @@ fn no_parse(nonterminal: u32, u: u32) -> Failure
     ensures { λ r. ⌜ failureOf r ≡ some (error u 11 nonterminal) ⌝ }
 {
     Failure::At(Error {
-        place: u as usize,
-        kind: 11,
-        argument: nonterminal as usize,
+        place: u,
+        kind: NONTERMINAL_WANTED,
+        argument: nonterminal,
     })
 }
 
@@ -262,8 +263,8 @@ fn ended_by(rows: &[u32], n: usize, how: Settled, failure: Failure, state: State
 {
     match how {
         Settled::Failed => {
-            let start = calls::start_of(rows, n) as usize;
-            let nonterminal = calls::nonterminal_of(rows, n) as usize;
+            let start = calls::start_of(rows, n);
+            let nonterminal = calls::nonterminal_of(rows, n);
             over(done(
                 Failure::At(errors::failed_call(start, nonterminal, failure)),
                 state,
@@ -349,7 +350,7 @@ pub fn counted(
     let first = failure_of(before);
     let second = failure_of(o);
     done(
-        errors::join_with(first, errors::counted(w.committed, start as usize, second)),
+        errors::join_with(first, errors::counted(w.committed, start, second)),
         o.state,
     )
 }
@@ -360,7 +361,7 @@ pub fn begin_child(text: &[u8], rows: &mut [u32], here: Progress) -> u32
     requires { ⌜ (here .call ≤ 200) × (rowsSize ≤ length (now rows)) × (length (now text) ≤ 4096) ⌝ }
     ensures { λ r. ⌜ (r ≡ skipFrom (now (text .entry)) (here .at)) × Changes rows (here .call) (withChild r) ⌝ }
 {
-    let at = skip(text, here.at as usize) as u32;
+    let at = skipped(text, here.at);
     calls::put_child(rows, here.call, at);
     at
 }

@@ -13,6 +13,7 @@ mod choices;
 mod entering;
 mod items;
 mod outcomes;
+mod places;
 mod stages;
 mod steps;
 

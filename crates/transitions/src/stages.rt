@@ -5,7 +5,7 @@ ghost use Rattle.transitions.specs.declared.stages.Doing.{Doing};
 use crate::items::Made;
 use crate::outcomes::Outcome;
 use crate::outcomes::at_limit;
-use tokens::End;
+use tokens::Closing;
 
 // How far a path through a variant is: the row of its call, the variant's number, its next step and how many remain,
 // the place reached, and the chain of the items so far (of a passing variant, its value).
@@ -24,7 +24,7 @@ pub struct List {
     pub comma: bool,
     pub nonterminal: u32,
     pub values: u32,
-    pub closing: End,
+    pub closing: Closing,
 }
 
 // What a path does next: the steps that are left, a child, perhaps a child, or the elements of a list.

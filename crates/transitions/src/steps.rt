@@ -20,6 +20,7 @@ use crate::outcomes::at_limit;
 use crate::outcomes::done;
 use crate::outcomes::failure_of;
 use crate::outcomes::spend;
+use crate::places::skipped;
 use crate::stages::Doing;
 use crate::stages::List;
 use crate::stages::Next;
@@ -31,10 +32,10 @@ use crate::stages::reached_with;
 use crate::stages::then_steps;
 use book::Step;
 use book::Variant;
-use characters::skip;
 use errors::Failure;
 use sets::Parse;
 use tokens::After;
+use tokens::Closing;
 use tokens::End;
 use tokens::Item;
 use tokens::Taken;
@@ -88,7 +89,7 @@ pub fn stop(
     store: &mut [u32],
     here: Progress,
     values: u32,
-    closing: End,
+    closing: Closing,
     at: u32,
     state: State,
 ) -> Reached
@@ -101,10 +102,8 @@ pub fn stop(
     }
     let s = m.state;
     let End::At(next) = tokens::closed(text, closing, at as usize) else {
-        return ended(done(
-            Failure::At(tokens::closing_error(text, closing, at as usize)),
-            s,
-        ));
+        let unclosed = skipped(text, at);
+        return ended(done(Failure::At(tokens::closing_error(closing, unclosed)), s));
     };
     reached_with(
         with_cell(
@@ -156,7 +155,7 @@ fn begin_list(
     here: Progress,
     comma: bool,
     nonterminal: u32,
-    closing: End,
+    closing: Closing,
     place: u32,
     state: State,
 ) -> Stage
@@ -203,7 +202,7 @@ fn unopened(
         store,
         here,
         m.cell,
-        End::Nothing,
+        Closing::Nothing,
         place,
         s,
     )
@@ -259,7 +258,8 @@ pub fn take_step(
     let x = here.at as usize;
     match tokens::step_at(book, index, text, step, x) {
         Taken::Nothing => {
-            let e = tokens::step_error(book, index, text, step, skip(text, x));
+            let at = skipped(text, here.at);
+            let e = tokens::step_error(book, index, text, step, at);
             then_steps(ended(done(Failure::At(e), s)))
         }
         Taken::Token { next, item } => then_steps(take_token(
@@ -272,8 +272,8 @@ pub fn take_step(
             next as u32,
             s,
         )),
-        Taken::Child(nonterminal) => then_child(here, Doing::Child(nonterminal as u32), s),
-        Taken::Optional(nonterminal) => then_child(here, Doing::Optional(nonterminal as u32), s),
+        Taken::Child(nonterminal) => then_child(here, Doing::Child(nonterminal), s),
+        Taken::Optional(nonterminal) => then_child(here, Doing::Optional(nonterminal), s),
         Taken::List {
             comma,
             nonterminal,
@@ -284,7 +284,7 @@ pub fn take_step(
             store,
             here,
             comma,
-            nonterminal as u32,
+            nonterminal,
             closing,
             place as u32,
             s,

@@ -551,7 +551,7 @@ parser·choice-both-requires t c κs =
     let start = c .before .before .before .before .before .before .before .before .before .before .before .before .before .before .before .before .before .before .before .before .before .before .before .before .before .before in
     let steps = c .before .before .before .before .before .before .before .before .before .before .before .before .before .before .steps in
     let descend = c .before .before .before .before .before .descend in
-    (start .pre .1 .3 .0, omega (arith, start .pre .1 .1, steps .kept .1 .1 .1 .1 .0, descend .kept .1 .1 .1 .1 .0))
+    ((start .pre .1 .3 .0, omega (arith, start .pre .1 .1, steps .kept .1 .1 .1 .1 .0, descend .kept .1 .1 .1 .1 .0)), start .pre .1 .2 .short)
 
 parser·choice-same-length-3 : (t : ℕ) → parser·choice-lts.Need-same-length-3 (parser·choice-callees t) (parser·choice-at t) parser·choice.Post
 parser·choice-same-length-3 t c =

@@ -13,14 +13,14 @@ place-requires c κs = search needs
 byte-after-requires : tie.Need-byte-after-requires
 byte-after-requires c κs = search needs
 
-number-after-requires : tie.Need-number-after-requires
-number-after-requires c κs = search needs
+argument-after-requires : tie.Need-argument-after-requires
+argument-after-requires c κs = search needs
 
-number-after-requires-2 : tie.Need-number-after-requires-2
-number-after-requires-2 c κs = search needs
+argument-after-requires-2 : tie.Need-argument-after-requires-2
+argument-after-requires-2 c κs = search needs
 
-number-after-requires-3 : tie.Need-number-after-requires-3
-number-after-requires-3 c κs = search needs
+argument-after-requires-3 : tie.Need-argument-after-requires-3
+argument-after-requires-3 c κs = search needs
 
 step-of-requires : tie.Need-step-of-requires
 step-of-requires c κs = search needs
@@ -31,9 +31,9 @@ returns c =
     let if1 = c .before .before .before .before .before .before .if1 in
     let place = c .before .before .before .before .before .place in
     let byte-after = c .before .before .before .before .byte-after in
-    let number-after = c .before .before .before .number-after in
-    let number-after2 = c .before .before .number-after2 in
-    step-in _ _ _ _ _ _ _ _ _ _ (count .ensures) (if1 .taken) (place .ensures) (byte-after .ensures) (number-after .ensures) (number-after2 .ensures) (c .before .number-after3 .ensures) (c .step-of .ensures)
+    let argument-after = c .before .before .before .argument-after in
+    let argument-after2 = c .before .before .argument-after2 in
+    step-in _ _ _ _ _ _ _ _ _ _ (count .ensures) (if1 .taken) (place .ensures) (byte-after .ensures) (argument-after .ensures) (argument-after2 .ensures) (c .before .argument-after3 .ensures) (c .step-of .ensures)
 
 returns-2 : tie.Need-returns-2
 returns-2 c = step-out _ _ _ _ (c .before .count .ensures) (c .if1 .left)
@@ -45,9 +45,9 @@ step-spec =
     count-requires
     place-requires
     byte-after-requires
-    number-after-requires
-    number-after-requires-2
-    number-after-requires-3
+    argument-after-requires
+    argument-after-requires-2
+    argument-after-requires-3
     step-of-requires
     returns
     returns-2)

@@ -40,12 +40,7 @@ cleared-requires-2 : tie.Need-cleared-requires-2
 cleared-requires-2 c κs = search needs
 
 failed-requires : tie.Need-failed-requires
-failed-requires c κs =
-    let pre = c .before .before .before .before .before .before .before .before .before .before .before .before .before .before .before .before .before .before .before .before .pre in
-    let if1 = c .before .before .before .before .before .before .before .before .before .before .before .if1 in
-    let failure-of = c .before .before .before .before .before .before .before .before .before .before .failure-of in
-    let failure = c .before .before .before .before .before .before .before .before .failure in
-    rw (sym (failure-of .ensures) ∙ failure .given .1) at (pre .4 (if1 .left))
+failed-requires c κs = search needs
 
 enum-told : tie.Need-enum-told
 enum-told c = search needs

@@ -4,7 +4,6 @@ use borrow.Author.Needs.{needs}
 use Rattle.book.specs.Index.{bookIn}
 use Rattle.transitions.specs.TakenLaws.{skip-fits}
 use Rattle.run.specs.ReadingLaws.{run-is}
-use Rattle.run.specs.ErrorLaws.{book-arguments}
 use Rattle.run.proofs.reader.run.Statement.{statement}
 use Rattle.run.proofs.reader.run.Tie as tie
 
@@ -33,13 +32,10 @@ returns : tie.Need-returns
 returns c =
     let args = c .before .before .before .before .before .before .before .before .before .before .before .before .before .before .before .before .before .args in
     let pre = c .before .before .before .before .before .before .before .before .before .before .before .before .before .before .before .before .before .pre in
-    let fits = c .before .before .before .before .before .before .before .before .before .before .before .before .before .before .before .before .before .fits in
-    let shared-slice-known = c .before .before .before .before .before .before .before .before .before .before .before .before .before .before .before .before .shared-slice-known in
     let clear = c .before .before .before .before .before .before .before .before .before .before .clear in
     let skip = c .before .before .before .before .before .before .before .skip in
     let enter = c .before .before .before .before .enter in
-    let arguments = book-arguments (args .book .now) (args .index .now) (λ i. omega (arith, shared-slice-known .given i)) in
-    run-is (bookIn (args .book .now) (args .index .now)) (args .text .now) _ _ _ _ _ (args .units) (args .start) (skip .result) (enter .result) (pre .2) arguments (omega (arith, fits .start)) (clear .ensures) (pre .0) (skip .ensures) (enter .ensures)
+    run-is (bookIn (args .book .now) (args .index .now)) (args .text .now) _ _ _ _ _ (args .units) (args .start) (skip .result) (enter .result) (clear .ensures) (pre .0) (skip .ensures) (enter .ensures)
 
 pub run-spec : {M : Type 1} → statement M
 run-spec =

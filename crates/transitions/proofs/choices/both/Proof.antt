@@ -7,11 +7,9 @@ use Rattle.transitions.proofs.choices.both.Tie as tie
 
 returns : tie.Need-returns
 returns c =
-    let args = c .before .before .before .before .args in
-    let text = args .text .now in
-    let rows = table (args .rows .now) in
-    let here = args .here in
-    both-limit text rows (here .call) (here .at) (args .a) (args .b) (c .if1 .taken)
+    let start = c .before .before .before .before in
+    let args = start .args in
+    both-limit (args .text .now) (table (args .rows .now)) (args .here .call) (args .here .at) (args .a) (args .b) (c .if1 .taken)
 
 failure-of-requires : tie.Need-failure-of-requires
 failure-of-requires c κs = search needs
@@ -19,17 +17,11 @@ failure-of-requires c κs = search needs
 failure-of-requires-2 : tie.Need-failure-of-requires-2
 failure-of-requires-2 c κs = search needs
 
+skipped-requires : tie.Need-skipped-requires
+skipped-requires c κs = search needs
+
 nonterminal-of-requires : tie.Need-nonterminal-of-requires
 nonterminal-of-requires c κs = search needs
-
-cast-nonterminal : tie.Need-cast-nonterminal
-cast-nonterminal c = search needs
-
-cast-skip : tie.Need-cast-skip
-cast-skip c = search needs
-
-skip-requires : tie.Need-skip-requires
-skip-requires c κs = search needs
 
 chosen-requires : tie.Need-chosen-requires
 chosen-requires c κs = search needs
@@ -39,18 +31,17 @@ done-requires c κs = search needs
 
 returns-2 : tie.Need-returns-2
 returns-2 c =
-    let args = c .before .before .before .before .before .before .before .before .before .before .before .args in
-    let text = args .text .now in
-    let rows = table (args .rows .now) in
-    let here = args .here in
-    let if1 = c .before .before .before .before .before .before .before .if1 in
-    let first = c .before .before .before .before .before .before .failure-of in
-    let second = c .before .before .before .before .before .failure-of2 in
-    let nonterminal-of = c .before .before .before .before .nonterminal-of in
-    let skip = c .before .before .skip in
+    let start = c .before .before .before .before .before .before .before .before .before .before in
+    let failure-of = c .before .before .before .before .before .failure-of in
+    let failure-of2 = c .before .before .before .before .failure-of2 in
     let chosen = c .before .chosen in
-    both-chosen text rows (here .call) (here .at) _ _ (args .a) (args .b) _ (first .result) (second .result) (chosen .result) (if1 .left) (nonterminal-of .ensures) (skip .ensures)
-    (first .ensures) (second .ensures) (chosen .ensures) (c .done .ensures)
+    let if1 = c .before .before .before .before .before .before .if1 in
+    let nonterminal-of = c .before .before .nonterminal-of in
+    let skipped = c .before .before .before .skipped in
+    let args = start .args in
+    both-chosen (args .text .now) (table (args .rows .now)) (args .here .call) (args .here .at) _ _ (args .a) (args .b) _
+    (failure-of .result) (failure-of2 .result) (chosen .result) (if1 .left) (nonterminal-of .ensures) (skipped .ensures)
+    (failure-of .ensures) (failure-of2 .ensures) (chosen .ensures) (c .done .ensures)
 
 pub both-spec : {M : Type 1} → statement M
 both-spec =
@@ -59,10 +50,8 @@ both-spec =
     returns
     failure-of-requires
     failure-of-requires-2
+    skipped-requires
     nonterminal-of-requires
-    cast-nonterminal
-    cast-skip
-    skip-requires
     chosen-requires
     done-requires
     returns-2)

@@ -12,14 +12,8 @@ enum-told c = search needs
 start-of-requires : tie.Need-start-of-requires
 start-of-requires c κs = search needs
 
-cast-start : tie.Need-cast-start
-cast-start c = search needs
-
 nonterminal-of-requires : tie.Need-nonterminal-of-requires
 nonterminal-of-requires c κs = search needs
-
-cast-nonterminal : tie.Need-cast-nonterminal
-cast-nonterminal c = search needs
 
 failed-call-requires : tie.Need-failed-call-requires
 failed-call-requires c κs = search needs
@@ -93,9 +87,7 @@ ended-by-spec =
     (tie.spec
     enum-told
     start-of-requires
-    cast-start
     nonterminal-of-requires
-    cast-nonterminal
     failed-call-requires
     done-requires
     over-requires

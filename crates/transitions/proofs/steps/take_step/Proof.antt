@@ -1,11 +1,11 @@
 -- `transitions::take_step` meets its contract.
 use mathlib.Core.Path.{ap, _∙_}
 use native.Mathlib.Omega.{arith}
-use borrow.Author.Needs.{needs}
 use Rattle.book.specs.Index.{bookIn}
 use Rattle.semantics.specs.Errors.{stepError}
-use Rattle.transitions.specs.TakenLaws.{taken-fits, token-fits, child-fits, optional-fits, list-fits, unopened-fits}
+use Rattle.transitions.specs.TakenLaws.{taken-fits, token-fits, list-fits, unopened-fits}
 use Rattle.transitions.specs.StepsLaws.{at-step, step-limit, step-fails, step-reads, step-descends, step-chooses, step-lists, step-unopens}
+use borrow.Author.Needs.{needs}
 use Rattle.transitions.proofs.steps.take_step.Statement.{statement}
 use Rattle.transitions.proofs.steps.take_step.Tie as tie
 
@@ -26,17 +26,15 @@ then-steps-requires c κs = search needs
 
 returns : tie.Need-returns
 returns c =
-    let args = c .before .before .before .before .before .before .before .before .before .before .before .args in
-    let book = bookIn (args .book .now) (args .index .now) in
-    let text = args .text .now in
-    let store = args .store .now in
-    let here = args .here in
+    let start = c .before .before .before .before .before .before .before .before .before .before .before in
     let step = c .before .before .before .before .before .step in
     let step-unit = c .before .before .before .before .step-unit in
     let if1 = c .before .before .if1 in
     let ended = c .before .ended in
-    at-step book text store _ (here .variant) (args .state) _ (here .at) (here .items) _ _ (step .ensures)
-    (step-limit book text store (here .variant) (args .state) (here .at) (here .items) _ _ (step-unit .ensures) _ _ (if1 .taken) (ended .ensures) (c .then-steps .ensures))
+    let args = start .args in
+    let here = args .here in
+    at-step _ _ _ _ (here .variant) (args .state) _ (here .at) (here .items) _ _ (step .ensures)
+    (step-limit _ _ _ (here .variant) (args .state) (here .at) (here .items) _ _ (step-unit .ensures) _ _ (if1 .taken) (ended .ensures) (c .then-steps .ensures))
 
 cast-x : tie.Need-cast-x
 cast-x c = search needs
@@ -47,8 +45,8 @@ step-at-requires c κs = search needs
 enum-told : tie.Need-enum-told
 enum-told c = search needs
 
-skip-requires : tie.Need-skip-requires
-skip-requires c κs = search needs
+skipped-requires : tie.Need-skipped-requires
+skipped-requires c κs = search needs
 
 step-error-requires : tie.Need-step-error-requires
 step-error-requires c κs = search needs
@@ -68,18 +66,18 @@ enum-known-next c = search needs
 cast-take-token : tie.Need-cast-take-token
 cast-take-token c =
     let start = c .before .before .before .before .before .before .before .before .before .before .before .before .before .before .before .before in
-    let step = c .before .before .before .before .before .before .before .before .before .before .step in
     let step-at = c .before .before .before .before .step-at in
-    let fits = taken-fits _ _ (start .pre) _ _ (omega (arith, start .good)) _ (step .ensures) (step-at .result) (step-at .ensures) in
-    omega (arith, token-fits _ fits _ _ (c .before .before .next .given .1) .0)
+    let next = c .before .before .next in
+    let fits = taken-fits _ _ (start .pre) _ (omega (arith, start .good)) _ (step-at .result) (step-at .ensures) in
+    omega (arith, token-fits _ fits _ _ (next .given .1) .0)
 
 take-token-requires : tie.Need-take-token-requires
 take-token-requires c κs =
     let start = c .before .before .before .before .before .before .before .before .before .before .before .before .before .before .before .before in
-    let step = c .before .before .before .before .before .before .before .before .before .before .step in
     let step-at = c .before .before .before .before .step-at in
-    let fits = taken-fits _ _ (start .pre) _ _ (omega (arith, start .good)) _ (step .ensures) (step-at .result) (step-at .ensures) in
-    token-fits _ fits _ _ (c .before .before .next .given .1) .1
+    let next = c .before .before .next in
+    let fits = taken-fits _ _ (start .pre) _ (omega (arith, start .good)) _ (step-at .result) (step-at .ensures) in
+    token-fits _ fits _ _ (next .given .1) .1
 
 then-steps-requires-3 : tie.Need-then-steps-requires-3
 then-steps-requires-3 c κs = search needs
@@ -87,27 +85,11 @@ then-steps-requires-3 c κs = search needs
 enum-known-nonterminal : tie.Need-enum-known-nonterminal
 enum-known-nonterminal c = search needs
 
-cast-t34 : tie.Need-cast-t34
-cast-t34 c =
-    let start = c .before .before .before .before .before .before .before .before .before .before .before .before .before .before .before in
-    let step = c .before .before .before .before .before .before .before .before .before .step in
-    let step-at = c .before .before .before .step-at in
-    let fits = taken-fits _ _ (start .pre) _ _ (omega (arith, start .good)) _ (step .ensures) (step-at .result) (step-at .ensures) in
-    omega (arith, child-fits _ fits _ (c .before .nonterminal .given .1))
-
 then-child-requires : tie.Need-then-child-requires
 then-child-requires c κs = search needs
 
 enum-known-nonterminal-2 : tie.Need-enum-known-nonterminal-2
 enum-known-nonterminal-2 c = search needs
-
-cast-t36 : tie.Need-cast-t36
-cast-t36 c =
-    let start = c .before .before .before .before .before .before .before .before .before .before .before .before .before .before .before in
-    let step = c .before .before .before .before .before .before .before .before .before .step in
-    let step-at = c .before .before .before .step-at in
-    let fits = taken-fits _ _ (start .pre) _ _ (omega (arith, start .good)) _ (step .ensures) (step-at .result) (step-at .ensures) in
-    omega (arith, optional-fits _ fits _ (c .before .nonterminal2 .given .1))
 
 then-child-requires-2 : tie.Need-then-child-requires-2
 then-child-requires-2 c κs = search needs
@@ -118,18 +100,10 @@ enum-known-comma c = search needs
 cast-begin-list : tie.Need-cast-begin-list
 cast-begin-list c =
     let start = c .before .before .before .before .before .before .before .before .before .before .before .before .before .before .before .before in
-    let step = c .before .before .before .before .before .before .before .before .before .before .step in
     let step-at = c .before .before .before .before .step-at in
-    let fits = taken-fits _ _ (start .pre) _ _ (omega (arith, start .good)) _ (step .ensures) (step-at .result) (step-at .ensures) in
-    omega (arith, list-fits _ fits _ _ _ _ (c .before .before .comma .given .1) .0)
-
-cast-begin-list-2 : tie.Need-cast-begin-list-2
-cast-begin-list-2 c =
-    let start = c .before .before .before .before .before .before .before .before .before .before .before .before .before .before .before .before in
-    let step = c .before .before .before .before .before .before .before .before .before .before .step in
-    let step-at = c .before .before .before .before .step-at in
-    let fits = taken-fits _ _ (start .pre) _ _ (omega (arith, start .good)) _ (step .ensures) (step-at .result) (step-at .ensures) in
-    omega (arith, list-fits _ fits _ _ _ _ (c .before .before .comma .given .1) .1)
+    let comma = c .before .before .comma in
+    let fits = taken-fits _ _ (start .pre) _ (omega (arith, start .good)) _ (step-at .result) (step-at .ensures) in
+    omega (arith, list-fits _ fits _ _ _ _ (comma .given .1))
 
 begin-list-requires : tie.Need-begin-list-requires
 begin-list-requires c κs = search needs
@@ -140,88 +114,82 @@ enum-known-place c = search needs
 cast-unopened : tie.Need-cast-unopened
 cast-unopened c =
     let start = c .before .before .before .before .before .before .before .before .before .before .before .before .before .before .before .before in
-    let step = c .before .before .before .before .before .before .before .before .before .before .step in
     let step-at = c .before .before .before .before .step-at in
-    let fits = taken-fits _ _ (start .pre) _ _ (omega (arith, start .good)) _ (step .ensures) (step-at .result) (step-at .ensures) in
-    omega (arith, unopened-fits _ fits _ (c .before .before .place .given .1))
+    let place = c .before .before .place in
+    let fits = taken-fits _ _ (start .pre) _ (omega (arith, start .good)) _ (step-at .result) (step-at .ensures) in
+    omega (arith, unopened-fits _ fits _ (place .given .1))
 
 unopened-requires : tie.Need-unopened-requires
-unopened-requires c κs = c .before .before .before .before .before .before .before .before .before .before .before .before .before .before .before .before .pre
+unopened-requires c κs = search needs
 
 then-steps-requires-4 : tie.Need-then-steps-requires-4
 then-steps-requires-4 c κs = search needs
 
 returns-2 : tie.Need-returns-2
 returns-2 c =
-    let args = c .before .before .before .before .before .before .before .before .before .before .before .before .before .before .before .before .before .before .before .args in
-    let book = bookIn (args .book .now) (args .index .now) in
-    let text = args .text .now in
-    let store = args .store .now in
-    let here = args .here in
+    let start = c .before .before .before .before .before .before .before .before .before .before .before .before .before .before .before .before .before .before .before in
     let step = c .before .before .before .before .before .before .before .before .before .before .before .before .before .step in
     let step-unit = c .before .before .before .before .before .before .before .before .before .before .before .before .step-unit in
     let if1 = c .before .before .before .before .before .before .before .before .before .before .if1 in
     let step-at = c .before .before .before .before .before .before .before .step-at in
     let enum-told = c .before .before .before .before .before .enum-told in
-    let skip = c .before .before .before .before .skip in
     let step-error = c .before .before .before .step-error in
+    let skipped = c .before .before .before .before .skipped in
     let done = c .before .before .done in
     let ended2 = c .before .ended2 in
-    at-step book text store _ (here .variant) (args .state) _ (here .at) (here .items) _ _ (step .ensures)
-    (step-fails book text store (here .variant) (args .state) (here .at) (here .items) _ _ (step-unit .ensures)
+    let args = start .args in
+    let here = args .here in
+    let book = bookIn (args .book .now) (args .index .now) in
+    at-step _ _ _ _ (here .variant) (args .state) _ (here .at) (here .items) _ _ (step .ensures)
+    (step-fails _ _ _ (here .variant) (args .state) (here .at) (here .items) _ _ (step-unit .ensures)
     (if1 .left) _ (step-at .ensures) _ _ _ _ (enum-told .given .1)
-    (step-error .ensures ∙ ap (λ x. stepError book text (step .result) x) (skip .ensures)) (done .ensures) (ended2 .ensures) (c .then-steps2 .ensures))
+    (step-error .ensures ∙ ap (λ x. stepError book (args .text .now) (step .result) x) (skipped .ensures)) (done .ensures) (ended2 .ensures)
+    (c .then-steps2 .ensures))
 
 same-length : tie.Need-same-length
 same-length c = search needs
 
 returns-3 : tie.Need-returns-3
 returns-3 c =
-    let args = c .before .before .before .before .before .before .before .before .before .before .before .before .before .before .before .before .before .before .before .before .args in
-    let book = bookIn (args .book .now) (args .index .now) in
-    let text = args .text .now in
-    let store = args .store .now in
-    let here = args .here in
+    let start = c .before .before .before .before .before .before .before .before .before .before .before .before .before .before .before .before .before .before .before .before in
     let step = c .before .before .before .before .before .before .before .before .before .before .before .before .before .before .step in
     let step-unit = c .before .before .before .before .before .before .before .before .before .before .before .before .before .step-unit in
     let if1 = c .before .before .before .before .before .before .before .before .before .before .before .if1 in
     let step-at = c .before .before .before .before .before .before .before .before .step-at in
     let next = c .before .before .before .before .before .before .next in
     let take-token = c .before .before .before .take-token in
-    at-step book text store _ (here .variant) (args .state) _ (here .at) (here .items) _ _ (step .ensures)
-    (step-reads book text store (here .variant) (args .state) (here .at) (here .items) _ _ (step-unit .ensures)
+    let args = start .args in
+    let here = args .here in
+    at-step _ _ _ _ (here .variant) (args .state) _ (here .at) (here .items) _ _ (step .ensures)
+    (step-reads _ _ _ (here .variant) (args .state) (here .at) (here .items) _ _ (step-unit .ensures)
     (if1 .left) _ (step-at .ensures) _ _ _ _ _ (next .given .1) (take-token .ensures) (c .then-steps3 .ensures))
 
 returns-4 : tie.Need-returns-4
 returns-4 c =
-    let args = c .before .before .before .before .before .before .before .before .before .before .before .before .before .before .before .before .args in
-    let book = bookIn (args .book .now) (args .index .now) in
-    let text = args .text .now in
-    let store = args .store .now in
-    let here = args .here in
+    let start = c .before .before .before .before .before .before .before .before .before .before .before .before .before .before .before .before in
     let step = c .before .before .before .before .before .before .before .before .before .before .step in
     let step-unit = c .before .before .before .before .before .before .before .before .before .step-unit in
     let if1 = c .before .before .before .before .before .before .before .if1 in
     let step-at = c .before .before .before .before .step-at in
     let nonterminal = c .before .before .nonterminal in
-    at-step book text store _ (here .variant) (args .state) _ (here .at) (here .items) _ _ (step .ensures)
-    (step-descends book text store (here .variant) (args .state) (here .at) (here .items) _ _ (step-unit .ensures)
+    let args = start .args in
+    let here = args .here in
+    at-step _ _ _ _ (here .variant) (args .state) _ (here .at) (here .items) _ _ (step .ensures)
+    (step-descends _ _ _ (here .variant) (args .state) (here .at) (here .items) _ _ (step-unit .ensures)
     (if1 .left) _ (step-at .ensures) _ _ (nonterminal .given .1) (c .then-child .ensures))
 
 returns-5 : tie.Need-returns-5
 returns-5 c =
-    let args = c .before .before .before .before .before .before .before .before .before .before .before .before .before .before .before .before .args in
-    let book = bookIn (args .book .now) (args .index .now) in
-    let text = args .text .now in
-    let store = args .store .now in
-    let here = args .here in
+    let start = c .before .before .before .before .before .before .before .before .before .before .before .before .before .before .before .before in
     let step = c .before .before .before .before .before .before .before .before .before .before .step in
     let step-unit = c .before .before .before .before .before .before .before .before .before .step-unit in
     let if1 = c .before .before .before .before .before .before .before .if1 in
     let step-at = c .before .before .before .before .step-at in
     let nonterminal2 = c .before .before .nonterminal2 in
-    at-step book text store _ (here .variant) (args .state) _ (here .at) (here .items) _ _ (step .ensures)
-    (step-chooses book text store (here .variant) (args .state) (here .at) (here .items) _ _ (step-unit .ensures)
+    let args = start .args in
+    let here = args .here in
+    at-step _ _ _ _ (here .variant) (args .state) _ (here .at) (here .items) _ _ (step .ensures)
+    (step-chooses _ _ _ (here .variant) (args .state) (here .at) (here .items) _ _ (step-unit .ensures)
     (if1 .left) _ (step-at .ensures) _ _ (nonterminal2 .given .1) (c .then-child2 .ensures))
 
 same-length-2 : tie.Need-same-length-2
@@ -229,39 +197,35 @@ same-length-2 c = search needs
 
 returns-6 : tie.Need-returns-6
 returns-6 c =
-    let args = c .before .before .before .before .before .before .before .before .before .before .before .before .before .before .before .before .before .before .before .args in
-    let book = bookIn (args .book .now) (args .index .now) in
-    let text = args .text .now in
-    let store = args .store .now in
-    let here = args .here in
+    let start = c .before .before .before .before .before .before .before .before .before .before .before .before .before .before .before .before .before .before .before in
     let step = c .before .before .before .before .before .before .before .before .before .before .before .before .before .step in
     let step-unit = c .before .before .before .before .before .before .before .before .before .before .before .before .step-unit in
     let if1 = c .before .before .before .before .before .before .before .before .before .before .if1 in
     let step-at = c .before .before .before .before .before .before .before .step-at in
     let comma = c .before .before .before .before .before .comma in
     let begin-list = c .before .before .begin-list in
-    at-step book text store _ (here .variant) (args .state) _ (here .at) (here .items) _ _ (step .ensures)
-    (step-lists book text store (here .variant) (args .state) (here .at) (here .items) _ _ (step-unit .ensures)
-    (if1 .left) _ (step-at .ensures) _ _ _ _ _ _ (comma .given .1) (begin-list .ensures book))
+    let args = start .args in
+    let here = args .here in
+    at-step _ _ _ _ (here .variant) (args .state) _ (here .at) (here .items) _ _ (step .ensures)
+    (step-lists _ _ _ (here .variant) (args .state) (here .at) (here .items) _ _ (step-unit .ensures)
+    (if1 .left) _ (step-at .ensures) _ _ _ _ _ _ (comma .given .1) (begin-list .ensures _))
 
 same-length-3 : tie.Need-same-length-3
 same-length-3 c = search needs
 
 returns-7 : tie.Need-returns-7
 returns-7 c =
-    let args = c .before .before .before .before .before .before .before .before .before .before .before .before .before .before .before .before .before .before .before .before .args in
-    let book = bookIn (args .book .now) (args .index .now) in
-    let text = args .text .now in
-    let store = args .store .now in
-    let here = args .here in
+    let start = c .before .before .before .before .before .before .before .before .before .before .before .before .before .before .before .before .before .before .before .before in
     let step = c .before .before .before .before .before .before .before .before .before .before .before .before .before .before .step in
     let step-unit = c .before .before .before .before .before .before .before .before .before .before .before .before .before .step-unit in
     let if1 = c .before .before .before .before .before .before .before .before .before .before .before .if1 in
     let step-at = c .before .before .before .before .before .before .before .before .step-at in
     let place = c .before .before .before .before .before .before .place in
     let unopened = c .before .before .before .unopened in
-    at-step book text store _ (here .variant) (args .state) _ (here .at) (here .items) _ _ (step .ensures)
-    (step-unopens book text store (here .variant) (args .state) (here .at) (here .items) _ _ (step-unit .ensures)
+    let args = start .args in
+    let here = args .here in
+    at-step _ _ _ _ (here .variant) (args .state) _ (here .at) (here .items) _ _ (step .ensures)
+    (step-unopens _ _ _ (here .variant) (args .state) (here .at) (here .items) _ _ (step-unit .ensures)
     (if1 .left) _ (step-at .ensures) _ _ _ _ (place .given .1) (unopened .ensures) (c .then-steps4 .ensures))
 
 pub take-step-spec : {M : Type 1} → statement M
@@ -277,7 +241,7 @@ take-step-spec =
     cast-x
     step-at-requires
     enum-told
-    skip-requires
+    skipped-requires
     step-error-requires
     done-requires
     ended-requires-2
@@ -287,14 +251,11 @@ take-step-spec =
     take-token-requires
     then-steps-requires-3
     enum-known-nonterminal
-    cast-t34
     then-child-requires
     enum-known-nonterminal-2
-    cast-t36
     then-child-requires-2
     enum-known-comma
     cast-begin-list
-    cast-begin-list-2
     begin-list-requires
     enum-known-place
     cast-unopened

@@ -1,0 +1,13 @@
+// Places of a text that isn't too long.
+ghost use mathlib.Core.Path.{_≡_};
+ghost use Rattle.characters.specs.Skipping.{skipFrom};
+ghost use Rattle.transitions.specs.Contracts.{Short};
+use characters::skip;
+
+// Where skipping from a place leads.
+pub fn skipped(text: &[u8], at: u32) -> u32
+    requires { ⌜ Short text ⌝ }
+    ensures { λ r. ⌜ r ≡ skipFrom (now (text .entry)) at ⌝ }
+{
+    skip(text, at as usize) as u32
+}
