@@ -1,9 +1,11 @@
 -- Document 01, "The run", its last paragraph: cells, and what they stand for.
 use mathlib.Core.Bool.{true, false}
 use mathlib.Core.List.{List, [], _∷_, _++_}
-use Prim.Native.Nat.{ℕ, zero, suc, _+_, _-_, _*_, _^_}
+use Prim.Native.Nat.{ℕ, zero, suc, _+_, _-_, _*_}
 use lib.ListN.{getD}
 use Rattle.characters.specs.Spelling.{partOf, same}
+use Rattle.semantics.specs.Numbers.{half, emptyForm, chainForm, variantForm, nameForm, numberForm, variableForm}
+use Rattle.semantics.specs.Numbers.{absentForm, listForm}
 use Rattle.semantics.specs.Values.{Tree, Trees, no-trees, _▸_}
 
 pub data Cell : Type 0 where
@@ -12,22 +14,23 @@ pub data Cell : Type 0 where
   absent : Cell
   list : ℕ → Cell
 
--- "three numbers (.. unstated ones 0)": "1 empty chain ..; 2 chain, item; 3 variant .., chain; 4 name place, length ..; 5 number high, low half; 6 name number, kind;
--- 7 absent; 8 list, chain"
+-- "three numbers (.. unstated ones 0)": the form, and what document 01 names after it
 unfoldable pub numbersOf : Cell → List ℕ
-numbersOf empty = 1 ∷ 0 ∷ 0 ∷ []
-numbersOf (chain c item) = 2 ∷ c ∷ item ∷ []
-numbersOf (variant j c) = 3 ∷ j ∷ c ∷ []
-numbersOf (name place size) = 4 ∷ place ∷ size ∷ []
-numbersOf (number high low) = 5 ∷ high ∷ low ∷ []
-numbersOf (variable i kind) = 6 ∷ i ∷ kind ∷ []
-numbersOf absent = 7 ∷ 0 ∷ 0 ∷ []
-numbersOf (list c) = 8 ∷ c ∷ 0 ∷ []
+numbersOf empty = emptyForm ∷ 0 ∷ 0 ∷ []
+numbersOf (chain c item) = chainForm ∷ c ∷ item ∷ []
+numbersOf (variant j c) = variantForm ∷ j ∷ c ∷ []
+numbersOf (name place size) = nameForm ∷ place ∷ size ∷ []
+numbersOf (number high low) = numberForm ∷ high ∷ low ∷ []
+numbersOf (variable i kind) = variableForm ∷ i ∷ kind ∷ []
+numbersOf absent = absentForm ∷ 0 ∷ 0 ∷ []
+numbersOf (list c) = listForm ∷ c ∷ 0 ∷ []
 
--- the cells that such numbers hold; three zeros, which are unused, read as an empty chain, which stands for no tree
+-- the cells that such numbers hold, by their forms from 1 on; three zeros, which are unused, read as an empty chain,
+-- which stands for no tree
 abbrev pub cellOf : ℕ → ℕ → ℕ → Cell
 cellOf form a b =
-    getD (empty ∷ chain a b ∷ variant a b ∷ name a b ∷ number a b ∷ variable a b ∷ absent ∷ list a ∷ []) (form - 1) empty
+    getD (empty ∷ chain a b ∷ variant a b ∷ name a b ∷ number a b ∷ variable a b ∷ absent ∷ list a ∷ [])
+    (form - 1) empty
 
 unfoldable pub cellsIn : List ℕ → List Cell
 cellsIn [] = []
@@ -40,7 +43,7 @@ unfoldable pub identityOf : List ℕ → Cell → List ℕ
 identityOf text empty = numbersOf empty
 identityOf text (chain c item) = numbersOf (chain c item)
 identityOf text (variant j c) = numbersOf (variant j c)
-identityOf text (name place size) = 4 ∷ partOf text place size
+identityOf text (name place size) = nameForm ∷ partOf text place size
 identityOf text (number high low) = numbersOf (number high low)
 identityOf text (variable i kind) = numbersOf (variable i kind)
 identityOf text absent = numbersOf absent
@@ -49,11 +52,13 @@ identityOf text (list c) = numbersOf (list c)
 -- the number of the first equal cell among those numbered from n, or 0
 unfoldable pub findCell : List ℕ → Cell → ℕ → List Cell → ℕ
 findCell text c n [] = 0
-findCell text c n (d ∷ ds) = elim (same (identityOf text c) (identityOf text d)) [ true ↦ n | false ↦ findCell text c (suc n) ds ]
+findCell text c n (d ∷ ds) =
+    elim (same (identityOf text c) (identityOf text d)) [ true ↦ n | false ↦ findCell text c (suc n) ds ]
 
 -- ---- "A value is a tree, and its cell only stands for it"
--- what a cell stands for: a tree, or the trees of a chain. Every list of cells has some meaning: a number that is no earlier cell of the right kind
--- counts as absent, or as no trees. A run makes no such cell
+-- what a cell stands for: a tree, or the trees of a chain. Every list of cells has some meaning: a number that is no
+-- earlier cell of the right kind counts as absent, or as no trees. A run makes no such cell; what well-made cells
+-- stand for, with no such rule, is `StandsFor` of Exact
 pub data Meaning : Type 0 where
   one : Tree → Meaning
   several : Trees → Meaning
@@ -77,7 +82,7 @@ meaningOf text before empty = several no-trees
 meaningOf text before (chain c item) = several (treesIn (nthMeaning before c) ▸ treeIn (nthMeaning before item))
 meaningOf text before (variant j c) = one (Tree.variant j (treesIn (nthMeaning before c)))
 meaningOf text before (name place size) = one (Tree.name (partOf text place size))
-meaningOf text before (number high low) = one (Tree.number (high * 2 ^ 32 + low))
+meaningOf text before (number high low) = one (Tree.number (high * half + low))
 meaningOf text before (variable i kind) = one (Tree.variable i kind)
 meaningOf text before absent = one Tree.absent
 meaningOf text before (list c) = one (Tree.list (treesIn (nthMeaning before c)))

@@ -9,10 +9,13 @@ use Rattle.characters.specs.Skipping.{skipFrom}
 use Rattle.characters.specs.Spelling.{partOf}
 use Rattle.book.specs.Book.{Book, nthNonterminal, nthVariant}
 use Rattle.book.specs.declared.records.Associativity.{Associativity}
-use Rattle.semantics.specs.Values.{Tree, Trees, no-trees, _▸_, variant, name, number, variable, absent, list, Parse}
+use Rattle.semantics.specs.Numbers.{defaultLevel}
+use Rattle.semantics.specs.Values.{Tree, Trees, no-trees, _▸_, variant, name, number, variable, absent, list}
+use Rattle.semantics.specs.Values.{Parse}
 use Rattle.semantics.specs.Uses.{Path, base, useOf, hasMark, minimum, same-start, governor, keeps}
 use Rattle.semantics.specs.Tokens.{freeEnd, spelled, claimed}
-use Rattle.semantics.specs.Steps.{Item, Taken, stepAt, goes, halts, afterElement, closed, Todo, taking, elements, ending, todoOf}
+use Rattle.semantics.specs.Steps.{Item, Taken, stepAt, goes, halts, afterElement, closed, Todo, taking, elements}
+use Rattle.semantics.specs.Steps.{ending, todoOf}
 
 -- the last item; a passing variant has just one
 unfoldable pub lastOf : Trees → Tree
@@ -26,12 +29,13 @@ valueOf book j items = cond (nthVariant book j .passing) (lastOf items) (variant
 -- "the parse is (rest, level, associativity, value)"
 abbrev pub parseOf : Book → ℕ → ℕ → Trees → Parse Tree
 parseOf book j rest items =
-    record { rest = rest; level = nthVariant book j .level; associativity = nthVariant book j .associativity; value = valueOf book j items }
+    let v = nthVariant book j in
+    record { rest = rest; level = v .level; associativity = v .associativity; value = valueOf book j items }
 
 -- of a mark-2 use: "level 255 Both", "for mark 2 the spelling"
 abbrev pub identifierParse : List ℕ → ℕ → ℕ → Parse Tree
 identifierParse text u end =
-    record { rest = end; level = 255; associativity = Associativity.Both; value = name (spelled text u end) }
+    record { rest = end; level = defaultLevel; associativity = Associativity.Both; value = name (spelled text u end) }
 
 -- what an item is
 unfoldable pub treeOf : List ℕ → Item → Tree
@@ -71,7 +75,8 @@ module _ (book : Book) (text : List ℕ) where
       -- "A derivation takes a variant whose level reaches the minimum and all its steps in turn"
       by-variant : {P N u p m i : _} → governor P base N u ≡ minimum m →
           i < nthNonterminal book N .count → leb m (nthVariant book (variantOf book N i) .level) ≡ true →
-          Through (attempt P N u (variantOf book N i) p) (todoOf book (nthVariant book (variantOf book N i))) u no-trees →
+          Through (attempt P N u (variantOf book N i) p)
+          (todoOf book (nthVariant book (variantOf book N i))) u no-trees →
           Derives P N u p
       -- "Child at the governor's own start: its derivations are those at the governor's place and path, kept when .."
       by-governor : {P N u p i f Q : _} → governor P base N u ≡ same-start i f Q →
@@ -100,21 +105,24 @@ module _ (book : Book) (text : List ℕ) where
           Through a (elements comma M no-trees close ∷ rest) y items → Through a (taking s ∷ rest) x items
       by-unopened : {a s y rest x items : _} → stepAt book text s x ≡ Taken.unopened y →
           Through a rest y (items ▸ list no-trees) → Through a (taking s ∷ rest) x items
-      -- "Many is stop or one more. A comma list is stop, or one followed by stop or, after a comma, by the list again": any
-      -- list may stop; after one more it goes on, or, without a comma where commas are wanted, it halts
+      -- "Many is stop or one more. A comma list is stop, or one followed by stop or, after a comma, by the list again":
+      -- any list may stop; after one more it goes on, or, without a comma where commas are wanted, it halts
       by-stop : {a comma M values close rest x items : _} →
           Through a (ending values close ∷ rest) x items → Through a (elements comma M values close ∷ rest) x items
       by-more : {a comma M values close q y rest x items : _} →
-          Derives (inside book a (skipFrom text x)) M (skipFrom text x) q → afterElement text comma (q .rest) ≡ goes y →
+          Derives (inside book a (skipFrom text x)) M (skipFrom text x) q →
+          afterElement text comma (q .rest) ≡ goes y →
           Through a (elements comma M (values ▸ q .value) close ∷ rest) y items →
           Through a (elements comma M values close ∷ rest) x items
       by-last : {a comma M values close q y rest x items : _} →
-          Derives (inside book a (skipFrom text x)) M (skipFrom text x) q → afterElement text comma (q .rest) ≡ halts y →
+          Derives (inside book a (skipFrom text x)) M (skipFrom text x) q →
+          afterElement text comma (q .rest) ≡ halts y →
           Through a (ending (values ▸ q .value) close ∷ rest) y items →
           Through a (elements comma M values close ∷ rest) x items
       by-ending : {a values close y rest x items : _} → closed text close x ≡ some y →
           Through a rest y (items ▸ list values) → Through a (ending values close ∷ rest) x items
 
-  -- "A text's derivations are the start's from place 0, with an empty path, by finitely many of these rules"; a use begins at a skipped place
+  -- "A text's derivations are the start's from place 0, with an empty path, by finitely many of these rules"; a use
+  -- begins at a skipped place
   abbrev pub DerivesText : ℕ → Parse Tree → Type 0
   DerivesText start p = Derives [] start (skipFrom text 0) p

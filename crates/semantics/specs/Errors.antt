@@ -9,6 +9,9 @@ use Rattle.characters.specs.Tokens.{numberAt}
 use Rattle.characters.specs.declared.lexemes.Number.{Number}
 use Rattle.book.specs.Book.{Book}
 use Rattle.book.specs.declared.records.Step.{Step}
+use Rattle.semantics.specs.Numbers.{characterWanted, wordWanted, identifierWanted, textEnded, variableFound}
+use Rattle.semantics.specs.Numbers.{reservedFound, unknownName, wrongKind, digitsWanted, tooLarge}
+use Rattle.semantics.specs.Numbers.{nonterminalWanted, moreWanted}
 use Rattle.semantics.specs.Tokens.{identifierEnd, reservedAt, variableAt, isSome, when}
 
 pub record Error : Type 0 where
@@ -23,12 +26,14 @@ error place kind argument = record { place = place; kind = kind; argument = argu
 abbrev pub wins : Error → Error → Bool
 wins a b =
     ltb (b .place) (a .place)
-    || (eqb (a .place) (b .place) && (ltb (a .kind) (b .kind) || (eqb (a .kind) (b .kind) && leb (a .argument) (b .argument))))
+    || (eqb (a .place) (b .place)
+    && (ltb (a .kind) (b .kind) || (eqb (a .kind) (b .kind) && leb (a .argument) (b .argument))))
 
 unfoldable pub join : Error → Error → Error
 join a b = cond (wins a b) a b
 
--- an error that counts only beyond a skipped place: errors stand at skipped places, so "more than skipped text lies between" is just that
+-- an error that counts only beyond a skipped place: errors stand at skipped places, so "more than skipped text lies
+-- between" is just that
 unfoldable pub beyond : ℕ → Error → Option Error
 beyond place e = cond (ltb place (e .place)) (some e) none
 
@@ -37,34 +42,42 @@ joinWith none b = b
 joinWith (some a) none = some a
 joinWith (some a) (some b) = some (join a b)
 
--- "When both sides of a choice fail, errors that consumed nothing since it drop; if none remain, 12 there", with "the variant's nonterminal"
+-- "When both sides of a choice fail, errors that consumed nothing since it drop; if none remain, 12 there", with "the
+-- variant's nonterminal"
 unfoldable pub choiceError : ℕ → ℕ → Error → Error → Error
-choiceError at N a b = elim (beyond at (join a b)) [ some e ↦ e | none ↦ error at 12 N ]
+choiceError at N a b = elim (beyond at (join a b)) [ some e ↦ e | none ↦ error at moreWanted N ]
 
--- what a step gives where it takes nothing: "1 character (its code); 2 word (number); 3 identifier wanted; 4 text ended where step kinds
--- 2 to 5 wanted a token; 5 variable found; 6 reserved word found; 7 unknown name; 8 wrong kind (kind wanted); 9 digits wanted; 10 number too large"
+-- what a step gives where it takes nothing
 module _ (book : Book) (text : List ℕ) where
-  -- an identifier was wanted: the text ended, it is reserved, or none is there; else another kind of error. Kind 2 has no other
+  -- an identifier was wanted: the text ended, it is reserved, or none is there; else another kind of error. Kind 2
+  -- has no other
   unfoldable pub identifierError : ℕ → Error → Error
   identifierError at other =
-      when (eqb at (length text)) (λ _. error at 4 0)
-      (λ _. when (reservedAt book text at) (λ _. error at 6 0) (λ _. elim (identifierEnd text at) [ some end ↦ other | none ↦ error at 3 0 ]))
+      when (eqb at (length text)) (λ _. error at textEnded 0)
+      (λ _. when (reservedAt book text at) (λ _. error at reservedFound 0)
+      (λ _. elim (identifierEnd text at) [ some end ↦ other | none ↦ error at identifierWanted 0 ]))
 
   -- at a skipped place. Kinds 8 to 11 and 13 always take something and are never asked for
   unfoldable pub stepError : Step → ℕ → Error
-  stepError (Step.Character a) at = error at 1 a
-  stepError (Step.Word a) at = error at 2 a
-  stepError Step.Identifier at = identifierError at (error at 3 0)
+  stepError (Step.Character a) at = error at characterWanted a
+  stepError (Step.Word a) at = error at wordWanted a
+  stepError Step.Identifier at = identifierError at (error at identifierWanted 0)
   stepError Step.Number at =
-      when (eqb at (length text)) (λ _. error at 4 0)
-      (λ _. elim (numberAt text at) [ Number.Nothing ↦ error at 9 0 | Number.TooLarge ↦ error at 10 0 | Number.Value value end ↦ error at 10 0 ])
-  stepError Step.Variable at = identifierError at (error at 7 0)
-  stepError (Step.VariableOfKind a) at = identifierError at (when (isSome (variableAt book text at)) (λ _. error at 8 a) (λ _. error at 7 0))
-  stepError Step.RejectVariable at = error at 5 0
-  stepError Step.RejectReserved at = error at 6 0
-  stepError (Step.Nonterminal a) at = error at 11 a
-  stepError (Step.Optional a) at = error at 11 a
-  stepError (Step.Many a) at = error at 11 a
-  stepError (Step.CommaList a) at = error at 11 a
-  stepError (Step.Delimited a b c) at = error at 1 b
-  stepError (Step.OptionalDelimited a b c) at = error at 11 a
+      when (eqb at (length text)) (λ _. error at textEnded 0)
+      (λ _. elim (numberAt text at) [
+        | Number.Nothing ↦ error at digitsWanted 0
+        | Number.TooLarge ↦ error at tooLarge 0
+        | Number.Value value end ↦ error at tooLarge 0
+      ])
+  stepError Step.Variable at = identifierError at (error at unknownName 0)
+  stepError (Step.VariableOfKind a) at =
+      identifierError at
+      (when (isSome (variableAt book text at)) (λ _. error at wrongKind a) (λ _. error at unknownName 0))
+  stepError Step.RejectVariable at = error at variableFound 0
+  stepError Step.RejectReserved at = error at reservedFound 0
+  stepError (Step.Nonterminal a) at = error at nonterminalWanted a
+  stepError (Step.Optional a) at = error at nonterminalWanted a
+  stepError (Step.Many a) at = error at nonterminalWanted a
+  stepError (Step.CommaList a) at = error at nonterminalWanted a
+  stepError (Step.Delimited a b c) at = error at characterWanted b
+  stepError (Step.OptionalDelimited a b c) at = error at nonterminalWanted a

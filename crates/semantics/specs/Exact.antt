@@ -1,15 +1,18 @@
--- Demand 3, what an answer has to do with the book's derivations: the parses listed, each once, are exactly those with a finite derivation; a value is returned exactly when
--- some derivation reaches the end and all that do agree. Parses are alike if they are in rest, level, associativity and value.
+-- Demand 3, what an answer has to do with the book's derivations: the parses listed, each once, are exactly those
+-- with a finite derivation; a value is returned exactly when some derivation reaches the end and all that do agree.
+-- Parses are alike if they are in rest, level, associativity and value.
 use mathlib.Core.Path.{_≡_}
 use mathlib.Core.Bool.{true, false}
 use mathlib.Core.List.{List, [], _∷_}
 use mathlib.Core.Logic.{_↔_}
-use Prim.Native.Nat.{ℕ, _+_, _-_, _*_, _^_, _≤_, _<_}
+use Prim.Native.Nat.{ℕ, _+_, _-_, _*_, _≤_, _<_}
 use lib.ListN.{length, getD, take, drop}
-use Rattle.characters.specs.Classes.{between}
 use Rattle.characters.specs.Spelling.{partOf}
 use Rattle.book.specs.Book.{Book, associativityNumber}
 use Rattle.book.specs.Check.{checkBook, Outcome}
+use Rattle.semantics.specs.Numbers.{mostCells, half, noParse, noneWhole, differentValues, notAccepted, isLimit}
+use Rattle.semantics.specs.Numbers.{emptyForm, chainForm, variantForm, nameForm, numberForm, variableForm}
+use Rattle.semantics.specs.Numbers.{absentForm, listForm}
 use Rattle.semantics.specs.Values.{Tree, Trees, no-trees, _▸_, Parse, whole}
 use Rattle.semantics.specs.Derivations.{DerivesText}
 use Rattle.semantics.specs.Answer.{Answered, answerOf}
@@ -18,36 +21,39 @@ use Rattle.semantics.specs.Answer.{Answered, answerOf}
 -- the numbers of a cell: "three numbers (cell n at 3n - 3, ..), from cell 1"; there is no 4,097th
 pub record CellAt (cells : List ℕ) (n : ℕ) (numbers : List ℕ) : Type 0 where
   pub least : 0 < n
-  pub most : 3 * n ≤ 12288
+  pub most : n ≤ mostCells
   pub are : take 3 (drop (3 * n - 3) cells) ≡ numbers
 
--- The numbers alone say what a cell stands for. A cell refers to cells before it, each of them of the kind that is due, and there are no other forms than these
+-- The numbers alone say what a cell stands for. A cell refers to cells before it, each of the kind that is due, and
+-- there are no other forms than these
 module _ (text cells : List ℕ) where
   mutual
     -- cell n stands for a tree
     pub data StandsFor : ℕ → Tree → Type 0 where
       -- "3 variant (numbered over the book from 0), chain"
-      variant : {n j c : ℕ} {items : Trees} → CellAt cells n (3 ∷ j ∷ c ∷ []) → c < n → StandsForTrees c items → StandsFor n (Tree.variant j items)
+      variant : {n j c items : _} → CellAt cells n (variantForm ∷ j ∷ c ∷ []) →
+          c < n → StandsForTrees c items → StandsFor n (Tree.variant j items)
       -- "4 name place, length": a part of the text, and inside it
-      name : {n place size : ℕ} {spelling : List ℕ} → CellAt cells n (4 ∷ place ∷ size ∷ []) → place + size ≤ length text →
-          spelling ≡ partOf text place size → StandsFor n (Tree.name spelling)
-      -- "5 number high, low half": of 64 bits
-      number : {n high low value : ℕ} → CellAt cells n (5 ∷ high ∷ low ∷ []) → high < 2 ^ 32 → low < 2 ^ 32 →
-          value ≡ high * 2 ^ 32 + low → StandsFor n (Tree.number value)
+      name : {n place size spelling : _} → CellAt cells n (nameForm ∷ place ∷ size ∷ []) →
+          place + size ≤ length text → spelling ≡ partOf text place size → StandsFor n (Tree.name spelling)
+      -- "5 number high, low half": each below 2^32
+      number : {n high low value : _} → CellAt cells n (numberForm ∷ high ∷ low ∷ []) →
+          high < half → low < half → value ≡ high * half + low → StandsFor n (Tree.number value)
       -- "6 name number, kind"
-      variable : {n i kind : ℕ} → CellAt cells n (6 ∷ i ∷ kind ∷ []) → StandsFor n (Tree.variable i kind)
+      variable : {n i kind : _} → CellAt cells n (variableForm ∷ i ∷ kind ∷ []) → StandsFor n (Tree.variable i kind)
       -- "7 absent"
-      absent : {n : ℕ} → CellAt cells n (7 ∷ 0 ∷ 0 ∷ []) → StandsFor n Tree.absent
+      absent : {n : _} → CellAt cells n (absentForm ∷ 0 ∷ 0 ∷ []) → StandsFor n Tree.absent
       -- "8 list, chain"
-      list : {n c : ℕ} {values : Trees} → CellAt cells n (8 ∷ c ∷ 0 ∷ []) → c < n → StandsForTrees c values → StandsFor n (Tree.list values)
+      list : {n c values : _} → CellAt cells n (listForm ∷ c ∷ 0 ∷ []) →
+          c < n → StandsForTrees c values → StandsFor n (Tree.list values)
 
     -- cell n, of a chain, stands for trees
     pub data StandsForTrees : ℕ → Trees → Type 0 where
       -- "1 empty chain"
-      empty : {n : ℕ} → CellAt cells n (1 ∷ 0 ∷ 0 ∷ []) → StandsForTrees n no-trees
+      empty : {n : _} → CellAt cells n (emptyForm ∷ 0 ∷ 0 ∷ []) → StandsForTrees n no-trees
       -- "2 chain, item"
-      chain : {n c item : ℕ} {items : Trees} {t : Tree} → CellAt cells n (2 ∷ c ∷ item ∷ []) → c < n → item < n →
-          StandsForTrees c items → StandsFor item t → StandsForTrees n (items ▸ t)
+      chain : {n c item items t : _} → CellAt cells n (chainForm ∷ c ∷ item ∷ []) →
+          c < n → item < n → StandsForTrees c items → StandsFor item t → StandsForTrees n (items ▸ t)
 
 -- ---- Entries and derivations
 -- entry i of the parses list holds a parse: "rest, level, associativity, cell"
@@ -86,22 +92,27 @@ module _ (book : Book) (text : List ℕ) (start : ℕ) where
 
   pub record Exact (a : Answered) : Type 0 where
     -- "exactly those with a finite derivation"
-    pub derivable : (p : Parse Tree) → DerivesText book text start p ↔ ((i : ℕ) × (i < a .answer .parses) × Entry text a i p)
+    pub derivable : (p : Parse Tree) →
+        DerivesText book text start p ↔ ((i : ℕ) × (i < a .answer .parses) × Entry text a i p)
     -- "each once": a parse stands in one entry, and each entry that counts holds one parse
-    pub once : (p : Parse Tree) (i k : ℕ) → i < a .answer .parses → k < a .answer .parses → Entry text a i p → Entry text a k p → i ≡ k
-    pub each : (i : ℕ) → i < a .answer .parses → (p : Parse Tree) × Entry text a i p × ((q : Parse Tree) → Entry text a i q → q ≡ p)
+    pub once : (p : Parse Tree) (i k : ℕ) → i < a .answer .parses → k < a .answer .parses →
+        Entry text a i p → Entry text a k p → i ≡ k
+    pub each : (i : ℕ) → i < a .answer .parses →
+        (p : Parse Tree) × Entry text a i p × ((q : Parse Tree) → Entry text a i q → q ≡ p)
     -- a value is returned exactly when .., and its cell stands for it
     pub value : a .answer .refusal ≡ 0 ↔ Agree
-    pub value-cell : a .answer .refusal ≡ 0 → (p : Parse Tree) → Reaches book text start p → StandsFor text (a .cells) (a .answer .value) (p .value)
+    pub value-cell : a .answer .refusal ≡ 0 → (p : Parse Tree) → Reaches book text start p →
+        StandsFor text (a .cells) (a .answer .value) (p .value)
     -- the refusals of the end
-    pub no-parse : a .answer .refusal ≡ 30 ↔ NoParse
-    pub none-whole : a .answer .refusal ≡ 31 ↔ NoneWhole
-    pub differ : a .answer .refusal ≡ 32 ↔ Differ
+    pub no-parse : a .answer .refusal ≡ noParse ↔ NoParse
+    pub none-whole : a .answer .refusal ≡ noneWhole ↔ NoneWhole
+    pub differ : a .answer .refusal ≡ differentValues ↔ Differ
 
--- The theorem (Theorem.Found): of every call whose book is accepted, that isn't refused before the run (1 to 11), and that meets no limit (20 to 23), whatever the
--- lent lists held
+-- The theorem (Theorem.Found): of every call whose book is accepted, that isn't refused before the run, and that
+-- meets no limit, whatever the lent lists held
 abbrev pub FoundIsExactlyDerivable : Type 0
-FoundIsExactlyDerivable = (cells parses bytes text : List ℕ) (start allowance : ℕ) (book : Book) → checkBook bytes ≡ Outcome.book book →
-    between 1 11 (answerOf cells parses bytes text start allowance .answer .refusal) ≡ false →
-    between 20 23 (answerOf cells parses bytes text start allowance .answer .refusal) ≡ false →
+FoundIsExactlyDerivable =
+    (cells parses bytes text : List ℕ) (start allowance : ℕ) (book : Book) → checkBook bytes ≡ Outcome.book book →
+    notAccepted (answerOf cells parses bytes text start allowance .answer .refusal) ≡ false →
+    isLimit (answerOf cells parses bytes text start allowance .answer .refusal) ≡ false →
     Exact book text start (answerOf cells parses bytes text start allowance)

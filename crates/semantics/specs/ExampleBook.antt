@@ -4,20 +4,29 @@ use mathlib.Core.List.{List, [], _∷_, _++_}
 use Prim.Native.Nat.{ℕ, _*_}
 use lib.Dec.{eqb}
 use lib.ListN.{getD, take, replicate}
+use Rattle.semantics.specs.Numbers.{cellsSize, parsesSize, mostUnits}
 use Rattle.semantics.specs.Values.{Tree, no-trees, _▸_}
 use Rattle.characters.specs.Classes.{classOf}
 use Rattle.characters.specs.Skipping.{leading, spanEnd, commentAt, commentEnd, roundEnd, rounds, skipFrom}
 use Rattle.characters.specs.Tokens.{identifierAt, decimal, numberOf, numberAt}
 use Rattle.characters.specs.Spelling.{same}
 use Rattle.book.specs.Book.{isReserved, lookupFrom}
-use Rattle.book.specs.Check.{checked, row, spelling, entry, nonterminal, variant, stepOf, step, allPass, ended, whole, checkBook}
+use Rattle.book.specs.Check.{checked, row, spelling, entry, nonterminal, variant, stepOf, step, allPass, ended, whole}
+use Rattle.book.specs.Check.{checkBook}
 use Rattle.semantics.specs.Uses.{outwards, govern, governor}
-use Rattle.semantics.specs.Tokens.{isSome, characterEnd, identifierEnd, reservedAt, freeEnd, variableAt, hasClaimant, when}
+use Rattle.semantics.specs.Tokens.{isSome, characterEnd, identifierEnd, reservedAt, freeEnd, variableAt}
+use Rattle.semantics.specs.Tokens.{hasClaimant, when}
 use Rattle.semantics.specs.Steps.{stepAt, afterElement, closed}
-use Rattle.semantics.specs.Cells.{numbersOf, cellsIn, identityOf, findCell, treeIn, treesIn, meaningOf, meanings, treeAt}
+use Rattle.semantics.specs.Cells.{numbersOf, cellsIn, identityOf, findCell, treeIn, treesIn, meaningOf, meanings}
+use Rattle.semantics.specs.Cells.{treeAt}
 use Rattle.semantics.specs.Errors.{join, beyond, joinWith, choiceError, identifierError, stepError}
-use Rattle.semantics.specs.Run.{_>>=_, sameParse, has, allIn, kept, add, addAll, ask, newest, others, spend, make, itemCell, withCell, withToken, nested, closingOf, begin, complete, counted, variants, oneRun, rounds as roundsRun, failedCall, runCall, named, runIdentifier, reentry, enter, enterChild, either, followMore, follow, followed, plainNext, listNext, chosen, stops, stepUnit, orAbsent, choice, listing, steps, runner, run}
-use Rattle.semantics.specs.Answer.{cellNumbers, parseNumbers, written, wholeValues, allAre, firstHigh, byValues, atEnd, onBook, answerOf, Answered}
+use Rattle.semantics.specs.Run.{_>>=_, sameParse, has, allIn, kept, add, addAll, ask, newest, others, spend, make}
+use Rattle.semantics.specs.Run.{itemCell, withCell, withToken, nested, closingOf, begin, complete, counted}
+use Rattle.semantics.specs.Run.{variants, oneRun, rounds as roundsRun, failedCall, runCall, named, runIdentifier}
+use Rattle.semantics.specs.Run.{reentry, enter, enterChild, either, followMore, follow, followed, plainNext}
+use Rattle.semantics.specs.Run.{listNext, chosen, stops, stepUnit, orAbsent, choice, listing, steps, runner, run}
+use Rattle.semantics.specs.Answer.{cellNumbers, parseNumbers, written, wholeValues, allAre, firstHigh, byValues}
+use Rattle.semantics.specs.Answer.{atEnd, onBook, answerOf, Answered}
 
 -- the example book, with the associativity of its minus
 abbrev pub example : ℕ → List ℕ
@@ -36,14 +45,23 @@ pub data Row : Type 0 where
 abbrev pub rowOf : List ℕ → Answered → Row
 rowOf text r =
     let a = r .answer in
-    when (eqb (a .refusal) 0) (λ _. value (treeAt text (cellsIn (take (3 * a .value) (r .cells))) (a .value)) (a .parses))
+    when (eqb (a .refusal) 0)
+    (λ _. value (treeAt text (cellsIn (take (3 * a .value) (r .cells))) (a .value)) (a .parses))
     (λ _. refused (a .refusal) (a .place) (a .kind) (a .argument))
 
+-- a call from nonterminal 0, with lists of zeros, as short as they may be
+abbrev pub answeredWithin : ℕ → List ℕ → List ℕ → Answered
+answeredWithin allowance book text = answerOf (replicate cellsSize 0) (replicate parsesSize 0) book text 0 allowance
+
+-- "Allowance 1,000,000"
+abbrev pub answered : List ℕ → List ℕ → Answered
+answered book text = answeredWithin mostUnits book text
+
 abbrev pub readsWithin : ℕ → List ℕ → List ℕ → Row
-readsWithin allowance book text = rowOf text (answerOf (replicate 12288 0) (replicate 256 0) book text 0 allowance)
+readsWithin allowance book text = rowOf text (answeredWithin allowance book text)
 
 abbrev pub reads : List ℕ → List ℕ → Row
-reads book text = readsWithin 1000000 book text
+reads book text = rowOf text (answered book text)
 
 abbrev n : ℕ → Tree
 n i = Tree.variant 0 (no-trees ▸ Tree.number i)
@@ -53,6 +71,19 @@ minus a b = Tree.variant 1 (no-trees ▸ a ▸ b)
 
 abbrev times : Tree → Tree → Tree
 times a b = Tree.variant 2 (no-trees ▸ a ▸ b)
+
+-- what the rows compute with: every definition that is shut
+computing : Unit {0}
+unfolding classOf leading spanEnd commentAt commentEnd roundEnd rounds skipFrom identifierAt decimal numberOf numberAt
+    same isReserved lookupFrom checked row spelling entry nonterminal variant stepOf step allPass ended whole
+    checkBook outwards govern governor isSome characterEnd identifierEnd reservedAt freeEnd variableAt stepAt
+    hasClaimant afterElement closed numbersOf cellsIn identityOf findCell treeIn treesIn meaningOf meanings join
+    beyond joinWith choiceError identifierError stepError _>>=_ sameParse has allIn kept add addAll ask newest others
+    spend make itemCell withCell withToken nested closingOf begin complete counted variants oneRun roundsRun
+    failedCall runCall named runIdentifier reentry enter enterChild either followMore follow followed plainNext
+    listNext chosen stops stepUnit orAbsent choice listing steps runner run cellNumbers parseNumbers written
+    wholeValues allAre firstHigh byValues atEnd onBook answerOf
+computing = tt
 
 pub record Rows : Type 0 where
   -- `1-2-3`
@@ -78,20 +109,38 @@ pub record Rows : Type 0 where
   -- `1-2-3`, minus Both
   pub row11 : reads (example 3) (49 ∷ 45 ∷ 50 ∷ 45 ∷ 51 ∷ []) ≡ refused 32 0 0 0
   -- `(18446744073709551616`
-  pub row12 : reads (example 0) (40 ∷ 49 ∷ 56 ∷ 52 ∷ 52 ∷ 54 ∷ 55 ∷ 52 ∷ 52 ∷ 48 ∷ 55 ∷ 51 ∷ 55 ∷ 48 ∷ 57 ∷ 53 ∷ 53 ∷ 49 ∷ 54 ∷ 49 ∷ 54 ∷ []) ≡ refused 30 1 11 0
+  pub row12 :
+      reads (example 0)
+      (40 ∷ 49 ∷ 56 ∷ 52 ∷ 52 ∷ 54 ∷ 55 ∷ 52 ∷ 52 ∷ 48 ∷ 55 ∷ 51 ∷ 55 ∷ 48 ∷ 57 ∷ 53 ∷ 53 ∷ 49 ∷ 54 ∷ 49 ∷ 54 ∷ [])
+      ≡ refused 30 1 11 0
 
 pub rows : Rows
-unfolding classOf leading spanEnd commentAt commentEnd roundEnd rounds skipFrom identifierAt decimal numberOf numberAt same isReserved lookupFrom checked row spelling entry nonterminal variant stepOf step allPass ended whole checkBook outwards govern governor isSome characterEnd identifierEnd reservedAt freeEnd variableAt stepAt hasClaimant afterElement closed numbersOf cellsIn identityOf findCell treeIn treesIn meaningOf meanings join beyond joinWith choiceError identifierError stepError _>>=_ sameParse has allIn kept add addAll ask newest others spend make itemCell withCell withToken nested closingOf begin complete counted variants oneRun roundsRun failedCall runCall named runIdentifier reentry enter enterChild either followMore follow followed plainNext listNext chosen stops stepUnit orAbsent choice listing steps runner run cellNumbers parseNumbers written wholeValues allAre firstHigh byValues atEnd onBook answerOf
-rows = record { row1 = refl; row2 = refl; row3 = refl; row4 = refl; row5 = refl; row6 = refl; row7 = refl; row8 = refl; row9 = refl; row10 = refl; row11 = refl; row12 = refl }
+unfolding computing
+rows = record {
+  row1 = refl;
+  row2 = refl;
+  row3 = refl;
+  row4 = refl;
+  row5 = refl;
+  row6 = refl;
+  row7 = refl;
+  row8 = refl;
+  row9 = refl;
+  row10 = refl;
+  row11 = refl;
+  row12 = refl;
+}
 
 -- ---- "More"
--- one nonterminal with a number and a level-1 Left variant of its own nonterminal, with these flags (3 committed and passing, 1 committed)
+-- one nonterminal with a number and a level-1 Left variant of its own nonterminal, with these flags (3 committed and
+-- passing, 1 committed)
 abbrev pub ownWith : ℕ → List ℕ
 ownWith flags = 0 ∷ 0 ∷ 1 ∷ 0 ∷ 2 ∷ 2 ∷ 255 ∷ 3 ∷ 1 ∷ 1 ∷ 1 ∷ 0 ∷ flags ∷ 1 ∷ 2 ∷ 3 ∷ 0 ∷ 0 ∷ 0 ∷ 8 ∷ 0 ∷ 0 ∷ 0 ∷ []
 
 -- many of an empty variant, then nothing or these steps
 abbrev pub manyEmpty : ℕ → List ℕ → List ℕ
-manyEmpty steps more = 0 ∷ 0 ∷ 2 ∷ 0 ∷ 1 ∷ 0 ∷ 1 ∷ 2 ∷ 255 ∷ 3 ∷ 1 ∷ steps ∷ 255 ∷ 3 ∷ 1 ∷ 0 ∷ steps ∷ 10 ∷ 1 ∷ 0 ∷ 0 ∷ more
+manyEmpty steps more =
+    0 ∷ 0 ∷ 2 ∷ 0 ∷ 1 ∷ 0 ∷ 1 ∷ 2 ∷ 255 ∷ 3 ∷ 1 ∷ steps ∷ 255 ∷ 3 ∷ 1 ∷ 0 ∷ steps ∷ 10 ∷ 1 ∷ 0 ∷ 0 ∷ more
 
 -- one nonterminal with two empty variants
 abbrev pub twoEmpty : List ℕ
@@ -112,31 +161,63 @@ pub record More : Type 0 where
   pub enough : readsWithin 75 (example 0) (49 ∷ 45 ∷ 50 ∷ 42 ∷ 51 ∷ []) ≡ value (minus (n 1) (times (n 2) (n 3))) 3
   pub tooFew : readsWithin 74 (example 0) (49 ∷ 45 ∷ 50 ∷ 42 ∷ 51 ∷ []) ≡ refused 20 0 0 0
   -- the variants run in their order: the first one's cell comes first
-  pub order : take 9 (answerOf (replicate 12288 0) (replicate 256 0) twoEmpty [] 0 1000000 .cells) ≡ 1 ∷ 0 ∷ 0 ∷ 3 ∷ 0 ∷ 1 ∷ 3 ∷ 1 ∷ 1 ∷ []
+  pub order : take 9 (answered twoEmpty [] .cells) ≡ 1 ∷ 0 ∷ 0 ∷ 3 ∷ 0 ∷ 1 ∷ 3 ∷ 1 ∷ 1 ∷ []
 
 pub more : More
-unfolding classOf leading spanEnd commentAt commentEnd roundEnd rounds skipFrom identifierAt decimal numberOf numberAt same isReserved lookupFrom checked row spelling entry nonterminal variant stepOf step allPass ended whole checkBook outwards govern governor isSome characterEnd identifierEnd reservedAt freeEnd variableAt stepAt hasClaimant afterElement closed numbersOf cellsIn identityOf findCell treeIn treesIn meaningOf meanings join beyond joinWith choiceError identifierError stepError _>>=_ sameParse has allIn kept add addAll ask newest others spend make itemCell withCell withToken nested closingOf begin complete counted variants oneRun roundsRun failedCall runCall named runIdentifier reentry enter enterChild either followMore follow followed plainNext listNext chosen stops stepUnit orAbsent choice listing steps runner run cellNumbers parseNumbers written wholeValues allAre firstHigh byValues atEnd onBook answerOf
-more = record { passing = refl; unpassing = refl; lastStep = refl; missingCharacter = refl; longest = refl; tooLong = refl; enough = refl; tooFew = refl; order = refl }
+unfolding computing
+more = record {
+  passing = refl;
+  unpassing = refl;
+  lastStep = refl;
+  missingCharacter = refl;
+  longest = refl;
+  tooLong = refl;
+  enough = refl;
+  tooFew = refl;
+  order = refl;
+}
 
 -- ---- What neither the rows nor derivations and run together show, since these share it
 -- the rests of the parses listed
 abbrev pub restsOf : Answered → List ℕ
 restsOf a = getD (a .parses) 0 0 ∷ getD (a .parses) 4 0 ∷ []
 
-abbrev pub answered : List ℕ → List ℕ → Answered
-answered book text = answerOf (replicate 12288 0) (replicate 256 0) book text 0 1000000
-
 pub record Points : Type 0 where
-  -- "A comma looked for in vain .. still leaves the place skipped": a comma list of identifiers on `a `, and one or none of them
-  pub commaInVain : restsOf (answered (0 ∷ 0 ∷ 2 ∷ 0 ∷ 1 ∷ 2 ∷ 0 ∷ 1 ∷ 255 ∷ 3 ∷ 1 ∷ 1 ∷ 1 ∷ 11 ∷ 1 ∷ 0 ∷ 0 ∷ []) (97 ∷ 32 ∷ [])) ≡ 0 ∷ 2 ∷ []
+  -- "A comma looked for in vain .. still leaves the place skipped": a comma list of identifiers on `a `, and one or
+  -- none of them
+  pub commaInVain :
+      restsOf (answered (0 ∷ 0 ∷ 2 ∷ 0 ∷ 1 ∷ 2 ∷ 0 ∷ 1 ∷ 255 ∷ 3 ∷ 1 ∷ 1 ∷ 1 ∷ 11 ∷ 1 ∷ 0 ∷ 0 ∷ []) (97 ∷ 32 ∷ []))
+      ≡ 0 ∷ 2 ∷ []
   -- "or an optional opening in vain": `-` and kind 13, on `- `
-  pub openingInVain : restsOf (answered (0 ∷ 0 ∷ 1 ∷ 0 ∷ 1 ∷ 1 ∷ 255 ∷ 3 ∷ 1 ∷ 2 ∷ 2 ∷ 0 ∷ 45 ∷ 0 ∷ 0 ∷ 13 ∷ 0 ∷ 40 ∷ 41 ∷ []) (45 ∷ 32 ∷ [])) ≡ 2 ∷ 0 ∷ []
+  pub openingInVain :
+      restsOf
+      (answered (0 ∷ 0 ∷ 1 ∷ 0 ∷ 1 ∷ 1 ∷ 255 ∷ 3 ∷ 1 ∷ 2 ∷ 2 ∷ 0 ∷ 45 ∷ 0 ∷ 0 ∷ 13 ∷ 0 ∷ 40 ∷ 41 ∷ []) (45 ∷ 32 ∷ []))
+      ≡ 2 ∷ 0 ∷ []
   -- "2, 4, 5 and a mark-2 use refuse a reserved word": the variable `a`, which is a reserved word too
-  pub reservedVariable : reads (1 ∷ 1 ∷ 1 ∷ 97 ∷ 1 ∷ 0 ∷ 1 ∷ 97 ∷ 1 ∷ 0 ∷ 1 ∷ 1 ∷ 255 ∷ 3 ∷ 1 ∷ 1 ∷ 1 ∷ 4 ∷ 0 ∷ 0 ∷ 0 ∷ []) (97 ∷ []) ≡ refused 30 0 11 0
+  pub reservedVariable :
+      reads
+      (1 ∷ 1 ∷ 1 ∷ 97 ∷ 1 ∷ 0 ∷ 1 ∷ 97 ∷ 1 ∷ 0 ∷ 1 ∷ 1 ∷ 255 ∷ 3 ∷ 1 ∷ 1 ∷ 1 ∷ 4 ∷ 0 ∷ 0 ∷ 0 ∷ []) (97 ∷ [])
+      ≡ refused 30 0 11 0
   -- "The furthest place wins, then least kind, then least argument": after `-`, 34 or 33; a number or 33
-  pub leastArgument : reads (0 ∷ 0 ∷ 1 ∷ 0 ∷ 2 ∷ 2 ∷ 255 ∷ 3 ∷ 1 ∷ 2 ∷ 255 ∷ 3 ∷ 1 ∷ 2 ∷ 4 ∷ 0 ∷ 45 ∷ 0 ∷ 0 ∷ 0 ∷ 34 ∷ 0 ∷ 0 ∷ 0 ∷ 45 ∷ 0 ∷ 0 ∷ 0 ∷ 33 ∷ 0 ∷ 0 ∷ []) (45 ∷ []) ≡ refused 30 1 1 33
-  pub leastKind : reads (0 ∷ 0 ∷ 1 ∷ 0 ∷ 2 ∷ 2 ∷ 255 ∷ 3 ∷ 1 ∷ 2 ∷ 255 ∷ 3 ∷ 1 ∷ 2 ∷ 4 ∷ 0 ∷ 45 ∷ 0 ∷ 0 ∷ 3 ∷ 0 ∷ 0 ∷ 0 ∷ 0 ∷ 45 ∷ 0 ∷ 0 ∷ 0 ∷ 33 ∷ 0 ∷ 0 ∷ []) (45 ∷ 120 ∷ []) ≡ refused 30 1 1 33
+  pub leastArgument :
+      reads
+      (0 ∷ 0 ∷ 1 ∷ 0 ∷ 2 ∷ 2 ∷ 255 ∷ 3 ∷ 1 ∷ 2 ∷ 255 ∷ 3 ∷ 1 ∷ 2 ∷ 4
+      ∷ 0 ∷ 45 ∷ 0 ∷ 0 ∷ 0 ∷ 34 ∷ 0 ∷ 0 ∷ 0 ∷ 45 ∷ 0 ∷ 0 ∷ 0 ∷ 33 ∷ 0 ∷ 0 ∷ [])
+      (45 ∷ [])
+      ≡ refused 30 1 1 33
+  pub leastKind :
+      reads
+      (0 ∷ 0 ∷ 1 ∷ 0 ∷ 2 ∷ 2 ∷ 255 ∷ 3 ∷ 1 ∷ 2 ∷ 255 ∷ 3 ∷ 1 ∷ 2 ∷ 4
+      ∷ 0 ∷ 45 ∷ 0 ∷ 0 ∷ 3 ∷ 0 ∷ 0 ∷ 0 ∷ 0 ∷ 45 ∷ 0 ∷ 0 ∷ 0 ∷ 33 ∷ 0 ∷ 0 ∷ [])
+      (45 ∷ 120 ∷ [])
+      ≡ refused 30 1 1 33
 
 pub points : Points
-unfolding classOf leading spanEnd commentAt commentEnd roundEnd rounds skipFrom identifierAt decimal numberOf numberAt same isReserved lookupFrom checked row spelling entry nonterminal variant stepOf step allPass ended whole checkBook outwards govern governor isSome characterEnd identifierEnd reservedAt freeEnd variableAt stepAt hasClaimant afterElement closed numbersOf cellsIn identityOf findCell treeIn treesIn meaningOf meanings join beyond joinWith choiceError identifierError stepError _>>=_ sameParse has allIn kept add addAll ask newest others spend make itemCell withCell withToken nested closingOf begin complete counted variants oneRun roundsRun failedCall runCall named runIdentifier reentry enter enterChild either followMore follow followed plainNext listNext chosen stops stepUnit orAbsent choice listing steps runner run cellNumbers parseNumbers written wholeValues allAre firstHigh byValues atEnd onBook answerOf
-points = record { commaInVain = refl; openingInVain = refl; reservedVariable = refl; leastArgument = refl; leastKind = refl }
+unfolding computing
+points = record {
+  commaInVain = refl;
+  openingInVain = refl;
+  reservedVariable = refl;
+  leastArgument = refl;
+  leastKind = refl;
+}

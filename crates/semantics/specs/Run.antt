@@ -2,7 +2,7 @@
 use mathlib.Core.Bool.{Bool, true, false, cond, _&&_}
 use mathlib.Core.List.{List, [], _∷_, _++_}
 use mathlib.Core.Option.{Option, none, some}
-use Prim.Native.Nat.{ℕ, zero, suc, _-_, _/_, _%_, _^_}
+use Prim.Native.Nat.{ℕ, zero, suc, _-_, _/_, _%_}
 use lib.Dec.{leb, ltb, eqb}
 use lib.ListN.{length, getD}
 use Rattle.characters.specs.Classes.{between}
@@ -10,10 +10,14 @@ use Rattle.characters.specs.Skipping.{skipFrom}
 use Rattle.book.specs.Book.{Book, nthNonterminal, nthVariant, associativityNumber, stepNumber}
 use Rattle.book.specs.declared.records.Associativity.{Associativity}
 use Rattle.book.specs.declared.records.Step.{Step}
+use Rattle.semantics.specs.Numbers.{mostNesting, mostParses, mostRounds, mostCells, half, defaultLevel}
+use Rattle.semantics.specs.Numbers.{noUnit, tooDeep, tooManyParses, tooManyCells, characterWanted}
+use Rattle.semantics.specs.Numbers.{nonterminalWanted}
 use Rattle.semantics.specs.Values.{Parse}
 use Rattle.semantics.specs.Uses.{Use, Path, base, useOf, hasMark, minimum, same-start, governor, keeps}
 use Rattle.semantics.specs.Tokens.{when, freeEnd, claimed}
-use Rattle.semantics.specs.Steps.{Item, Taken, stepAt, goes, halts, afterElement, closed, Todo, taking, elements, ending, todoOf}
+use Rattle.semantics.specs.Steps.{Item, Taken, stepAt, goes, halts, afterElement, closed, Todo, taking, elements}
+use Rattle.semantics.specs.Steps.{ending, todoOf}
 use Rattle.semantics.specs.Cells.{Cell, findCell}
 use Rattle.semantics.specs.Errors.{Error, error, join, joinWith, beyond, choiceError, stepError}
 
@@ -33,8 +37,9 @@ pub record State : Type 0 where
   pub cells : List Cell
   pub asked : List Bool
 
--- what a run gives: a set of parses; an error that is handed on, if any; and the state after it. A call, choice or step that yields a parse hands on no
--- error, and one that fails always has one; the variants of a call together may fail with none, and the call then has its own
+-- what a run gives: a set of parses; an error that is handed on, if any; and the state after it. A call, choice or
+-- step that yields a parse hands on no error, and one that fails always has one; the variants of a call together may
+-- fail with none, and the call then has its own
 pub record Parsed : Type 0 where
   pub set : List (Parse ℕ)
   pub failure : Option Error
@@ -60,13 +65,15 @@ pub record Call : Type 0 where
   pub mine : List (Parse ℕ)
 
 abbrev pub call : Path → List (List (Parse ℕ)) → ℕ → ℕ → List (Parse ℕ) → Call
-call path stored nonterminal start mine = record { path = path; stored = stored; nonterminal = nonterminal; start = start; mine = mine }
+call path stored nonterminal start mine =
+    record { path = path; stored = stored; nonterminal = nonterminal; start = start; mine = mine }
 
 -- its stored parses are set to all found
 abbrev pub withMine : Call → List (Parse ℕ) → Call
 withMine c all = call (c .path) (c .stored) (c .nonterminal) (c .start) all
 
--- runs what is left of a variant: of a call, a variant's number, what is left to do, a place, the items so far and the set so far
+-- runs what is left of a variant: of a call, a variant's number, what is left to do, a place, the items so far and
+-- the set so far
 abbrev pub Runner : Type 0
 Runner = Call → ℕ → List (Todo ℕ) → ℕ → ℕ → List (Parse ℕ) → State → Result Parsed
 
@@ -82,7 +89,9 @@ Next = Parse ℕ → State → Runner → List (Parse ℕ) → Result Parsed
 unfoldable pub sameParse : Parse ℕ → Parse ℕ → Bool
 sameParse p q =
     eqb (p .rest) (q .rest)
-    && (eqb (p .level) (q .level) && (eqb (associativityNumber (p .associativity)) (associativityNumber (q .associativity)) && eqb (p .value) (q .value)))
+    && (eqb (p .level) (q .level)
+    && (eqb (associativityNumber (p .associativity)) (associativityNumber (q .associativity))
+    && eqb (p .value) (q .value)))
 
 unfoldable pub has : List (Parse ℕ) → Parse ℕ → Bool
 has [] p = false
@@ -96,9 +105,11 @@ unfoldable pub kept : Use → List (Parse ℕ) → List (Parse ℕ)
 kept f [] = []
 kept f (p ∷ ps) = cond (keeps f p) (p ∷ kept f ps) (kept f ps)
 
--- 22, "a 65th different parse in any set"
+-- "a 65th different parse in any set" is a limit
 unfoldable pub add : State → List (Parse ℕ) → Parse ℕ → Result (List (Parse ℕ))
-add s set p = when (has set p) (λ _. ok set) (λ _. when (ltb (length set) 64) (λ _. ok (set ++ (p ∷ []))) (λ _. met 22 (s .units)))
+add s set p =
+    when (has set p) (λ _. ok set)
+    (λ _. when (ltb (length set) mostParses) (λ _. ok (set ++ (p ∷ []))) (λ _. met tooManyParses (s .units)))
 
 unfoldable pub addAll : State → List (Parse ℕ) → List (Parse ℕ) → Result (List (Parse ℕ))
 addAll s set [] = ok set
@@ -123,30 +134,36 @@ abbrev pub withAsked : State → List Bool → State
 withAsked s asked = record { units = s .units; cells = s .cells; asked = asked }
 
 -- ---- Work and cells
--- 20, "a unit beyond the allowance": none is left
-unfoldable pub spend : State → Result State
-spend s = when (ltb 0 (s .units)) (λ _. ok (record { units = s .units - 1; cells = s .cells; asked = s .asked })) (λ _. met 20 0)
+abbrev pub withCells : State → List Cell → State
+withCells s cells = record { units = s .units; cells = cells; asked = s .asked }
 
--- 23, "a 4,097th cell"
+-- "a unit beyond the allowance": none is left
+unfoldable pub spend : State → Result State
+spend s =
+    when (ltb 0 (s .units))
+    (λ _. ok (record { units = s .units - 1; cells = s .cells; asked = s .asked }))
+    (λ _. met noUnit 0)
+
+-- "a 4,097th cell" is a limit
 unfoldable pub make : List ℕ → Cell → State → Result Made
 make text c s =
     let i = findCell text c 1 (s .cells) in
     when (eqb i 0)
     (λ _.
-    when (ltb (length (s .cells)) 4096)
-    (λ _. ok (made (suc (length (s .cells))) (record { units = s .units; cells = s .cells ++ (c ∷ []); asked = s .asked })))
-    (λ _. met 23 (s .units)))
+    when (ltb (length (s .cells)) mostCells)
+    (λ _. ok (made (suc (length (s .cells))) (withCells s (s .cells ++ (c ∷ [])))))
+    (λ _. met tooManyCells (s .units)))
     (λ _. ok (made i s))
 
 unfoldable pub itemCell : Item → Cell
 itemCell (Item.name place size) = Cell.name place size
-itemCell (Item.number n) = Cell.number (n / 2 ^ 32) (n % 2 ^ 32)
+itemCell (Item.number n) = Cell.number (n / half) (n % half)
 itemCell (Item.variable i kind) = Cell.variable i kind
 
 -- ---- Errors
 -- "With none, a call gives 11 at its start"
 unfoldable pub failedCall : Call → Option Error → Error
-failedCall c none = error (c .start) 11 (c .nonterminal)
+failedCall c none = error (c .start) nonterminalWanted (c .nonterminal)
 failedCall c (some e) = e
 
 -- "A call, choice or step that yields a parse hands on no error"
@@ -158,7 +175,11 @@ either (some a) (some b) = some (join a b)
 -- both sides of a choice at a place
 unfoldable pub chosen : Call → ℕ → Option Error → Parsed → Parsed
 chosen c at none b = parsed (b .set) none (b .state)
-chosen c at (some a) b = elim (b .failure) [ none ↦ b | some e ↦ parsed (b .set) (some (choiceError at (c .nonterminal) a e)) (b .state) ]
+chosen c at (some a) b =
+    elim (b .failure) [
+      | none ↦ b
+      | some e ↦ parsed (b .set) (some (choiceError at (c .nonterminal) a e)) (b .state)
+    ]
 
 -- the closing that is missing; a list without one is never asked for it
 unfoldable pub closingOf : Option ℕ → ℕ
@@ -167,22 +188,30 @@ closingOf (some c) = c
 
 module _ (book : Book) (text : List ℕ) where
   -- ---- A variant's cells
-  -- "1 empty chain (made as a variant begins)"; "Passing variants make no cell and keep the child's value": the items of a passing variant are its value itself
+  -- "1 empty chain (made as a variant begins)"; "Passing variants make no cell and keep the child's value": the items
+  -- of a passing variant are its value itself
   unfoldable pub begin : ℕ → State → Result Made
   begin j s = when (nthVariant book j .passing) (λ _. ok (made 0 s)) (λ _. make text Cell.empty s)
 
   unfoldable pub withCell : ℕ → ℕ → ℕ → State → Result Made
-  withCell j items item s = when (nthVariant book j .passing) (λ _. ok (made item s)) (λ _. make text (Cell.chain items item) s)
+  withCell j items item s =
+      when (nthVariant book j .passing) (λ _. ok (made item s)) (λ _. make text (Cell.chain items item) s)
 
   unfoldable pub withToken : ℕ → ℕ → Option Item → State → Result Made
   withToken j items none s = ok (made items s)
   withToken j items (some item) s = make text (itemCell item) s >>= (λ m. withCell j items (m .cell) (m .state))
 
+  -- "the parse is (rest, level, associativity, value)"
+  abbrev pub parseBy : ℕ → ℕ → ℕ → Parse ℕ
+  parseBy j rest cell =
+      let v = nthVariant book j in
+      record { rest = rest; level = v .level; associativity = v .associativity; value = cell }
+
   -- the variant's own; its parse joins the set
   unfoldable pub complete : ℕ → ℕ → ℕ → List (Parse ℕ) → State → Result Parsed
   complete j x items set s = do
     m ← when (nthVariant book j .passing) (λ _. ok (made items s)) (λ _. make text (Cell.variant j items) s)
-    more ← add (m .state) set (record { rest = x; level = nthVariant book j .level; associativity = nthVariant book j .associativity; value = m .cell })
+    more ← add (m .state) set (parseBy j x (m .cell))
     ok (parsed more none (m .state))
 
   -- ---- "A call runs its variants"
@@ -206,10 +235,11 @@ module _ (book : Book) (text : List ℕ) where
   unfoldable pub oneRun : Runner → Call → ℕ → State → Result Parsed
   oneRun run c m s = let nt = nthNonterminal book (c .nonterminal) in variants run c m (nt .count) (nt .first) [] none s
 
-  -- "they are set to all found, and it is run again until a run fails or adds nothing"; a run that fails has no parse to add. Each run but the last adds
-  -- one, and a 65th meets 22, so that 65 runs are always enough (RoundLaws); what stands for "no run left" is never asked for
+  -- "they are set to all found, and it is run again until a run fails or adds nothing"; a run that fails has no parse
+  -- to add. Each run but the last adds one, and a 65th is a limit, so that 65 runs are always enough (RoundLaws);
+  -- what stands for "no run left" is never asked for
   unfoldable pub rounds : ℕ → Runner → Call → ℕ → State → Result Parsed
-  rounds zero run c m s = met 22 (s .units)
+  rounds zero run c m s = met tooManyParses (s .units)
   rounds (suc n) run c m s = do
     r ← oneRun run c m s
     when (allIn (c .mine) (r .set)) (λ _. ok (parsed (c .mine) none (r .state)))
@@ -223,24 +253,30 @@ module _ (book : Book) (text : List ℕ) where
     elim (r .set) [
       | [] ↦ ok (parsed [] (some (failedCall c (r .failure))) (r .state))
       | p ∷ ps ↦ when (newest (r .state .asked))
-          (λ _. rounds 65 run (withMine c (r .set)) m (r .state))
+          (λ _. rounds mostRounds run (withMine c (r .set)) m (r .state))
           (λ _. ok (parsed (r .set) none (r .state)))
     ]
 
-  -- "`identifier_nonterminal`": level 255, Both
+  -- "`identifier_nonterminal`", of "level 255 Both"
+  abbrev pub identifierParse : ℕ → ℕ → Parse ℕ
+  identifierParse end cell =
+      record { rest = end; level = defaultLevel; associativity = Associativity.Both; value = cell }
+
   unfoldable pub named : Call → State → Option ℕ → Result Parsed
   named c s none = ok (parsed [] (some (failedCall c none)) s)
   named c s (some end) = do
     m ← make text (Cell.name (c .start) (end - c .start)) s
-    ok (parsed (record { rest = end; level = 255; associativity = Associativity.Both; value = m .cell } ∷ []) none (m .state))
+    ok (parsed (identifierParse end (m .cell) ∷ []) none (m .state))
 
   unfoldable pub runIdentifier : Call → State → Result Parsed
-  runIdentifier c s = named c s (when (claimed book text (c .path) base (c .start)) (λ _. none) (λ _. freeEnd book text (c .start)))
+  runIdentifier c s =
+      named c s (when (claimed book text (c .path) base (c .start)) (λ _. none) (λ _. freeEnd book text (c .start)))
 
   -- ---- What follows a parse
   -- the item is added, and the steps go on
   unfoldable pub plainNext : Call → ℕ → List (Todo ℕ) → ℕ → Next
-  plainNext c j rest items q s run set = withCell j items (q .value) s >>= (λ m. run c j rest (q .rest) (m .cell) set (m .state))
+  plainNext c j rest items q s run set =
+      withCell j items (q .value) s >>= (λ m. run c j rest (q .rest) (m .cell) set (m .state))
 
   -- the element is added, and the list goes on or ends
   unfoldable pub listNext : Call → ℕ → Bool → ℕ → ℕ → Option ℕ → List (Todo ℕ) → ℕ → Next
@@ -256,14 +292,14 @@ module _ (book : Book) (text : List ℕ) where
   stops j values close go x items set s = do
     l ← make text (Cell.list values) s
     elim (closed text close x) [
-      | none ↦ ok (parsed set (some (error (skipFrom text x) 1 (closingOf close))) (l .state))
+      | none ↦ ok (parsed set (some (error (skipFrom text x) characterWanted (closingOf close))) (l .state))
       | some y ↦ withCell j items (l .cell) (l .state) >>= (λ m. go y (m .cell) set (m .state))
     ]
 
--- ---- One level of nesting. `inner` runs a variant one level further in; none is 21, "nesting beyond 200"
+-- ---- One level of nesting. `inner` runs a variant one level further in; none is a limit, "nesting beyond 200"
 module _ (book : Book) (text : List ℕ) (inner : Option Runner) where
   unfoldable pub nested : State → (Runner → Result Parsed) → Result Parsed
-  nested s f = elim inner [ some run ↦ f run | none ↦ met 21 (s .units) ]
+  nested s f = elim inner [ some run ↦ f run | none ↦ met tooDeep (s .units) ]
 
   -- "Re-entry at its start gives its stored parses, filtered; none is a failure"
   unfoldable pub reentry : List (Parse ℕ) → Error → State → Parsed
@@ -275,7 +311,8 @@ module _ (book : Book) (text : List ℕ) (inner : Option Runner) where
   enter path sets N u s₀ = do
     s ← spend s₀
     elim (governor path base N u) [
-      | same-start i f around ↦ ok (reentry (kept f (getD sets i [])) (error u 11 N) (withAsked s (ask i (s .asked))))
+      | same-start i f around ↦
+          ok (reentry (kept f (getD sets i [])) (error u nonterminalWanted N) (withAsked s (ask i (s .asked))))
       | minimum m ↦ nested s (λ run.
           let c = call path sets N u [] in
           when (hasMark book 2 N) (λ _. runIdentifier book text c s)
@@ -287,21 +324,27 @@ module _ (book : Book) (text : List ℕ) (inner : Option Runner) where
   -- ---- "a variant runs its steps; a step calls a nonterminal again"
   -- the call of a child at a place
   unfoldable pub enterChild : Call → ℕ → ℕ → ℕ → State → Result Parsed
-  enterChild c j M x s = let at = skipFrom text x in enter (useOf book (c .nonterminal) (c .start) j at ∷ c .path) (c .mine ∷ c .stored) M at s
+  enterChild c j M x s =
+      let at = skipFrom text x in
+      enter (useOf book (c .nonterminal) (c .start) j at ∷ c .path) (c .mine ∷ c .stored) M at s
 
   -- what follows each parse of a child, one level further in; of the errors so far, if all failed, one is handed on
   unfoldable pub followMore : Next → List (Parse ℕ) → List (Parse ℕ) → Option Error → State → Result Parsed
   followMore next [] set failure s = ok (parsed set failure s)
-  followMore next (q ∷ qs) set failure s = nested s (λ run. next q s run set) >>= (λ a. followMore next qs (a .set) (either failure (a .failure)) (a .state))
+  followMore next (q ∷ qs) set failure s =
+      nested s (λ run. next q s run set)
+      >>= (λ a. followMore next qs (a .set) (either failure (a .failure)) (a .state))
 
   -- a call without a parse fails, so that the list is never empty here
   unfoldable pub follow : Next → List (Parse ℕ) → List (Parse ℕ) → State → Result Parsed
   follow next [] set s = ok (parsed set none s)
-  follow next (q ∷ qs) set s = nested s (λ run. next q s run set) >>= (λ a. followMore next qs (a .set) (a .failure) (a .state))
+  follow next (q ∷ qs) set s =
+      nested s (λ run. next q s run set) >>= (λ a. followMore next qs (a .set) (a .failure) (a .state))
 
   -- the parses of a child are followed, if there are any
   unfoldable pub followed : Next → List (Parse ℕ) → Parsed → Result Parsed
-  followed next set r = elim (r .failure) [ some e ↦ ok (parsed set (some e) (r .state)) | none ↦ follow next (r .set) set (r .state) ]
+  followed next set r =
+      elim (r .failure) [ some e ↦ ok (parsed set (some e) (r .state)) | none ↦ follow next (r .set) set (r .state) ]
 
   -- "one per step"; "for 10 and 11 the choices replace the step's unit"
   unfoldable pub stepUnit : Step → State → Result State
@@ -328,21 +371,25 @@ module _ (book : Book) (text : List ℕ) (inner : Option Runner) where
 
   -- a list from its beginning; the empty chain is there since the variant began
   unfoldable pub listing : Call → ℕ → Bool → ℕ → Option ℕ → List (Todo ℕ) → Go → Go
-  listing c j comma M close rest go x items set s = make text Cell.empty s >>= (λ e. choice c j comma M (e .cell) close rest go x items set (e .state))
+  listing c j comma M close rest go x items set s =
+      make text Cell.empty s >>= (λ e. choice c j comma M (e .cell) close rest go x items set (e .state))
 
   unfoldable pub steps : Runner
   steps c j [] x items set s = complete book text j x items set s
-  steps c j (elements comma M values close ∷ rest) x items set s = choice c j comma M values close rest (steps c j rest) x items set s
+  steps c j (elements comma M values close ∷ rest) x items set s =
+      choice c j comma M values close rest (steps c j rest) x items set s
   steps c j (ending values close ∷ rest) x items set s = stops book text j values close (steps c j rest) x items set s
   steps c j (taking step ∷ rest) x items set s₀ = do
     s ← stepUnit step s₀
     elim (stepAt book text step x) [
       | Taken.nothing ↦ ok (parsed set (some (stepError book text step (skipFrom text x))) s)
-      | Taken.token t ↦ withToken book text j items (t .item) s >>= (λ m. steps c j rest (t .next) (m .cell) set (m .state))
+      | Taken.token t ↦
+          withToken book text j items (t .item) s >>= (λ m. steps c j rest (t .next) (m .cell) set (m .state))
       | Taken.child M ↦ enterChild c j M x s >>= (λ r. followed (plainNext book text c j rest items) set r)
       | Taken.optional M ↦ orAbsent c j M rest (steps c j rest) x items set s
       | Taken.list comma M close y ↦ listing c j comma M close rest (steps c j rest) y items set s
-      | Taken.unopened y ↦ make text Cell.empty s >>= (λ e. stops book text j (e .cell) none (steps c j rest) y items set (e .state))
+      | Taken.unopened y ↦
+          make text Cell.empty s >>= (λ e. stops book text j (e .cell) none (steps c j rest) y items set (e .state))
     ]
 
 module _ (book : Book) (text : List ℕ) where
@@ -351,6 +398,8 @@ module _ (book : Book) (text : List ℕ) where
   runner zero = none
   runner (suc n) = some (steps book text (runner n))
 
-  -- the run of a text with so many units: 200 levels
+  -- the run of a text with so many units
   unfoldable pub run : ℕ → ℕ → Result Parsed
-  run units start = enter book text (runner 200) [] [] start (skipFrom text 0) (record { units = units; cells = []; asked = [] })
+  run units start =
+      enter book text (runner mostNesting) [] [] start (skipFrom text 0)
+      (record { units = units; cells = []; asked = [] })

@@ -1,4 +1,5 @@
--- Document 01, "The book" and "Derivations": the steps of a variant, what each takes at a place, and what is left to do of them.
+-- Document 01, "The book" and "Derivations": the steps of a variant, what each takes at a place, and what is left to
+-- do of them.
 use mathlib.Core.Bool.{Bool, true, false}
 use mathlib.Core.List.{List, map}
 use mathlib.Core.Option.{Option, none, some}
@@ -12,9 +13,11 @@ use Rattle.characters.specs.declared.lexemes.Number.{Number}
 use Rattle.book.specs.Book.{Book, nthEntry}
 use Rattle.book.specs.declared.records.Step.{Step}
 use Rattle.book.specs.declared.records.Variant.{Variant}
-use Rattle.semantics.specs.Tokens.{Variable, when, characterEnd, identifierEnd, spelled, reservedAt, freeEnd, variableAt}
+use Rattle.semantics.specs.Tokens.{Variable, when, characterEnd, identifierEnd, spelled, reservedAt, freeEnd}
+use Rattle.semantics.specs.Tokens.{variableAt}
 
--- what a token adds: an identifier by the place and length of its spelling, a number, a variable by its name's number and kind
+-- what a token adds: an identifier by the place and length of its spelling, a number, a variable by its name's number
+-- and kind
 pub data Item : Type 0 where
   name : ℕ → ℕ → Item
   number : ℕ → Item
@@ -44,30 +47,46 @@ read next item = token (record { next = next; item = item })
 abbrev pub readVariable : Variable → Taken
 readVariable v = read (v .end) (some (variable (v .number) (v .kind)))
 
--- "Every token skips first; what follows it is unskipped"; "Kinds 2 to 5 .. add one item, others none; 6 and 7 don't move the place"
+-- "Every token skips first; what follows it is unskipped"; "Kinds 2 to 5 .. add one item, others none; 6 and 7 don't
+-- move the place"
 unfoldable pub stepAt : Book → List ℕ → Step → ℕ → Taken
 stepAt book text (Step.Character a) x = elim (characterEnd text a x) [ some end ↦ read end none | none ↦ nothing ]
 stepAt book text (Step.Word a) x =
     let at = skipFrom text x in
     elim (identifierEnd text at) [
-      | some end ↦ when (same (spelled text at end) (nthEntry (book .words) a .spelling)) (λ _. read end none) (λ _. nothing)
+      | some end ↦ when (same (spelled text at end) (nthEntry (book .words) a .spelling))
+          (λ _. read end none) (λ _. nothing)
       | none ↦ nothing
     ]
-stepAt book text Step.Identifier x = let at = skipFrom text x in elim (freeEnd book text at) [ some end ↦ read end (some (name at (end - at))) | none ↦ nothing ]
+stepAt book text Step.Identifier x =
+    let at = skipFrom text x in
+    elim (freeEnd book text at) [ some end ↦ read end (some (name at (end - at))) | none ↦ nothing ]
 stepAt book text Step.Number x =
-    elim (numberAt text (skipFrom text x)) [ Number.Value value end ↦ read end (some (number value)) | Number.TooLarge ↦ nothing | Number.Nothing ↦ nothing ]
-stepAt book text Step.Variable x = elim (variableAt book text (skipFrom text x)) [ some v ↦ readVariable v | none ↦ nothing ]
+    elim (numberAt text (skipFrom text x)) [
+      | Number.Value value end ↦ read end (some (number value))
+      | Number.TooLarge ↦ nothing
+      | Number.Nothing ↦ nothing
+    ]
+stepAt book text Step.Variable x =
+    elim (variableAt book text (skipFrom text x)) [ some v ↦ readVariable v | none ↦ nothing ]
 stepAt book text (Step.VariableOfKind a) x =
-    elim (variableAt book text (skipFrom text x)) [ some v ↦ when (eqb (v .kind) a) (λ _. readVariable v) (λ _. nothing) | none ↦ nothing ]
-stepAt book text Step.RejectVariable x = elim (variableAt book text (skipFrom text x)) [ some v ↦ nothing | none ↦ read x none ]
+    elim (variableAt book text (skipFrom text x)) [
+      | some v ↦ when (eqb (v .kind) a) (λ _. readVariable v) (λ _. nothing)
+      | none ↦ nothing
+    ]
+stepAt book text Step.RejectVariable x =
+    elim (variableAt book text (skipFrom text x)) [ some v ↦ nothing | none ↦ read x none ]
 stepAt book text Step.RejectReserved x = when (reservedAt book text (skipFrom text x)) (λ _. nothing) (λ _. read x none)
 stepAt book text (Step.Nonterminal M) x = child M
 stepAt book text (Step.Optional M) x = optional M
 stepAt book text (Step.Many M) x = list false M none x
 stepAt book text (Step.CommaList M) x = list true M none x
-stepAt book text (Step.Delimited M b c) x = elim (characterEnd text b x) [ some y ↦ list true M (some c) y | none ↦ nothing ]
--- "If .. an optional opening is there it must be taken; without its opening kind 13 is the empty list"; "an optional opening in vain, still leaves the place skipped"
-stepAt book text (Step.OptionalDelimited M b c) x = elim (characterEnd text b x) [ some y ↦ list true M (some c) y | none ↦ unopened (skipFrom text x) ]
+stepAt book text (Step.Delimited M b c) x =
+    elim (characterEnd text b x) [ some y ↦ list true M (some c) y | none ↦ nothing ]
+-- "If .. an optional opening is there it must be taken; without its opening kind 13 is the empty list"; "an optional
+-- opening in vain, still leaves the place skipped"
+stepAt book text (Step.OptionalDelimited M b c) x =
+    elim (characterEnd text b x) [ some y ↦ list true M (some c) y | none ↦ unopened (skipFrom text x) ]
 
 -- ---- Lists
 -- after an element the list goes on at a place, or halts there
@@ -75,11 +94,12 @@ pub data After : Type 0 where
   goes halts : ℕ → After
 
 module _ (text : List ℕ) where
-  -- "A comma list is stop, or one followed by stop or, after a comma, by the list again. A comma looked for in vain .. still leaves the place
-  -- skipped. If a comma .. is there it must be taken"; many has no comma. 44 is the comma
+  -- "A comma list is stop, or one followed by stop or, after a comma, by the list again. A comma looked for in vain ..
+  -- still leaves the place skipped. If a comma .. is there it must be taken"; many has no comma. 44 is the comma
   unfoldable pub afterElement : Bool → ℕ → After
   afterElement false place = goes place
-  afterElement true place = elim (characterEnd text 44 place) [ some end ↦ goes end | none ↦ halts (skipFrom text place) ]
+  afterElement true place =
+      elim (characterEnd text 44 place) [ some end ↦ goes end | none ↦ halts (skipFrom text place) ]
 
   -- behind a list: the closing of a delimited one, or nothing
   unfoldable pub closed : Option ℕ → ℕ → Option ℕ
@@ -87,7 +107,8 @@ module _ (text : List ℕ) where
   closed (some c) place = characterEnd text c place
 
 -- ---- What is left to do
--- a step; the elements of a list, with or without commas, of a nonterminal, after those already read, up to a closing; or the end of such a list
+-- a step; the elements of a list, with or without commas, of a nonterminal, after those already read, up to a
+-- closing; or the end of such a list
 pub data Todo (Values : Type 0) : Type 0 where
   taking : Step → Todo Values
   elements : Bool → ℕ → Values → Option ℕ → Todo Values

@@ -1,10 +1,11 @@
--- Found is derivable: `Exact` of every answer that isn't refused before the run and meets no limit. The proof, file by file:
+-- Found is derivable: `Exact` of every answer that isn't refused before the run and meets no limit. The proof, file by
+-- file:
 --
 -- the run as a relation over trees, without work, nesting, cells and errors
 pub mod Lists
 pub mod BigStep
--- what the relation finds is derivable; what is derivable, by a derivation of any height, it finds, since marks only come and a marked call ends with a round that
--- stored all that it found
+-- what the relation finds is derivable; what is derivable, by a derivation of any height, it finds, since marks only
+-- come and a marked call ends with a round that stored all that it found
 pub mod Heights
 pub mod Sound
 pub mod Marks

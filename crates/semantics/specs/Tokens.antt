@@ -1,4 +1,5 @@
--- Document 01, "The book" and "Derivations": characters, identifiers and variables at a place of the text, and the claim of a mark-1 use.
+-- Document 01, "The book" and "Derivations": characters, identifiers and variables at a place of the text, and the
+-- claim of a mark-1 use.
 use mathlib.Core.Bool.{Bool, true, false, _&&_, _||_}
 use mathlib.Core.List.{List, [], _∷_}
 use mathlib.Core.Option.{Option, none, some}
@@ -31,7 +32,9 @@ pub record Variable : Type 0 where
 module _ (text : List ℕ) where
   -- the end of the character a, after skipping
   unfoldable pub characterEnd : ℕ → ℕ → Option ℕ
-  characterEnd a place = let at = skipFrom text place in when (ltb at (length text) && eqb (getD text at 0) a) (λ _. some (at + 1)) (λ _. none)
+  characterEnd a place =
+      let at = skipFrom text place in
+      when (ltb at (length text) && eqb (getD text at 0) a) (λ _. some (at + 1)) (λ _. none)
 
   -- an identifier at a place: its end
   unfoldable pub identifierEnd : ℕ → Option ℕ
@@ -43,7 +46,8 @@ module _ (text : List ℕ) where
 module _ (book : Book) (text : List ℕ) where
   -- whether a reserved word stands at a place
   unfoldable pub reservedAt : ℕ → Bool
-  reservedAt at = elim (identifierEnd text at) [ some end ↦ isReserved (book .words) (spelled text at end) | none ↦ false ]
+  reservedAt at =
+      elim (identifierEnd text at) [ some end ↦ isReserved (book .words) (spelled text at end) | none ↦ false ]
 
   -- an identifier that is not reserved: "2, 4, 5 and a mark-2 use refuse a reserved word"
   unfoldable pub freeEnd : ℕ → Option ℕ
@@ -63,7 +67,8 @@ module _ (book : Book) (text : List ℕ) where
   -- whether an enclosing mark-1 use begins at a place of a scope
   unfoldable pub hasClaimant : Path → ℕ → ℕ → Bool
   hasClaimant [] scope u = false
-  hasClaimant (f ∷ path) scope u = (hasMark book 1 (f .nonterminal) && (eqb (f .scope) scope && eqb (f .start) u)) || hasClaimant path scope u
+  hasClaimant (f ∷ path) scope u =
+      (hasMark book 1 (f .nonterminal) && (eqb (f .scope) scope && eqb (f .start) u)) || hasClaimant path scope u
 
   -- "unless an enclosing mark-1 use at the same place and scope could read a variable there"
   abbrev pub claimed : Path → ℕ → ℕ → Bool

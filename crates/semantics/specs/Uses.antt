@@ -7,7 +7,8 @@ use Rattle.book.specs.Book.{Book, nthNonterminal, nthVariant, markNumber}
 use Rattle.book.specs.declared.records.Associativity.{Associativity}
 use Rattle.semantics.specs.Values.{Parse}
 
--- an enclosing use: its nonterminal, scope and start, the level and associativity of its variant, and where its current child begins
+-- an enclosing use: its nonterminal, scope and start, the level and associativity of its variant, and where its current
+-- child begins
 pub record Use : Type 0 where
   pub nonterminal : ℕ
   pub scope : ℕ
@@ -23,7 +24,8 @@ base = 0
 -- a use of N at u, with variant j, whose child begins at x
 abbrev pub useOf : Book → ℕ → ℕ → ℕ → ℕ → Use
 useOf book N u j x =
-    record { nonterminal = N; scope = base; start = u; level = nthVariant book j .level; associativity = nthVariant book j .associativity; child = x }
+    let v = nthVariant book j in
+    record { nonterminal = N; scope = base; start = u; level = v .level; associativity = v .associativity; child = x }
 
 -- "Mark 0 plain; 1 calls `try_claim_as_var` first; 2 is `identifier_nonterminal`"
 abbrev pub hasMark : Book → ℕ → ℕ → Bool
@@ -33,8 +35,8 @@ hasMark book mark N = eqb (markNumber (nthNonterminal book N .mark)) mark
 abbrev pub Path : Type 0
 Path = List Use
 
--- what the governor of a use says: the minimum, or, for a child at the governor's own start, the governor: its number in the path,
--- which only the run asks for, itself and its own path
+-- what the governor of a use says: the minimum, or, for a child at the governor's own start, the governor: its number
+-- in the path, which only the run asks for, itself and its own path
 pub data Governor : Type 0 where
   minimum : ℕ → Governor
   same-start : ℕ → Use → Path → Governor
@@ -57,11 +59,13 @@ govern true true f path around = same-start zero f path
 govern true false f path around = minimum (minimumOf (f .associativity) (f .level))
 govern false b f path around = outwards around
 
--- "Its governor is the nearest enclosing use of N, in the same scope .., whose current child begins at u. No governor: minimum 0"
+-- "Its governor is the nearest enclosing use of N, in the same scope .., whose current child begins at u. No governor:
+-- minimum 0"
 unfoldable pub governor : Path → ℕ → ℕ → ℕ → Governor
 governor [] scope N u = minimum 0
 governor (f ∷ path) scope N u =
-    govern (eqb (f .nonterminal) N && (eqb (f .scope) scope && eqb (f .child) u)) (eqb (f .start) u) f path (governor path scope N u)
+    govern (eqb (f .nonterminal) N && (eqb (f .scope) scope && eqb (f .child) u)) (eqb (f .start) u) f path
+    (governor path scope N u)
 
 -- "kept when level is at least (Left) or above (Right, None) the governor's variant level; Both keeps all"
 abbrev pub keepsLevel : Associativity → ℕ → ℕ → Bool

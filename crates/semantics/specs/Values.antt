@@ -9,8 +9,9 @@ use Rattle.book.specs.declared.records.Associativity.{Associativity}
 
 infixl 60 _▸_
 mutual
-  -- "a variant's number and items in step order; passing, the child's value; for mark 2 the spelling. Items are an identifier's spelling,
-  -- a number, a variable's name number and kind, a child's value, absent, or a list of values". The value of a parse is a variant or a name
+  -- "a variant's number and items in step order; passing, the child's value; for mark 2 the spelling. Items are an
+  -- identifier's spelling, a number, a variable's name number and kind, a child's value, absent, or a list of values".
+  -- The value of a parse is a variant or a name
   pub data Tree : Type 0 where
     variant : ℕ → Trees → Tree
     name : List ℕ → Tree
