@@ -32,8 +32,8 @@ wins a b =
 unfoldable pub join : Error → Error → Error
 join a b = cond (wins a b) a b
 
--- an error that counts only beyond a skipped place: errors stand at skipped places, so "more than skipped text lies
--- between" is just that
+-- an error that counts only beyond a skipped place, where a call begins or a choice is made: "more than skipped text
+-- lies between" exactly if the error's place is greater (`more-than-skipped` of ErrorLaws)
 unfoldable pub beyond : ℕ → Error → Option Error
 beyond place e = cond (ltb place (e .place)) (some e) none
 

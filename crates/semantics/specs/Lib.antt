@@ -8,6 +8,7 @@ pub mod Cells
 pub mod Errors
 pub mod Run
 pub mod RoundLaws
+pub mod ErrorLaws
 pub mod Answer
 pub mod ExampleBook
 pub mod Exact

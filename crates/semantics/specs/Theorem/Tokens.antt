@@ -25,12 +25,15 @@ unfolding identifierEnd
 identifier-told text at end (Identifier.Ends y) e q = identifier-bounds text at end (e ∙ ap Identifier.Ends (some-inj (rw (e, identifierEnd) at q)))
 identifier-told text at end Identifier.Nothing e q = absurd (none-some (rw (e, identifierEnd) at q))
 
+pub identifier-within : (text : List ℕ) (at end : ℕ) → identifierEnd text at ≡ some end → (at < end) × (end ≤ length text)
+identifier-within text at end q = identifier-told text at end (identifierAt text at) refl q
+
 pub free-end-within : (book : Book) (text : List ℕ) (at end : ℕ) → freeEnd book text at ≡ some end → (at < end) × (end ≤ length text)
 unfolding freeEnd
 free-end-within book text at end q =
     by-test (reservedAt book text at)
     (λ t. absurd (none-some (rw (t, freeEnd) at q)))
-    (λ t. identifier-told text at end (identifierAt text at) refl (rw (t, freeEnd) at q))
+    (λ t. identifier-within text at end (rw (t, freeEnd) at q))
 
 -- ---- What a step reads
 abbrev pub ReadFits : List ℕ → Item → Type 0

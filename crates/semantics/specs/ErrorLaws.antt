@@ -1,0 +1,209 @@
+-- Laws of errors.
+--
+-- What is there:
+--   more-than-skipped    "more than skipped text lies between" a skipped place and an error exactly if the error's place is greater
+--   beyond-some, -none   so what counts beyond a skipped place is what has more than skipped text before it
+--   Alike                errors that can't be told apart beyond a place: joined with others they stay alike (`alike-join`), and a choice there
+--                        or further on (`alike-choice`) and a call that begins there (`alike-counted`) make the same of them
+--   run-error-skipped    every error of a run stands at a skipped place (in ErrorLaws/Skipped, by an induction over the run, with
+--                        what holds of every call on the way: `Ready`; what it takes of places is in ErrorLaws/Places)
+--   reentry-alike        the error of a re-entry stands at the start of the call that asked for the stored parses, so whatever its kind and
+--                        argument are, that call can't tell: "Rust's two left-recursion messages .. never get past this"
+--   claim-alike          the same of a name that is claimed: "and the claimed-name message"
+use mathlib.Core.Path.{_≡_, refl, sym, _∙_, ap}
+use mathlib.Core.Bool.{Bool, true, false, cond, _&&_, and-eq-true-iff}
+use mathlib.Core.List.{List, [], _∷_, List·Memᴰ·head, List·Memᴰ·tail}
+use mathlib.Core.Logic.{_↔_}
+use mathlib.Core.Option.{Option, none, some}
+use Prim.Native.Nat.{ℕ, _+_, _-_, _≤_, _<_, max}
+use native.Mathlib.Omega.{arith}
+use lib.Dec.{ltb, eqb}
+use lib.ListN.{length, getD, drop, length-take, List·getD-eq-default}
+use lib.Seq.{getD-take, getD-drop}
+use borrow.Author.Tests.{lt-ltb, le-ltb, ltb-true, ltb-false, ne-eqb}
+use Rattle.characters.specs.Cases.{by-test}
+use Rattle.characters.specs.Classes.{isOf}
+use Rattle.characters.specs.Skipping.{spanEnd, commentAt, skipFrom}
+use Rattle.characters.specs.SkippingLaws.{span-stop, span-out, round-plain, skip-stop, skip-out, skip-forward, skip-no-comment, skip-no-whitespace}
+use Rattle.characters.specs.Spelling.{partOf}
+use Rattle.characters.specs.declared.classes.Class.the-variants.{Whitespace}
+use Rattle.characters.specs.declared.skipping.Span.the-variants.{Spaces}
+use Rattle.book.specs.Book.{Book, nthVariant}
+use Rattle.semantics.specs.Uses.{Use, Path, base, useOf, same-start, governor}
+use Rattle.semantics.specs.Tokens.{isSome, variableAt, hasClaimant, claimed}
+use Rattle.semantics.specs.Errors.{Error, wins, join, beyond, choiceError}
+use Rattle.semantics.specs.Run.{Call, counted}
+use Rattle.semantics.specs.Theorem.Lists.{_∈_}
+use Rattle.semantics.specs.Theorem.Sound.{gov-at}
+pub mod Places
+pub mod Skipped
+use Places.{at-in, gov-start, claimant}
+use Skipped.{Ready}
+
+-- ---- "more than skipped text lies between"
+-- only skipped text lies between two places: the text from the first up to the second is skipped whole
+abbrev pub OnlySkipped : List ℕ → ℕ → ℕ → Type 0
+OnlySkipped text from to = skipFrom (partOf text from (to - from)) 0 ≡ to - from
+
+module _ (text : List ℕ) (s : ℕ) (skipped : skipFrom text s ≡ s) where
+  no-whitespace : isOf Whitespace (getD text s 0) ≡ false
+  no-whitespace = rw skipped at (skip-no-whitespace text s)
+
+  no-comment : commentAt text s ≡ false
+  no-comment = rw skipped at (skip-no-comment text s)
+
+  -- a part of the text from there on isn't skipped either
+  module _ (n : ℕ) (some-bytes : 0 < n) where
+    first-byte : getD (partOf text s n) 0 0 ≡ getD text s 0
+    first-byte = getD-take n (drop s text) 0 0 some-bytes ∙ getD-drop s text 0 0 ∙ ap (λ (i : ℕ). getD text i 0) (omega arith)
+
+    second-byte : 1 < n → getD (partOf text s n) 1 0 ≡ getD text (s + 1) 0
+    second-byte h = getD-take n (drop s text) 1 0 h ∙ getD-drop s text 1 0
+
+    and-false : (b : Bool) → b && false ≡ false
+    and-false true = refl
+    and-false false = refl
+
+    part-comment : commentAt (partOf text s n) 0 ≡ false
+    unfolding commentAt
+    part-comment =
+        by-test (ltb 1 n)
+        (λ t. rw (first-byte, second-byte (ltb-true 1 n t)) no-comment)
+        (λ t. let few : length (partOf text s n) ≤ 1 = omega (arith, length-take n (drop s text), ltb-false 1 n t) in
+        rw (List·getD-eq-default (partOf text s n) 0 {n = 1} few) (and-false (eqb (getD (partOf text s n) 0 0) 47)))
+
+    part-spaces : spanEnd Spaces (partOf text s n) 0 ≡ 0
+    part-spaces =
+        by-test (ltb 0 (length (partOf text s n)))
+        (λ t. span-stop Spaces (partOf text s n) 0 (ltb-true 0 _ t) (rw first-byte no-whitespace))
+        (λ t. span-out Spaces (partOf text s n) 0 (ltb-false 0 _ t))
+
+    part-stays : skipFrom (partOf text s n) 0 ≡ 0
+    part-stays = skip-stop (partOf text s n) 0 (round-plain (partOf text s n) 0 (rw part-spaces part-comment) ∙ part-spaces)
+
+  pub more-than-skipped : (e : ℕ) → (s < e) ↔ (OnlySkipped text s e → ⊥)
+  more-than-skipped e = (
+    λ less only. omega (arith, part-stays (e - s) (omega arith), only),
+    λ more. by-test (ltb s e) (λ t. ltb-true s e t) (λ t. absurd (more (nothing (ltb-false s e t)))),
+  )
+    where
+      nothing : e ≤ s → OnlySkipped text s e
+      nothing h =
+          let none-between : e - s ≡ 0 = omega arith in
+          rw none-between (skip-out [] 0 (omega arith))
+
+  pub beyond-some : (e : Error) → (OnlySkipped text s (e .place) → ⊥) → beyond s e ≡ some e
+  unfolding beyond
+  beyond-some e more = rw (lt-ltb s (e .place) (more-than-skipped (e .place) .1 more))
+
+  pub beyond-none : (e : Error) → OnlySkipped text s (e .place) → beyond s e ≡ none
+  unfolding beyond
+  beyond-none e only =
+      by-test (ltb s (e .place)) (λ t. absurd (more-than-skipped (e .place) .0 (ltb-true s (e .place) t) only)) (λ t. rw t)
+
+-- ---- Errors that can't be told apart beyond a place
+-- they stand at one place, and beyond the given one they are the same
+pub record Alike (place : ℕ) (a b : Error) : Type 0 where
+  pub at : a .place ≡ b .place
+  pub beyond-it : place < a .place → a ≡ b
+
+-- the further of two errors wins
+join-further : (a b : Error) → a .place < b .place → join a b ≡ b
+unfolding join
+join-further a b h = rw (le-ltb (b .place) (a .place) (omega arith), ne-eqb (a .place) (b .place) (omega arith))
+
+join-nearer : (a b : Error) → b .place < a .place → join a b ≡ a
+unfolding join
+join-nearer a b h = rw (lt-ltb (b .place) (a .place) h)
+
+-- at one place, either
+join-level : (a b : Error) → a .place ≡ b .place → join a b .place ≡ a .place
+unfolding join
+join-level a b h = by (wins a b)
+  where
+    by : (t : Bool) → cond t a b .place ≡ a .place
+    by true = refl
+    by false = sym h
+
+join-place : (a b : Error) → join a b .place ≡ max (a .place) (b .place)
+join-place a b =
+    by-test (ltb (a .place) (b .place))
+    (λ t. let less = ltb-true (a .place) (b .place) t in ap (λ (e : Error). e .place) (join-further a b less) ∙ omega arith)
+    (λ t. let least = ltb-false (a .place) (b .place) t in
+    by-test (ltb (b .place) (a .place))
+    (λ u. let less = ltb-true (b .place) (a .place) u in ap (λ (e : Error). e .place) (join-nearer a b less) ∙ omega arith)
+    (λ u. let most = ltb-false (b .place) (a .place) u in let level : a .place ≡ b .place = omega arith in join-level a b level ∙ omega arith))
+
+module _ (place : ℕ) where
+  pub alike-join : (a b c d : Error) → Alike place a b → Alike place c d → Alike place (join a c) (join b d)
+  alike-join a b c d h k =
+      let first = h .at in
+      let second = k .at in
+      let left = join-place a c in
+      let right = join-place b d in
+      record { at = omega arith; beyond-it = λ far. by far (ltb place (a .place)) refl (ltb place (c .place)) refl }
+    where
+      by : place < join a c .place → (s : Bool) → ltb place (a .place) ≡ s → (t : Bool) → ltb place (c .place) ≡ t → join a c ≡ join b d
+      by far true s true t = let e = h .beyond-it (ltb-true place (a .place) s) in let f = k .beyond-it (ltb-true place (c .place) t) in cc
+      by far true s false t =
+          let e = h .beyond-it (ltb-true place (a .place) s) in
+          let less : c .place < a .place = omega (arith, ltb-true place (a .place) s, ltb-false place (c .place) t) in
+          let less′ : d .place < b .place = omega (arith, h .at, k .at) in
+          join-nearer a c less ∙ e ∙ sym (join-nearer b d less′)
+      by far false s true t =
+          let f = k .beyond-it (ltb-true place (c .place) t) in
+          let less : a .place < c .place = omega (arith, ltb-false place (a .place) s, ltb-true place (c .place) t) in
+          let less′ : b .place < d .place = omega (arith, h .at, k .at) in
+          join-further a c less ∙ f ∙ sym (join-further b d less′)
+      by far false s false t = absurd (omega (arith, join-place a c, ltb-false place (a .place) s, ltb-false place (c .place) t))
+
+  pub alike-beyond : (a b : Error) → Alike place a b → beyond place a ≡ beyond place b
+  unfolding beyond
+  alike-beyond a b h =
+      by-test (ltb place (a .place))
+      (λ t. ap (beyond place) (h .beyond-it (ltb-true place (a .place) t)))
+      (λ t. let u : ltb place (b .place) ≡ false = ap (ltb place) (sym (h .at)) ∙ t in rw (t, u))
+
+alike-further : {place further : ℕ} {a b : Error} → place ≤ further → Alike place a b → Alike further a b
+alike-further l h = record { at = h .at; beyond-it = λ far. h .beyond-it (omega arith) }
+
+-- a choice at the place, or further on
+pub alike-choice : (place at N : ℕ) (a b c d : Error) → place ≤ at → Alike place a b → Alike place c d → choiceError at N a c ≡ choiceError at N b d
+unfolding choiceError
+alike-choice place at N a b c d l h k =
+    rw (alike-beyond at (join a c) (join b d) (alike-join at a b c d (alike-further l h) (alike-further l k)), choiceError)
+
+-- a call that begins at the place
+pub alike-counted : (book : Book) (text : List ℕ) (c : Call) (j : ℕ) (a b : Error) → Alike (c .start) a b →
+    counted book text c j (some a) ≡ counted book text c j (some b)
+unfolding counted
+alike-counted book text c j a b h = ap (λ (o : Option Error). cond (nthVariant book j .committed) o none) (alike-beyond (c .start) a b h)
+
+-- ---- Errors that are never seen
+module _ (book : Book) (text : List ℕ) (c : Call) (ready : Ready text c) (j x : ℕ) (on : c .start ≤ x) where
+  -- where the child begins, and its path
+  abbrev place : ℕ
+  place = skipFrom text x
+
+  abbrev path : Path
+  path = useOf book (c .nonterminal) (c .start) j place ∷ c .path
+
+  -- if a use around the child begins where the child does, so does the call
+  child-at-start : (f : Use) → f ∈ path → f .start ≡ place → place ≡ c .start
+  child-at-start f (List·Memᴰ·head e) s = sym s ∙ ap (λ (z : Use). z .start) e
+  child-at-start f (List·Memᴰ·tail m) s = let less = ready .around .starts f m in let forward = skip-forward text x in omega arith
+
+  -- errors there are alike to the call
+  at-start : place ≡ c .start → (a b : Error) → a .place ≡ place → b .place ≡ place → Alike (c .start) a b
+  at-start s a b h k = record { at = h ∙ sym k; beyond-it = λ far. absurd (omega arith) }
+
+  -- "Re-entry at its start gives its stored parses, filtered; none is a failure": whatever error stands for it
+  pub reentry-alike : (M : ℕ) {i : ℕ} {f : Use} {Q : Path} → governor path base M place ≡ same-start i f Q →
+      (a b : Error) → a .place ≡ place → b .place ≡ place → Alike (c .start) a b
+  reentry-alike M {f = f} gov = at-start (child-at-start f (at-in (gov-at path M place gov)) (gov-start path M place gov))
+
+  -- a claimed name: the call of the name fails at its start, and the same holds there
+  pub claim-alike : claimed book text path base place ≡ true → (a b : Error) → a .place ≡ place → b .place ≡ place → Alike (c .start) a b
+  claim-alike e =
+      let k = claimant book text path base place (and-eq-true-iff (isSome (variableAt book text place)) (hasClaimant book text path base place) .0 e .1) in
+      at-start (child-at-start (k .by) (k .member) (k .start))

@@ -1,0 +1,208 @@
+-- Places: what a step takes, and where a list goes on, never lies before its place; an error stands where its step was wanted; a governor at its own start and a
+-- use that claims a name begin where the child does.
+use mathlib.Core.Path.{_≡_, refl, ap, subst}
+use mathlib.Core.Bool.{Bool, true, false, _&&_, false≢true, and-eq-true-iff}
+use mathlib.Core.List.{List, [], _∷_, List·Memᴰ·head, List·Memᴰ·tail}
+use mathlib.Core.Option.{Option, none, some}
+use Prim.Native.Nat.{ℕ, _≤_, _<_}
+use native.Mathlib.Omega.{arith}
+use lib.Dec.{ltb, eqb}
+use lib.ListN.{length, getD}
+use borrow.Author.Tests.{eqb-true}
+use Rattle.characters.specs.Cases.{by-test}
+use Rattle.characters.specs.Skipping.{skipFrom}
+use Rattle.characters.specs.SkippingLaws.{skip-forward}
+use Rattle.characters.specs.Spelling.{same}
+use Rattle.characters.specs.Tokens.{numberAt}
+use Rattle.characters.specs.TokenLaws.{number-bounds}
+use Rattle.characters.specs.declared.lexemes.Number.{Number}
+use Rattle.book.specs.Book.{Book, nthEntry, lookupName}
+use Rattle.book.specs.declared.names.Found.{Found}
+use Rattle.book.specs.declared.records.Step.{Step}
+use Rattle.semantics.specs.Uses.{Use, Path, base, hasMark, Governor, minimum, same-start, outwards, govern, governor}
+use Rattle.semantics.specs.Tokens.{Variable, isSome, characterEnd, identifierEnd, spelled, reservedAt, freeEnd, variableAt, hasClaimant}
+use Rattle.semantics.specs.Steps.{Taken, stepAt, After, goes, halts, afterElement, closed}
+use Rattle.semantics.specs.Errors.{Error, identifierError, stepError}
+use Rattle.semantics.specs.Theorem.Lists.{_∈_}
+use Rattle.semantics.specs.Theorem.Results.{some-inj, none-some, option-cases}
+use Rattle.semantics.specs.Theorem.Sound.{At, here, there}
+use Rattle.semantics.specs.Theorem.Tokens.{identifier-within, free-end-within}
+
+-- ---- Uses around a call
+pub at-in : {P : Path} {i : ℕ} {f : Use} {Q : Path} → At P i f Q → f ∈ P
+at-in here = List·Memᴰ·head refl
+at-in (there a) = List·Memᴰ·tail (at-in a)
+
+-- a governor at its own start begins where the child does
+abbrev Begins : ℕ → Governor → Type 0
+Begins u (minimum m) = Unit {0}
+Begins u (same-start i f Q) = f .start ≡ u
+
+outwards-begins : (u : ℕ) (g : Governor) → Begins u g → Begins u (outwards g)
+unfolding outwards
+outwards-begins u (minimum m) h = tt
+outwards-begins u (same-start i f Q) h = h
+
+govern-begins : (u : ℕ) (a b : Bool) (f : Use) (P : Path) (g : Governor) → (b ≡ true → f .start ≡ u) → Begins u g → Begins u (govern a b f P g)
+unfolding govern
+govern-begins u true true f P g k h = k refl
+govern-begins u true false f P g k h = tt
+govern-begins u false b f P g k h = outwards-begins u g h
+
+governor-begins : (P : Path) (scope N u : ℕ) → Begins u (governor P scope N u)
+unfolding governor
+governor-begins [] scope N u = tt
+governor-begins (f ∷ P) scope N u = govern-begins u _ (eqb (f .start) u) f P _ (λ t. eqb-true (f .start) u t) (governor-begins P scope N u)
+
+pub gov-start : (P : Path) (N u : ℕ) {i : ℕ} {f : Use} {Q : Path} → governor P base N u ≡ same-start i f Q → f .start ≡ u
+gov-start P N u e = subst (Begins u) e (governor-begins P base N u)
+
+-- a use that claims a name begins where the name does
+pub record Claimant (P : Path) (u : ℕ) : Type 0 where
+  pub by : Use
+  pub member : by ∈ P
+  pub start : by .start ≡ u
+
+-- ---- Places go forward
+module _ (text : List ℕ) where
+  character-forward : (a x end : ℕ) → characterEnd text a x ≡ some end → x ≤ end
+  unfolding characterEnd
+  character-forward a x end q =
+      let h = skip-forward text x in
+      by-test (ltb (skipFrom text x) (length text) && eqb (getD text (skipFrom text x) 0) a)
+      (λ t. let is = some-inj (rw (t, characterEnd) at q) in omega arith)
+      (λ t. absurd (none-some (rw (t, characterEnd) at q)))
+
+  pub closed-forward : (close : Option ℕ) (x y : ℕ) → closed text close x ≡ some y → x ≤ y
+  unfolding closed
+  closed-forward none x y q = let is = some-inj q in omega arith
+  closed-forward (some c) x y q = character-forward c x y q
+
+  abbrev pub Onward : ℕ → After → Type 0
+  Onward x (goes y) = x ≤ y
+  Onward x (halts y) = x ≤ y
+
+  pub after-onward : (comma : Bool) (x : ℕ) → Onward x (afterElement text comma x)
+  unfolding afterElement
+  after-onward false x = omega arith
+  after-onward true x =
+      option-cases (characterEnd text 44 x)
+      (λ e. rw (e, afterElement) (skip-forward text x))
+      (λ end e. rw (e, afterElement) (character-forward 44 x end e))
+
+module _ (book : Book) (text : List ℕ) where
+  variable-forward : (at : ℕ) (v : Variable) → variableAt book text at ≡ some v → at ≤ v .end
+  unfolding variableAt
+  variable-forward at v q =
+      option-cases (freeEnd book text at)
+      (λ e. absurd (none-some (rw (e, variableAt) at q)))
+      (λ end e. named-forward end (free-end-within book text at end e .0) (lookupName (book .names) (spelled text at end)) (rw (e, variableAt) at q))
+    where
+      named-forward : (end : ℕ) → at < end → (f : Found) → elim f [ Found.Name i kind ↦ some (record { end = end; number = i; kind = kind }) | Found.Nothing ↦ none ] ≡ some v → at ≤ v .end
+      named-forward end l (Found.Name i kind) p = let is : end ≡ v .end = ap (λ (w : Variable). w .end) (some-inj p) in omega arith
+      named-forward end l Found.Nothing p = absurd (none-some p)
+
+  -- what a step takes, it takes at its place or further on
+  abbrev pub TakenOn : ℕ → Taken → Type 0
+  TakenOn x (Taken.token t) = x ≤ t .next
+  TakenOn x (Taken.child M) = Unit {0}
+  TakenOn x (Taken.optional M) = Unit {0}
+  TakenOn x (Taken.list comma M close y) = x ≤ y
+  TakenOn x (Taken.unopened y) = x ≤ y
+  TakenOn x Taken.nothing = Unit {0}
+
+  module _ (x : ℕ) where
+    skip-on : x ≤ skipFrom text x
+    skip-on = skip-forward text x
+
+    number-on : (n : Number) → numberAt text (skipFrom text x) ≡ n → TakenOn x (stepAt book text Step.Number x)
+    unfolding stepAt
+    number-on (Number.Value value end) e = rw (e, stepAt) (omega (arith, skip-on, number-bounds text (skipFrom text x) value end e .0))
+    number-on Number.TooLarge e = rw (e, stepAt) tt
+    number-on Number.Nothing e = rw (e, stepAt) tt
+
+    step-on : (step : Step) → TakenOn x (stepAt book text step x)
+    unfolding stepAt
+    step-on (Step.Character a) = option-cases (characterEnd text a x) (λ e. rw (e, stepAt) tt) (λ end e. rw (e, stepAt) (character-forward text a x end e))
+    step-on (Step.Word a) =
+        option-cases (identifierEnd text (skipFrom text x))
+        (λ e. rw (e, stepAt) tt)
+        (λ end e. let w = identifier-within text (skipFrom text x) end e in
+        by-test (same (spelled text (skipFrom text x) end) (nthEntry (book .words) a .spelling))
+        (λ t. rw (e, t, stepAt) (omega (arith, skip-on, w .0)))
+        (λ t. rw (e, t, stepAt) tt))
+    step-on Step.Identifier =
+        option-cases (freeEnd book text (skipFrom text x))
+        (λ e. rw (e, stepAt) tt)
+        (λ end e. rw (e, stepAt) (omega (arith, skip-on, free-end-within book text (skipFrom text x) end e .0)))
+    step-on Step.Number = number-on (numberAt text (skipFrom text x)) refl
+    step-on Step.Variable =
+        option-cases (variableAt book text (skipFrom text x))
+        (λ e. rw (e, stepAt) tt)
+        (λ v e. rw (e, stepAt) (omega (arith, skip-on, variable-forward (skipFrom text x) v e)))
+    step-on (Step.VariableOfKind a) =
+        option-cases (variableAt book text (skipFrom text x))
+        (λ e. rw (e, stepAt) tt)
+        (λ v e. by-test (eqb (v .kind) a)
+        (λ t. rw (e, t, stepAt) (omega (arith, skip-on, variable-forward (skipFrom text x) v e)))
+        (λ t. rw (e, t, stepAt) tt))
+    step-on Step.RejectVariable = option-cases (variableAt book text (skipFrom text x)) (λ e. rw (e, stepAt) (omega arith)) (λ v e. rw (e, stepAt) tt)
+    step-on Step.RejectReserved = by-test (reservedAt book text (skipFrom text x)) (λ t. rw (t, stepAt) tt) (λ t. rw (t, stepAt) (omega arith))
+    step-on (Step.Nonterminal M) = tt
+    step-on (Step.Optional M) = tt
+    step-on (Step.Many M) = omega arith
+    step-on (Step.CommaList M) = omega arith
+    step-on (Step.Delimited M b c) = option-cases (characterEnd text b x) (λ e. rw (e, stepAt) tt) (λ y e. rw (e, stepAt) (character-forward text b x y e))
+    step-on (Step.OptionalDelimited M b c) =
+        option-cases (characterEnd text b x) (λ e. rw (e, stepAt) skip-on) (λ y e. rw (e, stepAt) (character-forward text b x y e))
+
+    pub step-forward : (step : Step) {k : Taken} → stepAt book text step x ≡ k → TakenOn x k
+    step-forward step e = subst (TakenOn x) e (step-on step)
+
+  -- the error of a step stands where it was wanted
+  identifier-error-place : (at : ℕ) (other : Error) → other .place ≡ at → identifierError book text at other .place ≡ at
+  unfolding identifierError
+  identifier-error-place at other h =
+      by-test (eqb at (length text))
+      (λ t. rw (t, identifierError))
+      (λ t. by-test (reservedAt book text at)
+      (λ u. rw (t, u, identifierError))
+      (λ u. option-cases (identifierEnd text at) (λ e. rw (t, u, e, identifierError)) (λ end e. rw (t, u, e, identifierError) h)))
+
+  number-error-place : (at : ℕ) (n : Number) → numberAt text at ≡ n → stepError book text Step.Number at .place ≡ at
+  unfolding stepError
+  number-error-place at n e = by-test (eqb at (length text)) (λ t. rw (t, stepError)) (λ t. by n e t)
+    where
+      by : (n : Number) → numberAt text at ≡ n → eqb at (length text) ≡ false → stepError book text Step.Number at .place ≡ at
+      by Number.Nothing e t = rw (t, e, stepError)
+      by Number.TooLarge e t = rw (t, e, stepError)
+      by (Number.Value value end) e t = rw (t, e, stepError)
+
+  pub step-error-place : (step : Step) (at : ℕ) → stepError book text step at .place ≡ at
+  unfolding stepError
+  step-error-place (Step.Character a) at = refl
+  step-error-place (Step.Word a) at = refl
+  step-error-place Step.Identifier at = identifier-error-place at _ refl
+  step-error-place Step.Number at = number-error-place at (numberAt text at) refl
+  step-error-place Step.Variable at = identifier-error-place at _ refl
+  step-error-place (Step.VariableOfKind a) at =
+      identifier-error-place at _ (by-test (isSome (variableAt book text at)) (λ t. rw t) (λ t. rw t))
+  step-error-place Step.RejectVariable at = refl
+  step-error-place Step.RejectReserved at = refl
+  step-error-place (Step.Nonterminal M) at = refl
+  step-error-place (Step.Optional M) at = refl
+  step-error-place (Step.Many M) at = refl
+  step-error-place (Step.CommaList M) at = refl
+  step-error-place (Step.Delimited M b c) at = refl
+  step-error-place (Step.OptionalDelimited M b c) at = refl
+
+  -- a name is claimed by a use that begins there
+  pub claimant : (P : Path) (scope u : ℕ) → hasClaimant book text P scope u ≡ true → Claimant P u
+  unfolding hasClaimant
+  claimant [] scope u e = absurd (false≢true e)
+  claimant (f ∷ P) scope u e =
+      by-test (hasMark book 1 (f .nonterminal) && (eqb (f .scope) scope && eqb (f .start) u))
+      (λ t. let k = and-eq-true-iff (hasMark book 1 (f .nonterminal)) (eqb (f .scope) scope && eqb (f .start) u) .0 t .1 in
+      let l = and-eq-true-iff (eqb (f .scope) scope) (eqb (f .start) u) .0 k .1 in
+      record { by = f; member = List·Memᴰ·head refl; start = eqb-true (f .start) u l })
+      (λ t. let c = claimant P scope u (rw t at e) in record { by = c .by; member = List·Memᴰ·tail (c .member); start = c .start })
