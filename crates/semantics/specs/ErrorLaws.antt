@@ -5,14 +5,14 @@
 --   beyond-some, -none   so what counts beyond a skipped place is what has more than skipped text before it
 --   Alike                errors that can't be told apart beyond a place: joined with others they stay alike (`alike-join`), and a choice there
 --                        or further on (`alike-choice`) and a call that begins there (`alike-counted`) make the same of them
---   run-error-skipped    every error of a run stands at a skipped place (in ErrorLaws/Skipped, by an induction over the run, with
---                        what holds of every call on the way: `Ready`; what it takes of places is in ErrorLaws/Places)
---   reentry-alike        the error of a re-entry stands at the start of the call that asked for the stored parses, so whatever its kind and
---                        argument are, that call can't tell: "Rust's two left-recursion messages .. never get past this"
---   claim-alike          the same of a name that is claimed: "and the claimed-name message"
+-- and of the whole run, by induction:
+--   run-error-skipped    every error of a run stands at a skipped place (ErrorLaws/Skipped, with what holds of every call on the way; what that
+--                        takes of places is in ErrorLaws/Places)
+--   run-with             "Rust's two left-recursion messages and the claimed-name message never get past this": with whatever errors for
+--                        re-entries and claimed names, the run is the same (ErrorLaws/Unseen)
 use mathlib.Core.Path.{_≡_, refl, sym, _∙_, ap}
-use mathlib.Core.Bool.{Bool, true, false, cond, _&&_, and-eq-true-iff}
-use mathlib.Core.List.{List, [], _∷_, List·Memᴰ·head, List·Memᴰ·tail}
+use mathlib.Core.Bool.{Bool, true, false, cond, _&&_}
+use mathlib.Core.List.{List, []}
 use mathlib.Core.Logic.{_↔_}
 use mathlib.Core.Option.{Option, none, some}
 use Prim.Native.Nat.{ℕ, _+_, _-_, _≤_, _<_, max}
@@ -24,21 +24,16 @@ use borrow.Author.Tests.{lt-ltb, le-ltb, ltb-true, ltb-false, ne-eqb}
 use Rattle.characters.specs.Cases.{by-test}
 use Rattle.characters.specs.Classes.{isOf}
 use Rattle.characters.specs.Skipping.{spanEnd, commentAt, skipFrom}
-use Rattle.characters.specs.SkippingLaws.{span-stop, span-out, round-plain, skip-stop, skip-out, skip-forward, skip-no-comment, skip-no-whitespace}
+use Rattle.characters.specs.SkippingLaws.{span-stop, span-out, round-plain, skip-stop, skip-out, skip-no-comment, skip-no-whitespace}
 use Rattle.characters.specs.Spelling.{partOf}
 use Rattle.characters.specs.declared.classes.Class.the-variants.{Whitespace}
 use Rattle.characters.specs.declared.skipping.Span.the-variants.{Spaces}
 use Rattle.book.specs.Book.{Book, nthVariant}
-use Rattle.semantics.specs.Uses.{Use, Path, base, useOf, same-start, governor}
-use Rattle.semantics.specs.Tokens.{isSome, variableAt, hasClaimant, claimed}
 use Rattle.semantics.specs.Errors.{Error, wins, join, beyond, choiceError}
 use Rattle.semantics.specs.Run.{Call, counted}
-use Rattle.semantics.specs.Theorem.Lists.{_∈_}
-use Rattle.semantics.specs.Theorem.Sound.{gov-at}
 pub mod Places
 pub mod Skipped
-use Places.{at-in, gov-start, claimant}
-use Skipped.{Ready}
+pub mod Unseen
 
 -- ---- "more than skipped text lies between"
 -- only skipped text lies between two places: the text from the first up to the second is skipped whole
@@ -178,32 +173,3 @@ pub alike-counted : (book : Book) (text : List ℕ) (c : Call) (j : ℕ) (a b : 
     counted book text c j (some a) ≡ counted book text c j (some b)
 unfolding counted
 alike-counted book text c j a b h = ap (λ (o : Option Error). cond (nthVariant book j .committed) o none) (alike-beyond (c .start) a b h)
-
--- ---- Errors that are never seen
-module _ (book : Book) (text : List ℕ) (c : Call) (ready : Ready text c) (j x : ℕ) (on : c .start ≤ x) where
-  -- where the child begins, and its path
-  abbrev place : ℕ
-  place = skipFrom text x
-
-  abbrev path : Path
-  path = useOf book (c .nonterminal) (c .start) j place ∷ c .path
-
-  -- if a use around the child begins where the child does, so does the call
-  child-at-start : (f : Use) → f ∈ path → f .start ≡ place → place ≡ c .start
-  child-at-start f (List·Memᴰ·head e) s = sym s ∙ ap (λ (z : Use). z .start) e
-  child-at-start f (List·Memᴰ·tail m) s = let less = ready .around .starts f m in let forward = skip-forward text x in omega arith
-
-  -- errors there are alike to the call
-  at-start : place ≡ c .start → (a b : Error) → a .place ≡ place → b .place ≡ place → Alike (c .start) a b
-  at-start s a b h k = record { at = h ∙ sym k; beyond-it = λ far. absurd (omega arith) }
-
-  -- "Re-entry at its start gives its stored parses, filtered; none is a failure": whatever error stands for it
-  pub reentry-alike : (M : ℕ) {i : ℕ} {f : Use} {Q : Path} → governor path base M place ≡ same-start i f Q →
-      (a b : Error) → a .place ≡ place → b .place ≡ place → Alike (c .start) a b
-  reentry-alike M {f = f} gov = at-start (child-at-start f (at-in (gov-at path M place gov)) (gov-start path M place gov))
-
-  -- a claimed name: the call of the name fails at its start, and the same holds there
-  pub claim-alike : claimed book text path base place ≡ true → (a b : Error) → a .place ≡ place → b .place ≡ place → Alike (c .start) a b
-  claim-alike e =
-      let k = claimant book text path base place (and-eq-true-iff (isSome (variableAt book text place)) (hasClaimant book text path base place) .0 e .1) in
-      at-start (child-at-start (k .by) (k .member) (k .start))

@@ -3,7 +3,7 @@
 -- The plan. A call begins at a skipped place, and no use around it begins later (`Around`); its steps, and the rests of its parses, never lie before its start (`Behind`).
 -- So errors, which stand at the start of a call, at the place of a choice or where a step was wanted, stand at skipped places (`Fails`). And a use around a call that
 -- begins where the call's child does begins where the call itself does (`child-at-start`). Each part of the run has one law, in the order in which it is defined.
-use mathlib.Core.Path.{_≡_, refl, sym, ap, subst}
+use mathlib.Core.Path.{_≡_, refl, sym, _∙_, ap, subst}
 use mathlib.Core.Bool.{Bool, true, false, cond}
 use mathlib.Core.List.{List, [], _∷_, List·Memᴰ·head, List·Memᴰ·tail, List·Memᴰ·not-nil, List·Memᴰ·eq-of-singleton}
 use mathlib.Core.Option.{Option, none, some}
@@ -21,7 +21,7 @@ use Rattle.semantics.specs.Uses.{Use, Path, base, useOf, hasMark, same-s
 use Rattle.semantics.specs.Tokens.{freeEnd, claimed}
 use Rattle.semantics.specs.Steps.{stepAt, afterElement, closed, Todo, taking, elements, ending, todoOf}
 use Rattle.semantics.specs.Errors.{Error, error, wins, join, joinWith, beyond, choiceError}
-use Rattle.semantics.specs.Run.{Result, ok, _>>=_, State, Parsed, parsed, Call, call, withMine, Runner, Go, Next, allIn, kept, newest, failedCall}
+use Rattle.semantics.specs.Run.{Result, ok, _>>=_, State, Parsed, parsed, Call, call, withMine, Runner, Go, Next, allIn, kept, add, addAll, newest, failedCall}
 use Rattle.semantics.specs.Run.{either as eitherError, chosen, counted, complete, variants, oneRun, rounds, runCall, named, runIdentifier, plainNext, listNext}
 use Rattle.semantics.specs.Run.{stops, nested, reentry, enter, enterChild, followMore, follow, followed, orAbsent, choice, listing, steps, runner, run}
 use Rattle.semantics.specs.Theorem.Lists.{_∈_, sift-out, nth, either}
@@ -33,7 +33,7 @@ use Rattle.semantics.specs.ErrorLaws.Places.{gov-start, closed-forward, 
 
 module _ (text : List ℕ) where
   -- a skipped place
-  abbrev Skipped : ℕ → Type 0
+  abbrev pub Skipped : ℕ → Type 0
   Skipped x = skipFrom text x ≡ x
 
   -- an error, if there is one, stands at such a place
@@ -94,7 +94,7 @@ module _ (text : List ℕ) where
 
   -- ---- What holds on the way
   -- no parse of a set ends before a place
-  abbrev Behind : ℕ → List (Parse ℕ) → Type 0
+  abbrev pub Behind : ℕ → List (Parse ℕ) → Type 0
   Behind u set = (p : Parse ℕ) → p ∈ set → u ≤ p .rest
 
   -- what a part of the run gives that began at a place or further on
@@ -112,8 +112,16 @@ module _ (text : List ℕ) where
     pub around : Around (c .path) (c .stored) (c .start)
     pub mine : Behind (c .start) (c .mine)
 
-  nothing-behind : {u : ℕ} → Behind u []
+  pub nothing-behind : {u : ℕ} → Behind u []
   nothing-behind p m = absurd (List·Memᴰ·not-nil m)
+
+  pub behind-add : {u : ℕ} (s : State) (set : List (Parse ℕ)) (p : Parse ℕ) {more : List (Parse ℕ)} → add s set p ≡ ok more → Behind u set → u ≤ p .rest →
+      Behind u more
+  behind-add {u} s set p e b l q m =
+      either (add-joins s set p e .out q m) (λ n. b q n) (λ n. subst (λ (z : Parse ℕ). u ≤ z .rest) (sym (List·Memᴰ·eq-of-singleton n)) l)
+
+  pub behind-all : {u : ℕ} (s : State) (set ps : List (Parse ℕ)) {all : List (Parse ℕ)} → addAll s set ps ≡ ok all → Behind u set → Behind u ps → Behind u all
+  behind-all s set ps e b k q m = either (add-all-joins s set ps e .out q m) (λ n. b q n) (λ n. k q n)
 
   gives-ok : {u : ℕ} {a r : Parsed} → ok a ≡ ok r → Gives u a → Gives u r
   gives-ok {u} e g = subst (Gives u) (ok-inj e) g
@@ -144,8 +152,7 @@ module _ (book : Book) (text : List ℕ) where
   unfolding complete
   complete-gives {u} j x items set s r l b e =
       after _ _ e (λ m valued next. after _ _ next (λ more joined is.
-      gives-ok text is (gives-set text (λ q n.
-      either (add-joins (m .state) set _ joined .out q n) (λ o. b q o) (λ o. subst (λ (z : Parse ℕ). u ≤ z .rest) (sym (List·Memᴰ·eq-of-singleton o)) l)))))
+      gives-ok text is (gives-set text (behind-add text (m .state) set _ joined b l))))
 
   -- ---- A call
   module _ (f : Runner) (good : Good f) where
@@ -175,7 +182,7 @@ module _ (book : Book) (text : List ℕ) where
         (λ t. gives-ok text (rw t at next) (gives-set text (h .mine)))
         (λ t. after _ _ (rw t at next) (λ all joined more.
         rounds-give n (withMine c all) m (a .state) r
-        (record { around = h .around; mine = λ p i. either (add-all-joins (a .state) (c .mine) (a .set) joined .out p i) (λ o. h .mine p o) (λ o. g .set p o) }) more)))
+        (record { around = h .around; mine = behind-all text (a .state) (c .mine) (a .set) joined (h .mine) (g .set) }) more)))
 
     run-call-gives : (c : Call) (m : ℕ) (s : State) (r : Parsed) → Ready text c → runCall book text f c m s ≡ ok r → Gives text (c .start) r
     unfolding runCall
@@ -210,6 +217,28 @@ module _ (book : Book) (text : List ℕ) where
 
   -- a step is skipped to, and never back
   module _ (c : Call) (h : Ready text c) where
+    -- no use around the child begins after it
+    pub around-child : (j x : ℕ) → c .start ≤ x →
+        Around text (useOf book (c .nonterminal) (c .start) j (skipFrom text x) ∷ c .path) (c .mine ∷ c .stored) (skipFrom text x)
+    around-child j x l =
+        let on = skip-forward text x in
+        record { skipped = skip-twice text x; starts = λ f m. begins (omega arith) f m; stored = λ i f Q a. sets i f Q a }
+      where
+        begins : {u : ℕ} → c .start ≤ u → (f : Use) → f ∈ (useOf book (c .nonterminal) (c .start) j (skipFrom text x) ∷ c .path) → f .start ≤ u
+        begins k f (List·Memᴰ·head e) = let is = ap (λ (z : Use). z .start) e in omega arith
+        begins k f (List·Memᴰ·tail m) = let less = h .around .starts f m in omega arith
+
+        sets : (i : ℕ) (f : Use) (Q : Path) → At (useOf book (c .nonterminal) (c .start) j (skipFrom text x) ∷ c .path) i f Q →
+            Behind text (f .start) (nth (c .mine ∷ c .stored) i)
+        sets zero f Q here = h .mine
+        sets (suc i) f Q (there a) = h .around .stored i f Q a
+
+    -- if a use around the child begins where the child does, so does the call
+    pub child-at-start : (j x : ℕ) → c .start ≤ x → (f : Use) → f ∈ (useOf book (c .nonterminal) (c .start) j (skipFrom text x) ∷ c .path) →
+        f .start ≡ skipFrom text x → skipFrom text x ≡ c .start
+    child-at-start j x l f (List·Memᴰ·head e) s = sym s ∙ ap (λ (z : Use). z .start) e
+    child-at-start j x l f (List·Memᴰ·tail m) s = let less = h .around .starts f m in let on = skip-forward text x in omega arith
+
     plain-next-good : (j : ℕ) (rest : List (Todo ℕ)) (items : ℕ) → GoodNext c (plainNext book text c j rest items)
     unfolding plainNext
     plain-next-good j rest items q s f set r good l b e =
@@ -296,28 +325,12 @@ module _ (book : Book) (text : List ℕ) where
           (λ fine. follow-gives next good (a .set) set (a .state) r (g .set) b (rw fine at e))
           (λ d failed. gives-ok text (rw failed at e) (record { set = b; failure = subst (Fails text) failed (g .failure) }))
 
-      -- no use around the child begins after it
-      around-child : (j x : ℕ) → c .start ≤ x →
-          Around text (useOf book (c .nonterminal) (c .start) j (skipFrom text x) ∷ c .path) (c .mine ∷ c .stored) (skipFrom text x)
-      around-child j x l =
-          let on = skip-forward text x in
-          record { skipped = skip-twice text x; starts = λ f m. begins (omega arith) f m; stored = λ i f Q a. sets i f Q a }
-        where
-          begins : {u : ℕ} → c .start ≤ u → (f : Use) → f ∈ (useOf book (c .nonterminal) (c .start) j (skipFrom text x) ∷ c .path) → f .start ≤ u
-          begins k f (List·Memᴰ·head e) = let is = ap (λ (z : Use). z .start) e in omega arith
-          begins k f (List·Memᴰ·tail m) = let less = h .around .starts f m in omega arith
-
-          sets : (i : ℕ) (f : Use) (Q : Path) → At (useOf book (c .nonterminal) (c .start) j (skipFrom text x) ∷ c .path) i f Q →
-              Behind text (f .start) (nth (c .mine ∷ c .stored) i)
-          sets zero f Q here = h .mine
-          sets (suc i) f Q (there a) = h .around .stored i f Q a
-
       child-gives : (j M x : ℕ) (next : Next) → GoodNext c next → (set : List (Parse ℕ)) (s : State) (a r : Parsed) → c .start ≤ x → Behind text (c .start) set →
           enterChild book text inner c j M x s ≡ ok a → followed book text inner next set a ≡ ok r → Gives text (c .start) r
       unfolding enterChild
       child-gives j M x next good set s a r l b entered e =
           let on = skip-forward text x in
-          let g = enter-gives _ (c .mine ∷ c .stored) M (skipFrom text x) s a (around-child j x l) entered in
+          let g = enter-gives _ (c .mine ∷ c .stored) M (skipFrom text x) s a (around-child c h j x l) entered in
           followed-gives next good set a r b (record { set = λ p m. let k = g .set p m in omega arith; failure = g .failure }) e
 
       -- both sides of a choice

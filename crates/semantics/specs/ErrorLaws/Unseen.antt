@@ -1,0 +1,500 @@
+-- The error of a re-entry, and that of a claimed name, are never seen: with any errors in their place, of whatever kind and argument, the run is the same (`run-with`).
+--
+-- The plan. `runWith` is the run with errors that are told; `run-with` itself holds it to the run's definition. What is left of a variant then gives the same parses in the same state, and failures that its call can't tell
+-- apart (`Like`); so the call gives the very same (`Same`), since it counts only what stands beyond its start. Each part of the run has one law.
+use mathlib.Core.Path.{_≡_, refl, sym, _∙_, ap, subst}
+use mathlib.Core.Bool.{Bool, true, false, and-eq-true-iff}
+use mathlib.Core.List.{List, [], _∷_, List·Memᴰ·head, List·Memᴰ·tail, List·Memᴰ·not-nil, List·Memᴰ·eq-of-singleton}
+use mathlib.Core.Option.{Option, none, some}
+use Prim.Native.Nat.{ℕ, zero, suc, _≤_}
+use native.Mathlib.Omega.{arith}
+use lib.Dec.{leb}
+use lib.ListN.{getD}
+use Rattle.characters.specs.Cases.{by-test}
+use Rattle.characters.specs.Skipping.{skipFrom}
+use Rattle.characters.specs.SkippingLaws.{skip-forward, skip-twice}
+use Rattle.book.specs.Book.{Book, nthNonterminal, nthVariant}
+use Rattle.book.specs.declared.records.Step.{Step}
+use Rattle.semantics.specs.Numbers.{mostNesting, mostRounds}
+use Rattle.semantics.specs.Values.{Parse}
+use Rattle.semantics.specs.Uses.{Use, Path, base, useOf, hasMark, minimum, same-start, governor, keeps}
+use Rattle.semantics.specs.Tokens.{when, isSome, freeEnd, variableAt, hasClaimant, claimed}
+use Rattle.semantics.specs.Steps.{Taken, stepAt, afterElement, closed, Todo, taking, elements, ending, todoOf}
+use Rattle.semantics.specs.Cells.{Cell}
+use Rattle.semantics.specs.Errors.{Error, joinWith, stepError}
+use Rattle.semantics.specs.Run.{Result, met, ok, _>>=_, State, Parsed, parsed, Call, call, withMine, Runner, Go, Next, allIn, kept, ask, newest, others, withAsked}
+use Rattle.semantics.specs.Run.{add, addAll, spend, make, failedCall, either as eitherError, chosen, begin, withCell, withToken, complete, counted, variants, oneRun}
+use Rattle.semantics.specs.Run.{rounds, runCall, named, runIdentifier, plainNext, listNext, stops, nested, reentry, enter, enterChild, followMore, follow, followed}
+use Rattle.semantics.specs.Run.{stepUnit, orAbsent, choice, listing, steps, runner, run}
+use Rattle.semantics.specs.Answer.{atEnd}
+use Rattle.semantics.specs.Theorem.Lists.{_∈_, sift-out, nth}
+use Rattle.semantics.specs.Theorem.Results.{option-cases, list-cases, governor-cases, after-cases, taken-cases}
+use Rattle.semantics.specs.Theorem.Sets.{kept-sift}
+use Rattle.semantics.specs.Theorem.Sound.{At, gov-at}
+use Rattle.semantics.specs.Theorem.Tokens.{free-end-within}
+use Rattle.semantics.specs.ErrorLaws.{Alike, alike-join, alike-choice, alike-counted}
+use Rattle.semantics.specs.ErrorLaws.Places.{at-in, gov-start, claimant, closed-forward, Onward, after-onward, step-forward}
+use Rattle.semantics.specs.ErrorLaws.Skipped.{Behind, nothing-behind, behind-add, behind-all, Around, Ready, around-child, child-at-start}
+
+-- ---- The run, with errors told for re-entries and claimed names
+module _ (told : ℕ → ℕ → Error) (book : Book) (text : List ℕ) (inner : Option Runner) where
+  identifierWith : Call → State → Result Parsed
+  identifierWith c s =
+      when (claimed book text (c .path) base (c .start))
+      (λ _. ok (parsed [] (some (told (c .start) (c .nonterminal))) s))
+      (λ _. named book text c s (freeEnd book text (c .start)))
+
+  enterWith : Path → List (List (Parse ℕ)) → ℕ → ℕ → State → Result Parsed
+  enterWith path sets N u s₀ = do
+    s ← spend s₀
+    elim (governor path base N u) [
+      | same-start i f around ↦ ok (reentry book text inner (kept f (getD sets i [])) (told u N) (withAsked s (ask i (s .asked))))
+      | minimum m ↦ nested book text inner s (λ run.
+          let c = call path sets N u [] in
+          when (hasMark book 2 N) (λ _. identifierWith c s)
+          (λ _. do
+            r ← runCall book text run c m (withAsked s (false ∷ s .asked))
+            ok (parsed (r .set) (r .failure) (withAsked (r .state) (others (r .state .asked))))))
+    ]
+
+  enterChildWith : Call → ℕ → ℕ → ℕ → State → Result Parsed
+  enterChildWith c j M x s =
+      let at = skipFrom text x in
+      enterWith (useOf book (c .nonterminal) (c .start) j at ∷ c .path) (c .mine ∷ c .stored) M at s
+
+  orAbsentWith : Call → ℕ → ℕ → List (Todo ℕ) → Go → Go
+  orAbsentWith c j M rest go x items set s = do
+    absent ← make text Cell.absent s
+    m ← withCell book text j items (absent .cell) (absent .state)
+    a ← go x (m .cell) set (m .state)
+    r ← enterChildWith c j M x (a .state)
+    b ← followed book text inner (plainNext book text c j rest items) (a .set) r
+    ok (chosen c (skipFrom text x) (a .failure) b)
+
+  choiceWith : Call → ℕ → Bool → ℕ → ℕ → Option ℕ → List (Todo ℕ) → Go → Go
+  choiceWith c j comma M values close rest go x items set s₀ = do
+    s ← spend s₀
+    a ← stops book text j values close go x items set s
+    r ← enterChildWith c j M x (a .state)
+    b ← followed book text inner (listNext book text c j comma M values close rest items) (a .set) r
+    ok (chosen c (skipFrom text x) (a .failure) b)
+
+  stepsWith : Runner
+  stepsWith c j [] x items set s = complete book text j x items set s
+  stepsWith c j (elements comma M values close ∷ rest) x items set s = choiceWith c j comma M values close rest (stepsWith c j rest) x items set s
+  stepsWith c j (ending values close ∷ rest) x items set s = stops book text j values close (stepsWith c j rest) x items set s
+  stepsWith c j (taking step ∷ rest) x items set s₀ = do
+    s ← stepUnit book text inner step s₀
+    elim (stepAt book text step x) [
+      | Taken.nothing ↦ ok (parsed set (some (stepError book text step (skipFrom text x))) s)
+      | Taken.token t ↦ withToken book text j items (t .item) s >>= (λ m. stepsWith c j rest (t .next) (m .cell) set (m .state))
+      | Taken.child M ↦ enterChildWith c j M x s >>= (λ r. followed book text inner (plainNext book text c j rest items) set r)
+      | Taken.optional M ↦ orAbsentWith c j M rest (stepsWith c j rest) x items set s
+      | Taken.list comma M close y ↦
+          make text Cell.empty s >>= (λ e. choiceWith c j comma M (e .cell) close rest (stepsWith c j rest) y items set (e .state))
+      | Taken.unopened y ↦ make text Cell.empty s >>= (λ e. stops book text j (e .cell) none (stepsWith c j rest) y items set (e .state))
+    ]
+
+module _ (told : ℕ → ℕ → Error) (book : Book) (text : List ℕ) where
+  runnerWith : ℕ → Option Runner
+  runnerWith zero = none
+  runnerWith (suc n) = some (stepsWith told book text (runnerWith n))
+
+  pub runWith : ℕ → ℕ → Result Parsed
+  runWith units start =
+      enterWith told book text (runnerWith mostNesting) [] [] start (skipFrom text 0) (record { units = units; cells = []; asked = [] })
+
+-- ---- Failures and results that are alike
+-- both or neither, and a call that begins at the place can't tell them apart
+data Both (place : ℕ) : Option Error → Option Error → Type 0 where
+  neither : Both place none none
+  both : {a b : Error} → Alike place a b → Both place (some a) (some b)
+
+both-same : {place : ℕ} (o : Option Error) → Both place o o
+both-same none = neither
+both-same (some e) = both (record { at = refl; beyond-it = λ far. refl })
+
+both-either : (place : ℕ) {a b c d : Option Error} → Both place a b → Both place c d → Both place (eitherError a c) (eitherError b d)
+unfolding eitherError
+both-either place neither k = neither
+both-either place (both h) neither = neither
+both-either place (both {a} {b} h) (both {a = c} {b = d} k) = both (alike-join place a b c d h k)
+
+module _ (text : List ℕ) where
+  -- the same result, or the same limit
+  data Same (u : ℕ) : Result Parsed → Result Parsed → Type 0 where
+    same-limit : {number units : ℕ} → Same u (met number units) (met number units)
+    same-result : {r : Parsed} → Behind text u (r .set) → Same u (ok r) (ok r)
+
+  -- the same but for failures
+  data Like (u : ℕ) : Result Parsed → Result Parsed → Type 0 where
+    like-limit : {number units : ℕ} → Like u (met number units) (met number units)
+    like-result : {set : List (Parse ℕ)} {s : State} {d e : Option Error} → Behind text u set → Both u d e → Like u (ok (parsed set d s)) (ok (parsed set e s))
+
+  same-is : {u : ℕ} {x y : Result Parsed} → Same u x y → x ≡ y
+  same-is same-limit = refl
+  same-is (same-result b) = refl
+
+  -- seen from a call that began before
+  same-like : {u v : ℕ} {x y : Result Parsed} → v ≤ u → Same u x y → Like v x y
+  same-like l same-limit = like-limit
+  same-like l (same-result {r} b) = like-result (λ p m. let k = b p m in omega arith) (both-same (r .failure))
+
+  -- a part that is the same on both sides, and then others
+  same-next : {u : ℕ} {A : Type 0} (m : Result A) (f g : A → Result Parsed) → ((a : A) → m ≡ ok a → Same u (f a) (g a)) → Same u (m >>= f) (m >>= g)
+  unfolding _>>=_
+  same-next (met number units) f g k = same-limit
+  same-next (ok a) f g k = k a refl
+
+  like-next : {u : ℕ} {A : Type 0} (m : Result A) (f g : A → Result Parsed) → ((a : A) → m ≡ ok a → Like u (f a) (g a)) → Like u (m >>= f) (m >>= g)
+  unfolding _>>=_
+  like-next (met number units) f g k = like-limit
+  like-next (ok a) f g k = k a refl
+
+  same-bind : {v u : ℕ} {x y : Result Parsed} (f g : Parsed → Result Parsed) → Same v x y → ((r : Parsed) → Behind text v (r .set) → Same u (f r) (g r)) →
+      Same u (x >>= f) (y >>= g)
+  unfolding _>>=_
+  same-bind f g same-limit k = same-limit
+  same-bind f g (same-result {r} b) k = k r b
+
+  like-bind : {v u : ℕ} {x y : Result Parsed} (f g : Parsed → Result Parsed) → Like v x y →
+      ((set : List (Parse ℕ)) (s : State) (d e : Option Error) → Behind text v set → Both v d e → Like u (f (parsed set d s)) (g (parsed set e s))) →
+      Like u (x >>= f) (y >>= g)
+  unfolding _>>=_
+  like-bind f g like-limit k = like-limit
+  like-bind f g (like-result {set} {s} {d} {e} b h) k = k set s d e b h
+
+  like-same : {v u : ℕ} {x y : Result Parsed} (f g : Parsed → Result Parsed) → Like v x y →
+      ((set : List (Parse ℕ)) (s : State) (d e : Option Error) → Behind text v set → Both v d e → Same u (f (parsed set d s)) (g (parsed set e s))) →
+      Same u (x >>= f) (y >>= g)
+  unfolding _>>=_
+  like-same f g like-limit k = same-limit
+  like-same f g (like-result {set} {s} {d} {e} b h) k = k set s d e b h
+
+  -- ---- What a part is given to run
+  abbrev LikeRunner : Runner → Runner → Type 0
+  LikeRunner f g = (c : Call) (j : ℕ) (todo : List (Todo ℕ)) (x items : ℕ) (set : List (Parse ℕ)) (s : State) → Ready text c → c .start ≤ x →
+      Behind text (c .start) set → Like (c .start) (f c j todo x items set s) (g c j todo x items set s)
+
+  data LikeInner : Option Runner → Option Runner → Type 0 where
+    deepest : LikeInner none none
+    deeper : {f g : Runner} → LikeRunner f g → LikeInner (some f) (some g)
+
+  abbrev LikeGo : Call → Go → Go → Type 0
+  LikeGo c go go′ = (x items : ℕ) (set : List (Parse ℕ)) (s : State) → c .start ≤ x → Behind text (c .start) set →
+      Like (c .start) (go x items set s) (go′ x items set s)
+
+  abbrev LikeNext : Call → Next → Type 0
+  LikeNext c next = (q : Parse ℕ) (s : State) (f g : Runner) (set : List (Parse ℕ)) → LikeRunner f g → c .start ≤ q .rest → Behind text (c .start) set →
+      Like (c .start) (next q s f set) (next q s g set)
+
+module _ (book : Book) (text : List ℕ) where
+  -- a call counts the same of failures that are alike to it
+  both-counted : (c : Call) (j : ℕ) {d e : Option Error} → Both (c .start) d e → counted book text c j d ≡ counted book text c j e
+  both-counted c j neither = refl
+  both-counted c j (both {a} {b} h) = alike-counted book text c j a b h
+
+  chosen-like : {u : ℕ} (c : Call) (at : ℕ) {d e d′ e′ : Option Error} (set : List (Parse ℕ)) (s : State) → u ≤ at → Both u d e → Behind text u set → Both u d′ e′ →
+      Like text u (ok (chosen c at d (parsed set d′ s))) (ok (chosen c at e (parsed set e′ s)))
+  unfolding chosen
+  chosen-like c at set s l neither b k = like-result b neither
+  chosen-like c at set s l (both h) b neither = like-result b neither
+  chosen-like {u} c at set s l (both {a} {b = a′} h) b (both {a = o} {b = o′} k) =
+      rw (alike-choice u at (c .nonterminal) a a′ o o′ l h k) (like-result b (both-same _))
+
+  complete-like : {u : ℕ} (j x items : ℕ) (set : List (Parse ℕ)) (s : State) → u ≤ x → Behind text u set →
+      Like text u (complete book text j x items set s) (complete book text j x items set s)
+  unfolding complete
+  complete-like {u} j x items set s l b =
+      like-next text _ _ _ (λ m valued. like-next text (add (m .state) set _) _ _ (λ more joined. like-result (behind-add text (m .state) set _ joined b l) neither))
+
+  -- ---- A call
+  module _ (f g : Runner) (like : LikeRunner text f g) where
+    variants-same : (c : Call) (m n j : ℕ) (set : List (Parse ℕ)) (o : Option Error) (s : State) → Ready text c → Behind text (c .start) set →
+        Same text (c .start) (variants book text f c m n j set o s) (variants book text g c m n j set o s)
+    unfolding variants
+    variants-same c m zero j set o s h b = same-result b
+    variants-same c m (suc n) j set o s h b =
+        by-test (leb m (nthVariant book j .level))
+        (λ t. rw t (same-next text (begin book text j s) _ _ (λ a begun.
+        like-same text _ _ (like c j (todoOf book (nthVariant book j)) (c .start) (a .cell) set (a .state) h (omega arith) b) (λ more s′ d e b′ k.
+        rw (both-counted c j k) (variants-same c m n (suc j) more (joinWith o (counted book text c j e)) s′ h b′)))))
+        (λ t. rw t (variants-same c m n (suc j) set o s h b))
+
+    one-run-same : (c : Call) (m : ℕ) (s : State) → Ready text c → Same text (c .start) (oneRun book text f c m s) (oneRun book text g c m s)
+    unfolding oneRun
+    one-run-same c m s h =
+        variants-same c m (nthNonterminal book (c .nonterminal) .count) (nthNonterminal book (c .nonterminal) .first) [] none s h (nothing-behind text)
+
+    rounds-same : (n : ℕ) (c : Call) (m : ℕ) (s : State) → Ready text c → Same text (c .start) (rounds book text n f c m s) (rounds book text n g c m s)
+    unfolding rounds
+    rounds-same zero c m s h = same-limit
+    rounds-same (suc n) c m s h =
+        same-bind text _ _ (one-run-same c m s h) (λ r b.
+        by-test (allIn (c .mine) (r .set))
+        (λ t. rw t (same-result (h .mine)))
+        (λ t. rw t (same-next text (addAll (r .state) (c .mine) (r .set)) _ _ (λ all joined.
+        rounds-same n (withMine c all) m (r .state) (record { around = h .around; mine = behind-all text (r .state) (c .mine) (r .set) joined (h .mine) b })))))
+
+    run-call-same : (c : Call) (m : ℕ) (s : State) → Ready text c → Same text (c .start) (runCall book text f c m s) (runCall book text g c m s)
+    unfolding runCall
+    run-call-same c m s h =
+        same-bind text _ _ (one-run-same c m s h) (λ r b.
+        list-cases (r .set)
+        (λ empty. rw empty (same-result (nothing-behind text)))
+        (λ p ps found. by-test (newest (r .state .asked))
+        (λ t. rw (found, t) (rounds-same mostRounds (withMine c (r .set)) m (r .state) (record { around = h .around; mine = b })))
+        (λ t. rw (found, t) (same-result b))))
+
+  -- a name that is read
+  named-same : (c : Call) (s : State) → Same text (c .start) (named book text c s (freeEnd book text (c .start))) (named book text c s (freeEnd book text (c .start)))
+  unfolding named
+  named-same c s =
+      option-cases (freeEnd book text (c .start))
+      (λ nowhere. rw nowhere (same-result (nothing-behind text)))
+      (λ end there. let within = free-end-within book text (c .start) end there .0 in
+      let l : c .start ≤ end = omega arith in
+      rw there (same-next text (make text _ s) _ _ (λ m made.
+      same-result (λ p n. subst (λ (z : Parse ℕ). c .start ≤ z .rest) (sym (List·Memᴰ·eq-of-singleton n)) l))))
+
+  -- ---- What follows a parse
+  module _ (c : Call) (h : Ready text c) where
+    plain-next-like : (j : ℕ) (rest : List (Todo ℕ)) (items : ℕ) → LikeNext text c (plainNext book text c j rest items)
+    unfolding plainNext
+    plain-next-like j rest items q s f g set like l b =
+        like-next text (withCell book text j items (q .value) s) _ _ (λ m linked. like c j rest (q .rest) (m .cell) set (m .state) h l b)
+
+    list-next-like : (j : ℕ) (comma : Bool) (M values : ℕ) (close : Option ℕ) (rest : List (Todo ℕ)) (items : ℕ) →
+        LikeNext text c (listNext book text c j comma M values close rest items)
+    unfolding listNext
+    list-next-like j comma M values close rest items q s f g set like l b =
+        like-next text (make text (Cell.chain values (q .value)) s) _ _ (λ m linked.
+        after-cases (afterElement text comma (q .rest))
+        (λ y there. let on : q .rest ≤ y = subst (Onward text (q .rest)) there (after-onward text comma (q .rest)) in
+        rw there (like c j (elements comma M (m .cell) close ∷ rest) y items set (m .state) h (omega arith) b))
+        (λ y there. let on : q .rest ≤ y = subst (Onward text (q .rest)) there (after-onward text comma (q .rest)) in
+        rw there (like c j (ending (m .cell) close ∷ rest) y items set (m .state) h (omega arith) b)))
+
+    stops-like : (j values : ℕ) (close : Option ℕ) (go go′ : Go) → LikeGo text c go go′ →
+        LikeGo text c (stops book text j values close go) (stops book text j values close go′)
+    unfolding stops
+    stops-like j values close go go′ like x items set s l b =
+        like-next text (make text (Cell.list values) s) _ _ (λ a listed.
+        option-cases (closed text close x)
+        (λ unclosed. rw unclosed (like-result b (both-same _)))
+        (λ y there. let on = closed-forward text close x y there in
+        rw there (like-next text (withCell book text j items (a .cell) (a .state)) _ _ (λ m linked. like y (m .cell) set (m .state) (omega arith) b))))
+
+  -- ---- One level of nesting
+  module _ (told : ℕ → ℕ → Error) (there : (u N : ℕ) → told u N .place ≡ u) (inner inner′ : Option Runner) (likes : LikeInner text inner inner′) where
+    nested-same : {u : ℕ} (s : State) (k k′ : Runner → Result Parsed) → ((f g : Runner) → LikeRunner text f g → Same text u (k f) (k′ g)) →
+        Same text u (nested book text inner s k) (nested book text inner′ s k′)
+    unfolding nested
+    nested-same {u} s k k′ h = by likes
+      where
+        by : {o o′ : Option Runner} → LikeInner text o o′ → Same text u (elim o [ some run ↦ k run | none ↦ met 21 (s .units) ]) (elim o′ [ some run ↦ k′ run | none ↦ met 21 (s .units) ])
+        by deepest = same-limit
+        by (deeper {f} {g} like) = h f g like
+
+    nested-like : {u : ℕ} (s : State) (k k′ : Runner → Result Parsed) → ((f g : Runner) → LikeRunner text f g → Like text u (k f) (k′ g)) →
+        Like text u (nested book text inner s k) (nested book text inner′ s k′)
+    unfolding nested
+    nested-like {u} s k k′ h = by likes
+      where
+        by : {o o′ : Option Runner} → LikeInner text o o′ → Like text u (elim o [ some run ↦ k run | none ↦ met 21 (s .units) ]) (elim o′ [ some run ↦ k′ run | none ↦ met 21 (s .units) ])
+        by deepest = like-limit
+        by (deeper {f} {g} like) = h f g like
+
+    -- at a place where uses around it may begin: then the call that asks begins there too
+    module _ (P : Path) (S : List (List (Parse ℕ))) (N u : ℕ) (h : Around text P S u) where
+      opened : Ready text (call P S N u [])
+      opened = record { around = h; mine = nothing-behind text }
+
+      -- the runs of a call
+      called-same : (s : State) (m : ℕ) (f g : Runner) → LikeRunner text f g →
+          Same text u
+          (runCall book text f (call P S N u []) m (withAsked s (false ∷ s .asked)) >>= (λ r. ok (parsed (r .set) (r .failure) (withAsked (r .state) (others (r .state .asked))))))
+          (runCall book text g (call P S N u []) m (withAsked s (false ∷ s .asked)) >>= (λ r. ok (parsed (r .set) (r .failure) (withAsked (r .state) (others (r .state .asked))))))
+      called-same s m f g like =
+          same-bind text _ _ (run-call-same f g like (call P S N u []) m (withAsked s (false ∷ s .asked)) opened) (λ r b. same-result b)
+
+      unclaimed-same : (s : State) → claimed book text P base u ≡ false →
+          Same text u (identifierWith told book text inner (call P S N u []) s) (runIdentifier book text (call P S N u []) s)
+      unfolding identifierWith runIdentifier
+      unclaimed-same s free = rw free (named-same (call P S N u []) s)
+
+      reentry-like : {v : ℕ} (l : List (Parse ℕ)) (a b : Error) (s : State) → Behind text v l → Alike v a b →
+          Like text v (ok (reentry book text inner l a s)) (ok (reentry book text inner′ l b s))
+      unfolding reentry
+      reentry-like [] a b s k alike = like-result k (both alike)
+      reentry-like (p ∷ ps) a b s k alike = like-result k neither
+
+      -- a call that no use around it can answer or claim
+      enter-same : ((f : Use) → f ∈ P → f .start ≡ u → ⊥) → (s : State) → Same text u (enterWith told book text inner P S N u s) (enter book text inner′ P S N u s)
+      unfolding enterWith enter
+      enter-same alone s₀ =
+          same-next text (spend s₀) _ _ (λ s spent.
+          governor-cases (governor P base N u)
+          (λ m gov. rw gov (nested-same s _ _ (λ f g like.
+          by-test (hasMark book 2 N)
+          (λ mark. rw mark (unclaimed-same s unclaimed))
+          (λ mark. rw mark (called-same s m f g like)))))
+          (λ i f Q gov. absurd (alone f (at-in (gov-at P N u gov)) (gov-start P N u gov))))
+        where
+          unclaimed : claimed book text P base u ≡ false
+          unclaimed = by-test (claimed book text P base u) (λ t. absurd (claims t)) (λ t. t)
+            where
+              claims : claimed book text P base u ≡ true → ⊥
+              claims t =
+                  let k = claimant book text P base u (and-eq-true-iff (isSome (variableAt book text u)) (hasClaimant book text P base u) .0 t .1) in
+                  alone (k .by) (k .member) (k .start)
+
+      -- a child's call, of a call that begins at v, where every use around it that begins there makes the call begin there too
+      module _ (v : ℕ) (l : v ≤ u) (starts : (f : Use) → f ∈ P → f .start ≡ u → u ≡ v) where
+        alike-there : (a b : Error) → u ≡ v → a .place ≡ u → b .place ≡ u → Alike v a b
+        alike-there a b s h k = record { at = h ∙ sym k; beyond-it = λ far. absurd (omega arith) }
+
+        claimed-like : (s : State) → Like text v (identifierWith told book text inner (call P S N u []) s) (runIdentifier book text (call P S N u []) s)
+        unfolding identifierWith runIdentifier named failedCall
+        claimed-like s =
+            by-test (claimed book text P base u)
+            (λ t. rw t (like-result (nothing-behind text) (both (alike-there _ _ (claims t) (there u N) refl))))
+            (λ t. same-like text l (unclaimed-same s t))
+          where
+            claims : claimed book text P base u ≡ true → u ≡ v
+            claims t =
+                let k = claimant book text P base u (and-eq-true-iff (isSome (variableAt book text u)) (hasClaimant book text P base u) .0 t .1) in
+                starts (k .by) (k .member) (k .start)
+
+        stored : (i : ℕ) (f : Use) (Q : Path) → governor P base N u ≡ same-start i f Q → Behind text v (kept f (nth S i))
+        stored i f Q gov p m =
+            let k = sift-out (keeps f) (nth S i) (subst (λ z. p ∈ z) (kept-sift f (nth S i)) m) .0 in
+            let least = h .stored i f Q (gov-at P N u gov) p k in
+            let start = gov-start P N u gov in
+            omega arith
+
+        enter-like : (s : State) → Like text v (enterWith told book text inner P S N u s) (enter book text inner′ P S N u s)
+        unfolding enterWith enter
+        enter-like s₀ =
+            like-next text (spend s₀) _ _ (λ s spent.
+            governor-cases (governor P base N u)
+            (λ m gov. rw gov (nested-like s _ _ (λ f g like.
+            by-test (hasMark book 2 N)
+            (λ mark. rw mark (claimed-like s))
+            (λ mark. rw mark (same-like text l (called-same s m f g like))))))
+            (λ i f Q gov. rw gov (reentry-like (kept f (nth S i)) _ _ _ (stored i f Q gov)
+            (alike-there _ _ (starts f (at-in (gov-at P N u gov)) (gov-start P N u gov)) (there u N) refl))))
+
+    -- ---- A child and what follows its parses
+    module _ (c : Call) (h : Ready text c) where
+      child-like : (j M x : ℕ) (s : State) → c .start ≤ x →
+          Like text (c .start) (enterChildWith told book text inner c j M x s) (enterChild book text inner′ c j M x s)
+      unfolding enterChildWith enterChild
+      child-like j M x s l =
+          let on = skip-forward text x in
+          enter-like _ (c .mine ∷ c .stored) M (skipFrom text x) (around-child book text c h j x l) (c .start) (omega arith)
+          (λ f m e. child-at-start book text c h j x l f m e) s
+
+      follow-more-like : (next : Next) → LikeNext text c next → (qs set : List (Parse ℕ)) (d e : Option Error) (s : State) → Behind text (c .start) qs →
+          Behind text (c .start) set → Both (c .start) d e →
+          Like text (c .start) (followMore book text inner next qs set d s) (followMore book text inner′ next qs set e s)
+      unfolding followMore
+      follow-more-like next like [] set d e s q b k = like-result b k
+      follow-more-like next like (p ∷ qs) set d e s q b k =
+          like-bind text _ _ (nested-like s _ _ (λ f g runs. like p s f g set runs (q p (List·Memᴰ·head refl)) b)) (λ more s′ d′ e′ b′ k′.
+          follow-more-like next like qs more (eitherError d d′) (eitherError e e′) s′ (λ o m. q o (List·Memᴰ·tail m)) b′ (both-either (c .start) k k′))
+
+      follow-like : (next : Next) → LikeNext text c next → (qs set : List (Parse ℕ)) (s : State) → Behind text (c .start) qs → Behind text (c .start) set →
+          Like text (c .start) (follow book text inner next qs set s) (follow book text inner′ next qs set s)
+      unfolding follow
+      follow-like next like [] set s q b = like-result b neither
+      follow-like next like (p ∷ qs) set s q b =
+          like-bind text _ _ (nested-like s _ _ (λ f g runs. like p s f g set runs (q p (List·Memᴰ·head refl)) b)) (λ more s′ d′ e′ b′ k′.
+          follow-more-like next like qs more d′ e′ s′ (λ o m. q o (List·Memᴰ·tail m)) b′ k′)
+
+      followed-like : (next : Next) → LikeNext text c next → (set qs : List (Parse ℕ)) (s : State) {d e : Option Error} → Behind text (c .start) set →
+          Behind text (c .start) qs → Both (c .start) d e →
+          Like text (c .start) (followed book text inner next set (parsed qs d s)) (followed book text inner′ next set (parsed qs e s))
+      unfolding followed
+      followed-like next like set qs s b q neither = follow-like next like qs set s q b
+      followed-like next like set qs s b q (both k) = like-result b (both k)
+
+      -- both sides of a choice, after the first
+      sides-like : (j M x : ℕ) (next : Next) → LikeNext text c next → (set : List (Parse ℕ)) (s : State) {d e : Option Error} → c .start ≤ x → Behind text (c .start) set →
+          Both (c .start) d e →
+          Like text (c .start)
+          (enterChildWith told book text inner c j M x s >>= (λ r. followed book text inner next set r >>= (λ b. ok (chosen c (skipFrom text x) d b))))
+          (enterChild book text inner′ c j M x s >>= (λ r. followed book text inner′ next set r >>= (λ b. ok (chosen c (skipFrom text x) e b))))
+      sides-like j M x next like set s l b k =
+          let on = skip-forward text x in
+          like-bind text _ _ (child-like j M x s l) (λ qs s′ d′ e′ q k′.
+          like-bind text _ _ (followed-like next like set qs s′ b q k′) (λ more s″ d″ e″ b″ k″.
+          chosen-like c (skipFrom text x) more s″ (omega arith) k b″ k″))
+
+      -- ---- Steps
+      module _ (j : ℕ) (rest : List (Todo ℕ)) (go go′ : Go) (like : LikeGo text c go go′) where
+        or-absent-like : (M : ℕ) → LikeGo text c (orAbsentWith told book text inner c j M rest go) (orAbsent book text inner′ c j M rest go′)
+        unfolding orAbsentWith orAbsent
+        or-absent-like M x items set s l b =
+            like-next text (make text Cell.absent s) _ _ (λ absent missing.
+            like-next text (withCell book text j items (absent .cell) (absent .state)) _ _ (λ m linked.
+            like-bind text _ _ (like x (m .cell) set (m .state) l b) (λ more s′ d e b′ k.
+            sides-like j M x (plainNext book text c j rest items) (plain-next-like c h j rest items) more s′ l b′ k)))
+
+        choice-like : (comma : Bool) (M values : ℕ) (close : Option ℕ) →
+            LikeGo text c (choiceWith told book text inner c j comma M values close rest go) (choice book text inner′ c j comma M values close rest go′)
+        unfolding choiceWith choice
+        choice-like comma M values close x items set s₀ l b =
+            like-next text (spend s₀) _ _ (λ s spent.
+            like-bind text _ _ (stops-like c h j values close go go′ like x items set s l b) (λ more s′ d e b′ k.
+            sides-like j M x (listNext book text c j comma M values close rest items) (list-next-like c h j comma M values close rest items) more s′ l b′ k))
+
+      take-like : (j : ℕ) (step : Step) (rest : List (Todo ℕ)) → LikeGo text c (stepsWith told book text inner c j rest) (steps book text inner′ c j rest) →
+          LikeGo text c (stepsWith told book text inner c j (taking step ∷ rest)) (steps book text inner′ c j (taking step ∷ rest))
+      unfolding stepsWith steps stepUnit listing
+      take-like j step rest like x items set s₀ l b =
+          like-next text (stepUnit book text inner step s₀) _ _ (λ s unit.
+          taken-cases (stepAt book text step x)
+          (λ takes. rw takes (like-result b (both-same _)))
+          (λ t takes. let on : x ≤ t .next = step-forward book text x step takes in
+          rw takes (like-next text (withToken book text j items (t .item) s) _ _ (λ m linked. like (t .next) (m .cell) set (m .state) (omega arith) b)))
+          (λ M takes. rw takes (like-bind text _ _ (child-like j M x s l) (λ qs s′ d e q k.
+          followed-like (plainNext book text c j rest items) (plain-next-like c h j rest items) set qs s′ b q k)))
+          (λ M takes. rw takes (or-absent-like j rest _ _ like M x items set s l b))
+          (λ comma M close y takes. let on : x ≤ y = step-forward book text x step takes in
+          rw takes (like-next text (make text Cell.empty s) _ _ (λ e begun. choice-like j rest _ _ like comma M (e .cell) close y items set (e .state) (omega arith) b)))
+          (λ y takes. let on : x ≤ y = step-forward book text x step takes in
+          rw takes (like-next text (make text Cell.empty s) _ _ (λ e begun. stops-like c h j (e .cell) none _ _ like y items set (e .state) (omega arith) b))))
+
+    steps-like : LikeRunner text (stepsWith told book text inner) (steps book text inner′)
+    unfolding stepsWith steps
+    steps-like c j [] x items set s h l b = complete-like j x items set s l b
+    steps-like c j (elements comma M values close ∷ rest) x items set s h l b =
+        choice-like c h j rest _ _ (λ y is u t k m. steps-like c j rest y is u t h k m) comma M values close x items set s l b
+    steps-like c j (ending values close ∷ rest) x items set s h l b =
+        stops-like c h j values close _ _ (λ y is u t k m. steps-like c j rest y is u t h k m) x items set s l b
+    steps-like c j (taking step ∷ rest) x items set s h l b = take-like c h j step rest (λ y is u t k m. steps-like c j rest y is u t h k m) x items set s l b
+
+  -- ---- The whole run
+  module _ (told : ℕ → ℕ → Error) (there : (u N : ℕ) → told u N .place ≡ u) where
+    runner-like : (n : ℕ) → LikeInner text (runnerWith told book text n) (runner book text n)
+    unfolding runnerWith runner
+    runner-like zero = deepest
+    runner-like (suc n) = deeper (steps-like told there (runnerWith told book text n) (runner book text n) (runner-like n))
+
+    none-around : {i : ℕ} {f : Use} {Q : Path} → At [] i f Q → ⊥
+    none-around a = elim a [ ]
+
+    -- whatever is told of re-entries and claimed names, at their places, the run is the same
+    pub run-with : (units start : ℕ) → runWith told book text units start ≡ run book text units start
+    unfolding runWith run
+    run-with units start =
+        same-is text
+        (enter-same told there (runnerWith told book text mostNesting) (runner book text mostNesting) (runner-like mostNesting) [] [] start (skipFrom text 0)
+        (record { skipped = skip-twice text 0; starts = λ f m. absurd (List·Memᴰ·not-nil m); stored = λ i f Q a. absurd (none-around a) })
+        (λ f m e. List·Memᴰ·not-nil m) _)
+
+    -- and so is the answer
+    pub answer-with : (cells parses : List ℕ) (start allowance : ℕ) →
+        atEnd cells parses text allowance (runWith told book text allowance start) ≡ atEnd cells parses text allowance (run book text allowance start)
+    answer-with cells parses start allowance = ap (atEnd cells parses text allowance) (run-with allowance start)
