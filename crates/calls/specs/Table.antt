@@ -10,6 +10,7 @@ use denote.Ref.{now}
 use mathlib.Core.Option.{Option, none, some}
 use Rattle.characters.specs.Slices.{Slice, Lent, atEntry, atExit, rowsSize}
 use Rattle.book.specs.Book.{Book}
+use Rattle.semantics.specs.Numbers.{mostNesting, tooManyParses}
 use Rattle.semantics.specs.Values.{Parse}
 use Rattle.semantics.specs.Cells.{Cell}
 use Rattle.semantics.specs.Errors.{Error}
@@ -37,15 +38,15 @@ table f = rowsFrom f 0 201
 -- ---- The slice that a function is lent
 -- the slice has its table, and the row is one of it
 abbrev pub InTable : ℕ → Slice → Type 0
-InTable row rows = (row ≤ 200) × (rowsSize ≤ length (now rows))
+InTable row rows = (row ≤ mostNesting) × (rowsSize ≤ length (now rows))
 
 -- the same, with another number besides
 abbrev pub NumberIn : ℕ → ℕ → Slice → Type 0
-NumberIn row number rows = (row ≤ 200) × (number < 8) × (rowsSize ≤ length (now rows))
+NumberIn row number rows = (row ≤ mostNesting) × (number < 8) × (rowsSize ≤ length (now rows))
 
 -- row `from` is one of the table, and `into` one below it
 abbrev pub Below : ℕ → ℕ → Slice → Type 0
-Below into from rows = (into < from) × (from ≤ 200) × (rowsSize ≤ length (now rows))
+Below into from rows = (into < from) × (from ≤ mostNesting) × (rowsSize ≤ length (now rows))
 
 abbrev pub tableAt : Lent → List Row
 tableAt rows = table (atEntry rows)
@@ -101,7 +102,7 @@ abbrev pub goesOn : Settled → ℕ → (RowState → Result Outcome) → Option
 goesOn Settled.Failed c again failure s = ok (outcome (some (failedCall (bareCall (rowOf (s .rows) c .nonterminal) (rowOf (s .rows) c .start)) failure)) s)
 goesOn Settled.Over c again failure s = ok (outcome none s)
 goesOn Settled.Again c again failure s = again s
-goesOn Settled.Full c again failure s = met 22 (s .units)
+goesOn Settled.Full c again failure s = met tooManyParses (s .units)
 
 -- the first run of the call of row c is over
 pub record SettledFirst (r : Settled) (T U : List Row) (c : ℕ) : Type 0 where

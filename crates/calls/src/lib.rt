@@ -18,6 +18,7 @@ ghost use Prim.Native.Nat.{suc, _-_};
 ghost use lib.ListN.{getD, length};
 ghost use Rattle.book.specs.Book.{associativityNumber};
 ghost use Rattle.book.specs.Index.{bookAt};
+ghost use Rattle.semantics.specs.Numbers.{mostNesting};
 ghost use Rattle.semantics.specs.Uses.{hasMark, minimumOf};
 ghost use Rattle.semantics.specs.Run.{allIn, kept};
 ghost use Rattle.sets.specs.Sets.{parseOf, noParse};
@@ -32,10 +33,10 @@ use sets::Parse;
 use sets::SET_SIZE;
 
 // "nesting beyond 200" is a limit; so the outermost call has this row
-pub const LEVELS: usize = 200;
+pub const MOST_NESTING: usize = 200;
 
 // the numbers of the table
-pub const ROWS_SIZE: usize = (LEVELS + 1) * WIDTH;
+pub const ROWS_SIZE: usize = (MOST_NESTING + 1) * WIDTH;
 
 // the numbers of a row
 const LIVE: usize = 0;
@@ -264,10 +265,10 @@ fn governs(rows: &[u32], row: usize, nonterminal: u32, u: u32) -> bool
 // The newest row above n that governs, or 201.
 fn newest_governor(rows: &[u32], n: usize, nonterminal: u32, u: u32) -> usize
     requires { ⌜ InTable n rows ⌝ }
-    ensures { λ r. ⌜ r ≡ model.newestGovernor (tableAt rows) nonterminal u (200 - n) (suc n) ⌝ }
+    ensures { λ r. ⌜ r ≡ model.newestGovernor (tableAt rows) nonterminal u (mostNesting - n) (suc n) ⌝ }
 {
     let mut row = n + 1;
-    while row <= LEVELS {
+    while row <= MOST_NESTING {
         if governs(rows, row, nonterminal, u) {
             return row;
         }
@@ -282,7 +283,7 @@ pub fn governor_of(rows: &[u32], n: usize, nonterminal: u32, u: u32) -> Governor
     ensures { λ r. ⌜ governorIn r ≡ model.governorOf (tableAt rows) n nonterminal u ⌝ }
 {
     let row = newest_governor(rows, n, nonterminal, u);
-    if LEVELS < row {
+    if MOST_NESTING < row {
         return Governor::Minimum(0);
     }
     if get(rows, row, START) == u {
@@ -386,10 +387,10 @@ fn claims(book: &[u8], index: &[usize], rows: &[u32], row: usize, u: u32) -> boo
 // A call above row n claims.
 pub fn any_claims(book: &[u8], index: &[usize], rows: &[u32], n: usize, u: u32) -> bool
     requires { ⌜ InTable n rows ⌝ }
-    ensures { λ r. ⌜ r ≡ model.anyClaims (bookAt book index) (tableAt rows) u (200 - n) (suc n) ⌝ }
+    ensures { λ r. ⌜ r ≡ model.anyClaims (bookAt book index) (tableAt rows) u (mostNesting - n) (suc n) ⌝ }
 {
     let mut row = n + 1;
-    while row <= LEVELS {
+    while row <= MOST_NESTING {
         if claims(book, index, rows, row, u) {
             return true;
         }

@@ -30,7 +30,7 @@ pub use numbers::name;
 pub use numbers::number;
 pub use numbers::variable;
 pub use numbers::variant;
-pub use store::CELL_NUMBERS;
+pub use store::CELLS_SIZE;
 pub use store::MOST_CELLS;
 pub use store::Made;
 pub use store::STORE_SIZE;

@@ -13,10 +13,10 @@ use crate::numbers::same_cell;
 pub const MOST_CELLS: u32 = 4096;
 
 // three for each cell
-pub const CELL_NUMBERS: usize = 12288;
+pub const CELLS_SIZE: usize = 12288;
 
 // The link of cell n stands at LINKS + n.
-const LINKS: usize = CELL_NUMBERS - 1;
+const LINKS: usize = CELLS_SIZE - 1;
 
 // behind the links of all cells
 const HEADS: usize = 16384;

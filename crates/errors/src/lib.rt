@@ -32,7 +32,7 @@ pub const WRONG_KIND: u32 = 8;
 
 pub const DIGITS_WANTED: u32 = 9;
 
-pub const NUMBER_TOO_LARGE: u32 = 10;
+pub const TOO_LARGE: u32 = 10;
 
 pub const NONTERMINAL_WANTED: u32 = 11;
 

@@ -12,6 +12,7 @@ use denote.Ref.{now}
 use Rattle.characters.specs.Slices.{Slice, rowsSize}
 use Rattle.book.specs.Book.{Book, nthVariant}
 use Rattle.book.specs.Index.{bookIn}
+use Rattle.semantics.specs.Numbers.{mostNesting, mostRounds}
 use Rattle.semantics.specs.Tokens.{when}
 use Rattle.semantics.specs.Steps.{Todo, todoOf}
 use Rattle.semantics.specs.Errors.{Error, joinWith}
@@ -31,7 +32,7 @@ use Rattle.transitions.specs.Contracts.{Fitting}
 
 -- a path's row is one of the table, and its steps are some of the book's, no more than a byte can say
 abbrev pub InRange : Book → Progress → Type 0
-InRange book here = (here .call ≤ 200) × (here .remaining ≤ 255) × (here .step + here .remaining ≤ length (book .steps))
+InRange book here = (here .call ≤ mostNesting) × (here .remaining ≤ 255) × (here .step + here .remaining ≤ length (book .steps))
 
 -- the steps that are left
 abbrev pub todoAt : Book → Progress → List (Todo ℕ)
@@ -60,17 +61,17 @@ sidesRows book text inner n c j rest next M at items s =
 -- ---- What the contracts ask
 -- the call of row n, which has its level of nesting
 abbrev pub CanRun : Slice → Slice → Slice → Slice → ℕ → Type 0
-CanRun book index text rows n = (n ≤ 200) × (rowsSize ≤ length (now rows)) × Fitting book index text × (0 < n)
+CanRun book index text rows n = (n ≤ mostNesting) × (rowsSize ≤ length (now rows)) × Fitting book index text × (0 < n)
 
 -- its variants before this one met no limit
 abbrev pub CanTry : Slice → Slice → Slice → Slice → ℕ → code.Outcome → Type 0
 CanTry book index text rows n before =
-    (n ≤ 200) × (rowsSize ≤ length (now rows)) × Fitting book index text × (0 < n) × (before .limit ≡ 0)
+    (n ≤ mostNesting) × (rowsSize ≤ length (now rows)) × Fitting book index text × (0 < n) × (before .limit ≡ 0)
 
 -- a path, with n levels of nesting left
 abbrev pub OnPath : Slice → Slice → Slice → Slice → ℕ → Progress → Type 0
 OnPath book index text rows n here =
-    (n ≤ 200) × (rowsSize ≤ length (now rows)) × Fitting book index text × InRange (bookIn (now book) (now index)) here
+    (n ≤ mostNesting) × (rowsSize ≤ length (now rows)) × Fitting book index text × InRange (bookIn (now book) (now index)) here
 
 -- ---- Which part of the model each function is
 module _ (n : ℕ) where
@@ -81,7 +82,7 @@ module _ (n : ℕ) where
   runsCall N u m book text s = runCallRows book text (within book text n) n N u m s
 
   abbrev pub runsAgain : ℕ → Book → List ℕ → RowState → Result Outcome
-  runsAgain m book text s = roundsRows book text 65 (within book text n) n m s
+  runsAgain m book text s = roundsRows book text mostRounds (within book text n) n m s
 
   abbrev pub runsOnce : ℕ → Book → List ℕ → RowState → Result Outcome
   runsOnce m book text s = oneRunRows book text (within book text n) n m s

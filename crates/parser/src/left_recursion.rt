@@ -7,15 +7,18 @@
 ghost use Rattle.transitions.specs.Contracts.{Ready, Does};
 ghost use Rattle.parser.specs.Cycle.{CanRun, runsAgain, runsCall, enters};
 use crate::parser::one_run;
-use transitions::FULL_SET;
 use transitions::Outcome;
 use transitions::State;
+use transitions::TOO_MANY_PARSES;
 use transitions::after_first;
 use transitions::after_round;
 use transitions::at_limit;
 use transitions::begin_use;
 
-// "it is run again until a run fails or adds nothing". Each run but the last adds a parse, so 65 are enough.
+// Each run but the last adds a parse, of which a set has at most 64.
+const MOST_ROUNDS: usize = 65;
+
+// "it is run again until a run fails or adds nothing".
 fn rounds(
     book: &[u8],
     index: &[usize],
@@ -31,7 +34,7 @@ fn rounds(
 {
     let mut s = state;
     let mut round = 0usize;
-    while round < 65 {
+    while round < MOST_ROUNDS {
         let o = one_run(book, index, text, store, rows, nesting, minimum, s);
         let e = after_round(rows, nesting, o);
         let after = e.outcome;
@@ -41,7 +44,7 @@ fn rounds(
         s = after.state;
         round += 1;
     }
-    at_limit(FULL_SET, s)
+    at_limit(TOO_MANY_PARSES, s)
 }
 
 // A first run, and more if it asked for its own parses.

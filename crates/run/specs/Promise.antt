@@ -7,11 +7,11 @@ use mathlib.Core.List.{List}
 use Prim.Native.Nat.{ℕ}
 use lib.Dec.{ltb}
 use lib.ListN.{length}
-use Rattle.characters.specs.Classes.{between}
 use Rattle.characters.specs.Slices.{Lent, atEntry, atExit, indexSize, storeSize, rowsSize}
 use Rattle.book.specs.Book.{Book}
 use Rattle.book.specs.Check.{checkBook}
 use Rattle.book.specs.Check as check
+use Rattle.semantics.specs.Numbers.{shortLists, notAccepted, isLimit}
 use Rattle.semantics.specs.Answer.{Answer, Answered, answer, untouched, answerOf}
 use Rattle.semantics.specs.Exact.{Exact}
 use Rattle.run.specs.declared.reader.Answer as code
@@ -32,7 +32,7 @@ answered a cells parses = record { answer = answerIn a; cells = cells; parses = 
 pub record Reads (bytes text : List ℕ) (start : ℕ) (expected a : Answered) : Type 0 where
   pub is : a ≡ expected
   pub exact : (book : Book) → checkBook bytes ≡ check.Outcome.book book →
-      between 1 11 (a .answer .refusal) ≡ false → between 20 23 (a .answer .refusal) ≡ false → Exact book text start a
+      notAccepted (a .answer .refusal) ≡ false → isLimit (a .answer .refusal) ≡ false → Exact book text start a
 
 -- `read`: what is expected is what document 01 says
 abbrev pub Read : Lent → Lent → ℕ → ℕ → Lent → Lent → code.Answer → Type 0
@@ -50,7 +50,7 @@ noRoom index store rows =
 -- too little of it is refused as too short lists are; else the call is the same
 abbrev pub answerWith : List ℕ → List ℕ → List ℕ → List ℕ → List ℕ → List ℕ → List ℕ → ℕ → ℕ → Answered
 answerWith index store rows cells parses bytes text start allowance =
-    cond (noRoom index store rows) (untouched cells parses 1 0) (answerOf cells parses bytes text start allowance)
+    cond (noRoom index store rows) (untouched cells parses shortLists 0) (answerOf cells parses bytes text start allowance)
 
 -- `read_in`
 abbrev pub ReadIn : Lent → Lent → ℕ → ℕ → Lent → Lent → Lent → Lent → Lent → code.Answer → Type 0

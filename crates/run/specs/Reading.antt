@@ -13,6 +13,7 @@ use Rattle.book.specs.Book.{Book}
 use Rattle.book.specs.Check.{checkBook}
 use Rattle.book.specs.Check as check
 use Rattle.book.specs.Index.{bookIn}
+use Rattle.semantics.specs.Numbers.{cellsSize, parsesSize, mostUnits, mostNesting, mostCells, noneWhole, differentValues}
 use Rattle.semantics.specs.Values.{Parse, whole}
 use Rattle.semantics.specs.Run.{Result, Parsed}
 use Rattle.semantics.specs.Run as definition
@@ -29,11 +30,11 @@ use Rattle.run.specs.declared.whole.Values.{Values}
 -- ---- What is refused before the run
 -- cells or parses under their size
 abbrev pub short : List ℕ → List ℕ → Bool
-short cells parses = ltb (length cells) 12288 || ltb (length parses) 256
+short cells parses = ltb (length cells) cellsSize || ltb (length parses) parsesSize
 
 -- "allowance 0 or above 1,000,000"
 abbrev pub noAllowance : ℕ → Bool
-noAllowance allowance = eqb allowance 0 || ltb 1000000 allowance
+noAllowance allowance = eqb allowance 0 || ltb mostUnits allowance
 
 -- a place of the text, where it is one
 abbrev pub within : List ℕ → ℕ → Option ℕ
@@ -57,9 +58,9 @@ withParse text values p = cond (whole text p) (withValue values (p .value)) valu
 
 -- 31, 32 or a value
 abbrev pub endAnswer : Values → ℕ → ℕ → Answer
-endAnswer Values.Nothing work parses = answer 31 0 0 0 work parses 0
+endAnswer Values.Nothing work parses = answer noneWhole 0 0 0 work parses 0
 endAnswer (Values.One v) work parses = answer 0 0 0 0 work parses v
-endAnswer Values.Different work parses = answer 32 0 0 0 work parses 0
+endAnswer Values.Different work parses = answer differentValues 0 0 0 work parses 0
 
 -- ---- The run
 -- what a caller sees of the code's outcome: the parses stand in row 200, the cells in the store
@@ -78,7 +79,7 @@ Writes lent size numbers = atExit lent ≡ written size numbers (atEntry lent)
 
 -- they become the parses that the outermost row found
 abbrev pub WritesParses : Lent → Lent → Type 0
-WritesParses parses rows = Writes parses 256 (parseNumbers (rowIn rows 200 .set))
+WritesParses parses rows = Writes parses parsesSize (parseNumbers (rowIn rows mostNesting .set))
 
 -- the answer and both lists at exit, from the lists at entry
 abbrev pub Gives : Lent → Lent → code.Answer → (List ℕ → List ℕ → Answered) → Type 0
@@ -86,21 +87,21 @@ Gives cells parses r expected = answered r (atExit cells) (atExit parses) ≡ ex
 
 -- ---- What the parts ask
 abbrev pub LongLists : Slice → Slice → Type 0
-LongLists cells parses = (12288 ≤ length (now cells)) × (256 ≤ length (now parses))
+LongLists cells parses = (cellsSize ≤ length (now cells)) × (parsesSize ≤ length (now parses))
 
 abbrev pub HasParses : Slice → Slice → Type 0
-HasParses parses rows = (256 ≤ length (now parses)) × (rowsSize ≤ length (now rows))
+HasParses parses rows = (parsesSize ≤ length (now parses)) × (rowsSize ≤ length (now rows))
 
 -- there are `count` cells
 abbrev pub CanFill : Slice → Slice → Slice → Slice → ℕ → Type 0
 CanFill cells parses store rows count =
-    (12288 ≤ length (now cells)) × (256 ≤ length (now parses)) × (storeSize ≤ length (now store)) × (rowsSize ≤ length (now rows)) ×
-    (count ≤ 4096)
+    (cellsSize ≤ length (now cells)) × (parsesSize ≤ length (now parses)) × (storeSize ≤ length (now store)) × (rowsSize ≤ length (now rows)) ×
+    (count ≤ mostCells)
 
 -- the run is over
 abbrev pub CanEnd : Slice → Slice → Slice → Slice → Slice → Outcome → Type 0
 CanEnd text cells parses store rows o =
-    (12288 ≤ length (now cells)) × (256 ≤ length (now parses)) × (rowsSize ≤ length (now rows)) ×
+    (cellsSize ≤ length (now cells)) × (parsesSize ≤ length (now parses)) × (rowsSize ≤ length (now rows)) ×
     Held (now text) (now store) (o .state .cells)
 
 -- the run can begin
@@ -111,7 +112,7 @@ CanStart book index text store rows =
 -- the book is accepted
 abbrev pub CanRead : Slice → Slice → Slice → Slice → Slice → Slice → Type 0
 CanRead book cells parses index store rows =
-    (12288 ≤ length (now cells)) × (256 ≤ length (now parses)) × (storeSize ≤ length (now store)) × (rowsSize ≤ length (now rows)) ×
+    (cellsSize ≤ length (now cells)) × (parsesSize ≤ length (now parses)) × (storeSize ≤ length (now store)) × (rowsSize ≤ length (now rows)) ×
     (checkBook (now book) ≡ check.Outcome.book (bookIn (now book) (now index)))
 
 -- the working memory has its sizes

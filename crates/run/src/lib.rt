@@ -19,5 +19,5 @@ pub use reader::Answer;
 pub use reader::read;
 pub use reader::read_in;
 pub use refusals::HIGH_BYTE;
-pub use refusals::MOST_WORK;
+pub use refusals::MOST_UNITS;
 pub use refusals::NO_PARSE;

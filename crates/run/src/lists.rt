@@ -3,12 +3,13 @@ ghost use mathlib.Core.Path.{_≡_};
 ghost use mathlib.Core.List.{[]};
 ghost use Prim.Native.Nat.{_*_, _≤_};
 ghost use lib.ListN.{length, take};
+ghost use Rattle.semantics.specs.Numbers.{cellsSize, parsesSize};
 ghost use Rattle.run.specs.Reading.{LongLists, HasParses, CanFill, Writes, WritesParses};
-use calls::LEVELS;
+use calls::MOST_NESTING;
 use calls::found;
 use calls::item;
-use cells::CELL_NUMBERS;
-use sets::PARSE_NUMBERS;
+use cells::CELLS_SIZE;
+use sets::PARSES_SIZE;
 use sets::put_parse;
 
 // The first `size` numbers of a lent list become zeros.
@@ -41,11 +42,11 @@ fn parses_written(parses: &mut [u32], rows: &[u32])
     requires { ⌜ HasParses parses rows ⌝ }
     ensures { λ _. ⌜ WritesParses parses rows ⌝ }
 {
-    clear(parses, PARSE_NUMBERS);
-    let count = found(rows, LEVELS);
+    clear(parses, PARSES_SIZE);
+    let count = found(rows, MOST_NESTING);
     let mut i = 0;
     while i < count {
-        put_parse(parses, 4 * i, item(rows, LEVELS, i));
+        put_parse(parses, 4 * i, item(rows, MOST_NESTING, i));
         i += 1;
     }
 }
@@ -53,17 +54,17 @@ fn parses_written(parses: &mut [u32], rows: &[u32])
 // 20 to 23 and 30.
 pub fn cleared(cells: &mut [u32], parses: &mut [u32])
     requires { ⌜ LongLists cells parses ⌝ }
-    ensures { λ _. ⌜ Writes cells 12288 [] × Writes parses 256 [] ⌝ }
+    ensures { λ _. ⌜ Writes cells cellsSize [] × Writes parses parsesSize [] ⌝ }
 {
-    clear(cells, CELL_NUMBERS);
-    clear(parses, PARSE_NUMBERS);
+    clear(cells, CELLS_SIZE);
+    clear(parses, PARSES_SIZE);
 }
 
 // The cells of the store, and what the outermost row found.
 pub fn filled(cells: &mut [u32], parses: &mut [u32], store: &[u32], rows: &[u32], count: u32)
     requires { ⌜ CanFill cells parses store rows count ⌝ }
-    ensures { λ _. ⌜ Writes cells 12288 (take (3 * count) (now (store .entry))) × WritesParses parses rows ⌝ }
+    ensures { λ _. ⌜ Writes cells cellsSize (take (3 * count) (now (store .entry))) × WritesParses parses rows ⌝ }
 {
-    written(cells, CELL_NUMBERS, store, 3 * count as usize);
+    written(cells, CELLS_SIZE, store, 3 * count as usize);
     parses_written(parses, rows);
 }

@@ -7,6 +7,7 @@ ghost use Prim.Native.Nat.{_-_};
 ghost use lib.ListN.{length};
 ghost use Rattle.characters.specs.Slices.{atEntry, atExit};
 ghost use Rattle.book.specs.Index.{bookAt};
+ghost use Rattle.semantics.specs.Numbers.{noParse};
 ghost use Rattle.semantics.specs.Answer as answers;
 ghost use Rattle.semantics.specs.Answer.{answer, firstHigh, answerOf};
 ghost use Rattle.transitions.specs.Fit.{Fits};
@@ -20,26 +21,26 @@ use crate::refusals::DIFFERENT_VALUES;
 use crate::refusals::HIGH_BYTE;
 use crate::refusals::LONG_TEXT;
 use crate::refusals::LONGEST_TEXT;
-use crate::refusals::MOST_WORK;
+use crate::refusals::MOST_UNITS;
 use crate::refusals::NO_PARSE;
-use crate::refusals::NO_START;
 use crate::refusals::NONE_WHOLE;
-use crate::refusals::TOO_SHORT;
+use crate::refusals::SHORT_LISTS;
+use crate::refusals::UNKNOWN_START;
 use crate::whole::Values;
 use crate::whole::whole_values;
 use book::INDEX_SIZE;
 use book::Verdict;
 use book::check_into;
-use calls::LEVELS;
+use calls::MOST_NESTING;
 use calls::ROWS_SIZE;
 use calls::found;
-use cells::CELL_NUMBERS;
+use cells::CELLS_SIZE;
 use cells::STORE_SIZE;
 use characters::skip;
 use errors::Error;
 use errors::Failure;
 use parser::enter;
-use sets::PARSE_NUMBERS;
+use sets::PARSES_SIZE;
 use transitions::Outcome;
 use transitions::State;
 use transitions::failure_of;
@@ -88,7 +89,7 @@ fn at_end(refusal: u32, work: u32, parses: u32, value: u32) -> Answer
 
 // "no parse; kind and argument filled"
 fn failed(e: Error, work: u32) -> Answer
-    ensures { λ r. ⌜ answerIn r ≡ answer 30 (e .place) (e .kind) (e .argument) work 0 0 ⌝ }
+    ensures { λ r. ⌜ answerIn r ≡ answer noParse (e .place) (e .kind) (e .argument) work 0 0 ⌝ }
 {
     Answer {
         refusal: NO_PARSE,
@@ -152,7 +153,7 @@ fn ending(
         Failure::Nothing => {
             filled(cells, parses, store, rows, state.cells);
             let values = whole_values(text, rows);
-            let number = found(rows, LEVELS) as u32;
+            let number = found(rows, MOST_NESTING) as u32;
             by_values(values, work, number)
         }
     }
@@ -175,7 +176,17 @@ fn run(
     cells::clear(store);
     let begun = State { units, cells: 0 };
     let first = skip(text, 0) as u32;
-    enter(book, index, text, store, rows, LEVELS, start, first, begun)
+    enter(
+        book,
+        index,
+        text,
+        store,
+        rows,
+        MOST_NESTING,
+        start,
+        first,
+        begun,
+    )
 }
 
 // ---- The text and the start
@@ -210,7 +221,7 @@ fn on_book(
         answers.onBook cells parses (bookAt book index) (now (text .entry)) start allowance) ⌝ }
 {
     if book::nonterminals(index) <= start as usize {
-        return refused(NO_START, 0);
+        return refused(UNKNOWN_START, 0);
     }
     if (LONGEST_TEXT as usize) < text.len() {
         return refused(LONG_TEXT, LONGEST_TEXT);
@@ -227,10 +238,10 @@ fn on_book(
 fn too_short(cells: &[u32], parses: &[u32]) -> bool
     ensures { λ r. ⌜ r ≡ short (now (cells .entry)) (now (parses .entry)) ⌝ }
 {
-    if cells.len() < CELL_NUMBERS {
+    if cells.len() < CELLS_SIZE {
         return true;
     }
-    parses.len() < PARSE_NUMBERS
+    parses.len() < PARSES_SIZE
 }
 
 fn no_room(index: &[usize], store: &[u32], rows: &[u32]) -> bool
@@ -251,7 +262,7 @@ fn no_allowance(allowance: u32) -> bool
     if allowance == 0 {
         return true;
     }
-    MOST_WORK < allowance
+    MOST_UNITS < allowance
 }
 
 // A refusal of the book's check. However long the book is, the check ends within its first bytes (`refusal-fits`), so
@@ -280,7 +291,7 @@ fn in_room(
         answerOf cells parses (now (book .entry)) (now (text .entry)) start allowance) ⌝ }
 {
     if too_short(cells, parses) {
-        return refused(TOO_SHORT, 0);
+        return refused(SHORT_LISTS, 0);
     }
     if no_allowance(allowance) {
         return refused(BAD_ALLOWANCE, 0);
@@ -318,7 +329,7 @@ pub fn read_in(
     ensures { λ r. ⌜ ReadIn book text start allowance cells parses index store rows r ⌝ }
 {
     if no_room(index, store, rows) {
-        return refused(TOO_SHORT, 0);
+        return refused(SHORT_LISTS, 0);
     }
     in_room(
         book,

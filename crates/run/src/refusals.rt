@@ -1,15 +1,15 @@
 // The refusals of the call itself and its limits, by document 01's table in "The answer". The book's refusals, 3 to 8,
 // stand in the crate book, those of the run, 20 to 23, in transitions. "cells under 12,288 numbers or parses under
 // 256"; also too little working memory
-pub const TOO_SHORT: u32 = 1;
+pub const SHORT_LISTS: u32 = 1;
 
 // "allowance 0 or above 1,000,000"
 pub const BAD_ALLOWANCE: u32 = 2;
 
-pub const MOST_WORK: u32 = 1000000;
+pub const MOST_UNITS: u32 = 1000000;
 
 // "nonterminal not in book"
-pub const NO_START: u32 = 9;
+pub const UNKNOWN_START: u32 = 9;
 
 // "above 4,096 bytes"
 pub const LONG_TEXT: u32 = 10;

@@ -4,12 +4,13 @@ ghost use Prim.Native.Nat.{_≤_};
 ghost use lib.ListN.{length};
 ghost use Rattle.characters.specs.Slices.{rowsSize};
 ghost use Rattle.semantics.specs.Answer.{wholeValues};
+ghost use Rattle.semantics.specs.Numbers.{mostNesting};
 ghost use Rattle.semantics.specs.Values.{whole as wholeIn};
 ghost use Rattle.sets.specs.Sets.{parseOf};
 ghost use Rattle.calls.specs.Table.{rowIn};
 ghost use Rattle.run.specs.Reading.{withValue, withValues, withParse};
 ghost use Rattle.run.specs.declared.whole.Values as values;
-use calls::LEVELS;
+use calls::MOST_NESTING;
 use calls::found;
 use calls::item;
 use characters::skip;
@@ -60,13 +61,13 @@ fn with_parse(text: &[u8], values: Values, p: Parse) -> Values
 // Over what the outermost row found.
 pub fn whole_values(text: &[u8], rows: &[u32]) -> Values
     requires { ⌜ rowsSize ≤ length (now rows) ⌝ }
-    ensures { λ r. ⌜ r ≡ withValues values.Values.Nothing (wholeValues (now (text .entry)) (rowIn rows 200 .set)) ⌝ }
+    ensures { λ r. ⌜ r ≡ withValues values.Values.Nothing (wholeValues (now (text .entry)) (rowIn rows mostNesting .set)) ⌝ }
 {
-    let count = found(rows, LEVELS);
+    let count = found(rows, MOST_NESTING);
     let mut values = Values::Nothing;
     let mut i = 0;
     while i < count {
-        values = with_parse(text, values, item(rows, LEVELS, i));
+        values = with_parse(text, values, item(rows, MOST_NESTING, i));
         i += 1;
     }
     values

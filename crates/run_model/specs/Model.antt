@@ -16,6 +16,7 @@ use Rattle.characters.specs.Skipping.{skipFrom}
 use Rattle.book.specs.Book.{Book, nthNonterminal, nthVariant, associativityNumber, stepNumber}
 use Rattle.book.specs.declared.records.Associativity.{Associativity}
 use Rattle.book.specs.declared.records.Step.{Step}
+use Rattle.semantics.specs.Numbers.{mostNesting, mostRounds, tooDeep, tooManyParses, defaultLevel, characterWanted, nonterminalWanted}
 use Rattle.semantics.specs.Values.{Parse}
 use Rattle.semantics.specs.Uses.{hasMark}
 use Rattle.semantics.specs.Tokens.{when, isSome, variableAt, freeEnd}
@@ -146,7 +147,7 @@ module _ (book : Book) (text : List ℕ) where
       (λ _. addAll (unmarked s) (r .set) (r .run) >>= (λ all. again (atRow c (withSet all) s)))
 
   unfoldable pub roundsRows : ℕ → RowRunner → ℕ → ℕ → RowState → Result Outcome
-  roundsRows zero run c m s = met 22 (s .units)
+  roundsRows zero run c m s = met tooManyParses (s .units)
   roundsRows (suc k) run c m s = oneRunRows run c m s >>= (λ o. settle c (λ t. roundsRows k run c m t) (o .state))
 
   -- after the first run: its set is the call's
@@ -160,17 +161,17 @@ module _ (book : Book) (text : List ℕ) where
       ]
 
   unfoldable pub runCallRows : RowRunner → ℕ → ℕ → ℕ → ℕ → RowState → Result Outcome
-  runCallRows run n N u m s = oneRunRows run n m (atRow n (opened N u) s) >>= (λ o. settleFirst n (λ t. roundsRows 65 run n m t) o)
+  runCallRows run n N u m s = oneRunRows run n m (atRow n (opened N u) s) >>= (λ o. settleFirst n (λ t. roundsRows mostRounds run n m t) o)
 
   -- ---- A use of mark 2
   abbrev pub claimedRows : List Row → ℕ → ℕ → Bool
-  claimedRows T n u = isSome (variableAt book text u) && anyClaims book T u (200 - n) (suc n)
+  claimedRows T n u = isSome (variableAt book text u) && anyClaims book T u (mostNesting - n) (suc n)
 
   unfoldable pub namedRows : ℕ → ℕ → ℕ → RowState → Option ℕ → Result Outcome
   namedRows n N u s none = ok (outcome (some (failedCall (bareCall N u) none)) s)
   namedRows n N u s (some end) = do
     m ← makes (make text (Cell.name u (end - u))) s
-    ok (outcome none (atRow n (withSet (record { rest = end; level = 255; associativity = Associativity.Both; value = m .cell } ∷ [])) (m .state)))
+    ok (outcome none (atRow n (withSet (record { rest = end; level = defaultLevel; associativity = Associativity.Both; value = m .cell } ∷ [])) (m .state)))
 
   unfoldable pub runIdentifierRows : ℕ → ℕ → ℕ → RowState → Result Outcome
   runIdentifierRows n N u s =
@@ -194,21 +195,21 @@ module _ (book : Book) (text : List ℕ) where
   stopsRows j values close go x items s = do
     l ← makes (make text (Cell.list values)) s
     elim (closed text close x) [
-      | none ↦ ok (outcome (some (error (skipFrom text x) 1 (closingOf close))) (l .state))
+      | none ↦ ok (outcome (some (error (skipFrom text x) characterWanted (closingOf close))) (l .state))
       | some y ↦ makes (withCell book text j items (l .cell)) (l .state) >>= (λ m. go y (m .cell) (m .state))
     ]
 
 -- ---- One level of nesting, with n levels left. `inner` runs a variant one level further in; none is 21, "nesting beyond 200"
 module _ (book : Book) (text : List ℕ) (inner : Option RowRunner) (n : ℕ) where
   unfoldable pub nestedRows : RowState → (RowRunner → Result Outcome) → Result Outcome
-  nestedRows s f = elim inner [ some run ↦ f run | none ↦ met 21 (s .units) ]
+  nestedRows s f = elim inner [ some run ↦ f run | none ↦ met tooDeep (s .units) ]
 
   -- what row n found are the parses that its governor has stored, filtered; the governor is asked
   abbrev pub answered : ℕ → RowState → RowState
   answered g s = let r = rowOf (s .rows) g in atRow n (λ t. ended (withSet (kept (useAt r) (r .set)) t)) (atRow g wasAsked s)
 
   unfoldable pub storedRows : ℕ → ℕ → ℕ → RowState → Outcome
-  storedRows g N u s = outcome (failsEmpty (rowOf (answered g s .rows) n .set) (error u 11 N)) (answered g s)
+  storedRows g N u s = outcome (failsEmpty (rowOf (answered g s .rows) n .set) (error u nonterminalWanted N)) (answered g s)
 
   unfoldable pub enterRows : ℕ → ℕ → RowState → Result Outcome
   enterRows N u s₀ = do

@@ -14,6 +14,7 @@ use lib.Dec.{ltb, eqb}
 use lib.ListN.{getD, set}
 use Rattle.book.specs.Book.{Book}
 use Rattle.book.specs.Check.{associativityOf}
+use Rattle.semantics.specs.Numbers.{mostNesting}
 use Rattle.semantics.specs.Values.{Parse}
 use Rattle.semantics.specs.Uses.{Use, Path, base, hasMark, minimumOf}
 use Rattle.semantics.specs.Tokens.{when}
@@ -96,7 +97,7 @@ openFrom F T zero i = []
 openFrom F T (suc k) i = keepIf (eqb (rowOf T i .live) 1) (F (rowOf T i)) (openFrom F T k (suc i))
 
 abbrev pub openAbove : {A : Type 0} → (Row → A) → List Row → ℕ → List A
-openAbove F T n = openFrom F T (200 - n) (suc n)
+openAbove F T n = openFrom F T (mostNesting - n) (suc n)
 
 -- the use that a row's call is of
 abbrev pub useAt : Row → Use
@@ -145,11 +146,11 @@ pub data RowGovernor : Type 0 where
 -- what row g says, if there is one
 unfoldable pub governorAt : List Row → ℕ → ℕ → RowGovernor
 governorAt T u g =
-    when (ltb 200 g) (λ _. minimum 0)
+    when (ltb mostNesting g) (λ _. minimum 0)
     (λ _. when (eqb (rowOf T g .start) u) (λ _. same-start g) (λ _. minimum (minimumOf (useAt (rowOf T g) .associativity) (rowOf T g .level))))
 
 abbrev pub governorOf : List Row → ℕ → ℕ → ℕ → RowGovernor
-governorOf T n N u = governorAt T u (newestGovernor T N u (200 - n) (suc n))
+governorOf T n N u = governorAt T u (newestGovernor T N u (mostNesting - n) (suc n))
 
 -- the call of a row is open, of mark 1 and the base's scope, and begins at u
 unfoldable pub claims : Book → Row → ℕ → Bool

@@ -35,10 +35,10 @@ pub struct Parse {
 pub const MOST_PARSES: usize = 64;
 
 // four for each parse
-pub const PARSE_NUMBERS: usize = 4 * MOST_PARSES;
+pub const PARSES_SIZE: usize = 4 * MOST_PARSES;
 
 // a count and the parses
-pub const SET_SIZE: usize = 1 + PARSE_NUMBERS;
+pub const SET_SIZE: usize = 1 + PARSES_SIZE;
 
 // ---- One parse
 // The associativity that a number says, any number above 2 being Both; and the number of one.

@@ -31,9 +31,9 @@ use errors::DIGITS_WANTED;
 use errors::Error;
 use errors::IDENTIFIER_WANTED;
 use errors::NONTERMINAL_WANTED;
-use errors::NUMBER_TOO_LARGE;
 use errors::RESERVED_FOUND;
 use errors::TEXT_ENDED;
+use errors::TOO_LARGE;
 use errors::UNKNOWN_NAME;
 use errors::VARIABLE_FOUND;
 use errors::WORD_WANTED;
@@ -344,8 +344,8 @@ fn number_error(text: &[u8], at: u32) -> Error
     }
     match number_at(text, place) {
         Number::Nothing => error_at(at, DIGITS_WANTED, 0),
-        Number::TooLarge => error_at(at, NUMBER_TOO_LARGE, 0),
-        Number::Value { value: _, end: _ } => error_at(at, NUMBER_TOO_LARGE, 0),
+        Number::TooLarge => error_at(at, TOO_LARGE, 0),
+        Number::Value { value: _, end: _ } => error_at(at, TOO_LARGE, 0),
     }
 }
 

@@ -14,6 +14,7 @@ use denote.Ref.{now}
 use Rattle.characters.specs.Slices.{Slice, Lent, atEntry, atExit, rowsSize}
 use Rattle.book.specs.Book.{Book, nthStep}
 use Rattle.book.specs.Index.{bookIn, bookAt}
+use Rattle.semantics.specs.Numbers.{mostNesting, longestText}
 use Rattle.semantics.specs.Values.{Parse}
 use Rattle.semantics.specs.Steps.{Item, taking}
 use Rattle.semantics.specs.Run as run
@@ -38,7 +39,7 @@ use Rattle.transitions.specs.Steps.{Part, nextRows, sideRows, unopenedRo
 -- ---- What is asked
 -- "above 4,096 bytes" is a refusal, so that a text's places fit into 32 bits
 abbrev pub Short : Slice → Type 0
-Short text = length (now text) ≤ 4096
+Short text = length (now text) ≤ longestText
 
 -- the numbers of the book and of the text fit into 32 bits
 abbrev pub Fitting : Slice → Slice → Slice → Type 0
@@ -46,7 +47,7 @@ Fitting book index text = Fit (bookIn (now book) (now index)) (now text)
 
 -- and the row is one of the table
 abbrev pub Ready : Slice → Slice → Slice → Slice → ℕ → Type 0
-Ready book index text rows row = (row ≤ 200) × (rowsSize ≤ length (now rows)) × Fitting book index text
+Ready book index text rows row = (row ≤ mostNesting) × (rowsSize ≤ length (now rows)) × Fitting book index text
 
 -- ---- What is promised
 -- a cell is made

@@ -4,6 +4,7 @@ use mathlib.Core.List.{List}
 use mathlib.Core.Option.{Option, none, some}
 use Prim.Native.Nat.{ℕ, _+_, _≤_, _<_}
 use lib.ListN.{length}
+use Rattle.semantics.specs.Numbers.{longestText}
 use Rattle.book.specs.Book.{Book, nthEntry, nthNonterminal, nthVariant}
 use Rattle.tokens.specs.declared.steps.Item.{Item}
 use Rattle.tokens.specs.declared.steps.Taken.{Taken}
@@ -13,7 +14,7 @@ abbrev pub Fits : ℕ → Type 0
 Fits x = x < 4294967296
 
 pub record Fit (book : Book) (text : List ℕ) : Type 0 where
-  pub short : length text ≤ 4096
+  pub short : length text ≤ longestText
   -- names and their kinds
   pub names : Fits (length (book .names))
   pub kinds : (i : ℕ) → Fits (nthEntry (book .names) i .label)

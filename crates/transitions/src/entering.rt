@@ -7,6 +7,7 @@ ghost use lib.ListN.{length};
 ghost use Rattle.characters.specs.Skipping.{skipFrom};
 ghost use Rattle.characters.specs.Slices.{rowsSize};
 ghost use Rattle.book.specs.Index.{bookAt};
+ghost use Rattle.semantics.specs.Numbers.{mostNesting, nonterminalWanted};
 ghost use Rattle.semantics.specs.Uses.{hasMark};
 ghost use Rattle.semantics.specs.Errors.{error};
 ghost use Rattle.run_model.specs.Rows.{withChild};
@@ -15,13 +16,13 @@ ghost use Rattle.calls.specs.Table.{InTable, Below, tableAt, tableAfter, Change
 ghost use Rattle.errors.specs.Maps.{failureOf};
 ghost use Rattle.transitions.specs.Entering.{Stores, Opens, Enters, EndedBy, FirstEnded, RoundEnded};
 ghost use Rattle.transitions.specs.Entering.{Begins, Counted};
-ghost use Rattle.transitions.specs.Contracts.{Ready, Does, identifies};
+ghost use Rattle.transitions.specs.Contracts.{Short, Ready, Does, identifies};
 use crate::items::begin;
 use crate::items::make;
-use crate::outcomes::FULL_SET;
 use crate::outcomes::Outcome;
 use crate::outcomes::State;
 use crate::outcomes::TOO_DEEP;
+use crate::outcomes::TOO_MANY_PARSES;
 use crate::outcomes::at_limit;
 use crate::outcomes::done;
 use crate::outcomes::failure_of;
@@ -67,7 +68,7 @@ fn without_runs(outcome: Outcome) -> Entered
 
 // "With none, a call gives 11 at its start".
 fn no_parse(nonterminal: u32, u: u32) -> Failure
-    ensures { λ r. ⌜ failureOf r ≡ some (error u 11 nonterminal) ⌝ }
+    ensures { λ r. ⌜ failureOf r ≡ some (error u nonterminalWanted nonterminal) ⌝ }
 {
     Failure::At(Error {
         place: u,
@@ -271,7 +272,7 @@ fn ended_by(rows: &[u32], n: usize, how: Settled, failure: Failure, state: State
             ))
         }
         Settled::Over => over(done(Failure::Nothing, state)),
-        Settled::Full => over(at_limit(FULL_SET, state)),
+        Settled::Full => over(at_limit(TOO_MANY_PARSES, state)),
         Settled::Again => {
             let outcome = done(Failure::Nothing, state);
             Ended {
@@ -358,7 +359,7 @@ pub fn counted(
 // ---- A child
 // The child of the path's call begins where skipping leads.
 pub fn begin_child(text: &[u8], rows: &mut [u32], here: Progress) -> u32
-    requires { ⌜ (here .call ≤ 200) × (rowsSize ≤ length (now rows)) × (length (now text) ≤ 4096) ⌝ }
+    requires { ⌜ (here .call ≤ mostNesting) × (rowsSize ≤ length (now rows)) × Short text ⌝ }
     ensures { λ r. ⌜ (r ≡ skipFrom (now (text .entry)) (here .at)) × Changes rows (here .call) (withChild r) ⌝ }
 {
     let at = skipped(text, here.at);

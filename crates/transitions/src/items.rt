@@ -13,8 +13,8 @@ ghost use Rattle.cells.specs.Store.{listed};
 ghost use Rattle.tokens.specs.Maps.{itemOf};
 ghost use Rattle.transitions.specs.Contracts.{Makes};
 ghost use Rattle.transitions.specs.Fit.{ItemFits};
-use crate::outcomes::NO_CELL;
 use crate::outcomes::State;
+use crate::outcomes::TOO_MANY_CELLS;
 use cells::Numbers;
 use tokens::Item;
 
@@ -49,7 +49,7 @@ pub fn make(text: &[u8], store: &mut [u32], c: Numbers, state: State) -> Made
             },
         ),
         cells::Made::Full => Made {
-            limit: NO_CELL,
+            limit: TOO_MANY_CELLS,
             cell: 0,
             state,
         },

@@ -5,13 +5,13 @@ use errors::Error;
 use errors::Failure;
 
 // Document 01, "The answer", 20 to 23.
-pub const NO_WORK: u32 = 20;
+pub const NO_UNIT: u32 = 20;
 
 pub const TOO_DEEP: u32 = 21;
 
-pub const FULL_SET: u32 = 22;
+pub const TOO_MANY_PARSES: u32 = 22;
 
-pub const NO_CELL: u32 = 23;
+pub const TOO_MANY_CELLS: u32 = 23;
 
 // Units left, and cells so far. The cells are in the store, the marks of the open calls in the rows.
 pub struct State {
@@ -82,7 +82,7 @@ pub fn spend(state: State) -> Outcome
     ensures { λ r. ⌜ Spent r state ⌝ }
 {
     if state.units == 0 {
-        return at_limit(NO_WORK, state);
+        return at_limit(NO_UNIT, state);
     }
     let units = state.units - 1;
     done(

@@ -13,9 +13,9 @@ use crate::items::make;
 use crate::items::value;
 use crate::items::with_cell;
 use crate::items::with_token;
-use crate::outcomes::FULL_SET;
 use crate::outcomes::Outcome;
 use crate::outcomes::State;
+use crate::outcomes::TOO_MANY_PARSES;
 use crate::outcomes::at_limit;
 use crate::outcomes::done;
 use crate::outcomes::failure_of;
@@ -76,7 +76,7 @@ pub fn finish(
     if calls::add_run(rows, here.call, parse_of(w, here.at, m.cell)) {
         done(Failure::Nothing, s)
     } else {
-        at_limit(FULL_SET, s)
+        at_limit(TOO_MANY_PARSES, s)
     }
 }
 
