@@ -51,7 +51,7 @@ pub enum Failure {
 }
 
 // "The furthest place wins, then least kind, then least argument".
-pub fn wins(a: Error, b: Error) -> bool
+fn wins(a: Error, b: Error) -> bool
     ensures { λ r. ⌜ r ≡ winsOver (errorOf a) (errorOf b) ⌝ }
 {
     if b.place < a.place {
@@ -69,14 +69,14 @@ pub fn wins(a: Error, b: Error) -> bool
     a.argument <= b.argument
 }
 
-pub fn join(a: Error, b: Error) -> Error
+fn join(a: Error, b: Error) -> Error
     ensures { λ r. ⌜ errorOf r ≡ joined (errorOf a) (errorOf b) ⌝ }
 {
     if wins(a, b) { a } else { b }
 }
 
 // An error that counts only where it lies beyond a place.
-pub fn beyond(place: u32, e: Error) -> Failure
+fn beyond(place: u32, e: Error) -> Failure
     ensures { λ r. ⌜ failureOf r ≡ errorBeyond place (errorOf e) ⌝ }
 {
     if place < e.place {
@@ -114,7 +114,7 @@ pub fn either(first: Failure, second: Failure) -> Failure
 
 // Both sides of a choice failed: their error, where it consumed something since the choice, else that more was wanted
 // there.
-pub fn choice_error(at: u32, nonterminal: u32, a: Error, b: Error) -> Error
+fn choice_error(at: u32, nonterminal: u32, a: Error, b: Error) -> Error
     ensures { λ r. ⌜ errorOf r ≡ choiceError at nonterminal (errorOf a) (errorOf b) ⌝ }
 {
     let Failure::At(e) = beyond(at, join(a, b)) else {

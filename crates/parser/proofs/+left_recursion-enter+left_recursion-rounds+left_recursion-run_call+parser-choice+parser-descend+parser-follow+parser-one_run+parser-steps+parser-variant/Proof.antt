@@ -23,6 +23,8 @@ use borrow.Author.Tests.{not-true, not-false}
 use borrow.Author.Needs.{needs}
 use mathlib.Core.Path.{_≡_, refl, sym, ap, _∙_}
 use Prim.Native.Nat.{ℕ, _<_}
+use mathlib.Core.List.{List}
+use borrow.Fn.Kind.{PK}
 use borrow.Fn.Kinds.{In}
 use borrow.Fn.PlainCycle.{Measures, is, falls, and}
 use Rattle.parser.proofs.left_recursion.enter.Reads as left-recursion·enter
@@ -108,137 +110,66 @@ abbrev μ-parser·steps : Measures 5 parser·steps-kinds.ps ℕ
 abbrev μ-parser·variant : Measures 5 parser·variant-kinds.ps ℕ
 μ-parser·variant κs a = 2048 * (a .1 .1 .1 .1 .1 .0) + 1
 
+-- what a member asks at a measure, and what it is asked by one whose measure is greater
+abbrev at-measure : (ps : List (PK 5)) → Measures 5 ps ℕ → In 5 ps → ℕ → In 5 ps
+at-measure ps μ pre t = and 5 ps (is 5 ps μ t) pre
+
+abbrev below-measure : (ps : List (PK 5)) → Measures 5 ps ℕ → In 5 ps → ℕ → In 5 ps
+below-measure ps μ pre t = and 5 ps (falls 5 ps _<_ μ t) pre
+
 abbrev left-recursion·enter-at : ℕ → In 5 left-recursion·enter-kinds.ps
-left-recursion·enter-at t =
-    and
-    5
-    left-recursion·enter-kinds.ps
-    (is 5 left-recursion·enter-kinds.ps μ-left-recursion·enter t)
-    left-recursion·enter.Pre
+left-recursion·enter-at t = at-measure left-recursion·enter-kinds.ps μ-left-recursion·enter left-recursion·enter.Pre t
 
 abbrev left-recursion·enter-below : ℕ → In 5 left-recursion·enter-kinds.ps
-left-recursion·enter-below t =
-    and
-    5
-    left-recursion·enter-kinds.ps
-    (falls 5 left-recursion·enter-kinds.ps _<_ μ-left-recursion·enter t)
-    left-recursion·enter.Pre
+left-recursion·enter-below t = below-measure left-recursion·enter-kinds.ps μ-left-recursion·enter left-recursion·enter.Pre t
 
 abbrev left-recursion·rounds-at : ℕ → In 5 left-recursion·rounds-kinds.ps
-left-recursion·rounds-at t =
-    and
-    5
-    left-recursion·rounds-kinds.ps
-    (is 5 left-recursion·rounds-kinds.ps μ-left-recursion·rounds t)
-    left-recursion·rounds.Pre
+left-recursion·rounds-at t = at-measure left-recursion·rounds-kinds.ps μ-left-recursion·rounds left-recursion·rounds.Pre t
 
 abbrev left-recursion·rounds-below : ℕ → In 5 left-recursion·rounds-kinds.ps
-left-recursion·rounds-below t =
-    and
-    5
-    left-recursion·rounds-kinds.ps
-    (falls 5 left-recursion·rounds-kinds.ps _<_ μ-left-recursion·rounds t)
-    left-recursion·rounds.Pre
+left-recursion·rounds-below t = below-measure left-recursion·rounds-kinds.ps μ-left-recursion·rounds left-recursion·rounds.Pre t
 
 abbrev left-recursion·run-call-at : ℕ → In 5 left-recursion·run-call-kinds.ps
-left-recursion·run-call-at t =
-    and
-    5
-    left-recursion·run-call-kinds.ps
-    (is 5 left-recursion·run-call-kinds.ps μ-left-recursion·run-call t)
-    left-recursion·run-call.Pre
+left-recursion·run-call-at t = at-measure left-recursion·run-call-kinds.ps μ-left-recursion·run-call left-recursion·run-call.Pre t
 
 abbrev left-recursion·run-call-below : ℕ → In 5 left-recursion·run-call-kinds.ps
-left-recursion·run-call-below t =
-    and
-    5
-    left-recursion·run-call-kinds.ps
-    (falls 5 left-recursion·run-call-kinds.ps _<_ μ-left-recursion·run-call t)
-    left-recursion·run-call.Pre
+left-recursion·run-call-below t = below-measure left-recursion·run-call-kinds.ps μ-left-recursion·run-call left-recursion·run-call.Pre t
 
 abbrev parser·choice-at : ℕ → In 5 parser·choice-kinds.ps
-parser·choice-at t =
-    and 5 parser·choice-kinds.ps (is 5 parser·choice-kinds.ps μ-parser·choice t) parser·choice.Pre
+parser·choice-at t = at-measure parser·choice-kinds.ps μ-parser·choice parser·choice.Pre t
 
 abbrev parser·choice-below : ℕ → In 5 parser·choice-kinds.ps
-parser·choice-below t =
-    and
-    5
-    parser·choice-kinds.ps
-    (falls 5 parser·choice-kinds.ps _<_ μ-parser·choice t)
-    parser·choice.Pre
+parser·choice-below t = below-measure parser·choice-kinds.ps μ-parser·choice parser·choice.Pre t
 
 abbrev parser·descend-at : ℕ → In 5 parser·descend-kinds.ps
-parser·descend-at t =
-    and
-    5
-    parser·descend-kinds.ps
-    (is 5 parser·descend-kinds.ps μ-parser·descend t)
-    parser·descend.Pre
+parser·descend-at t = at-measure parser·descend-kinds.ps μ-parser·descend parser·descend.Pre t
 
 abbrev parser·descend-below : ℕ → In 5 parser·descend-kinds.ps
-parser·descend-below t =
-    and
-    5
-    parser·descend-kinds.ps
-    (falls 5 parser·descend-kinds.ps _<_ μ-parser·descend t)
-    parser·descend.Pre
+parser·descend-below t = below-measure parser·descend-kinds.ps μ-parser·descend parser·descend.Pre t
 
 abbrev parser·follow-at : ℕ → In 5 parser·follow-kinds.ps
-parser·follow-at t =
-    and 5 parser·follow-kinds.ps (is 5 parser·follow-kinds.ps μ-parser·follow t) parser·follow.Pre
+parser·follow-at t = at-measure parser·follow-kinds.ps μ-parser·follow parser·follow.Pre t
 
 abbrev parser·follow-below : ℕ → In 5 parser·follow-kinds.ps
-parser·follow-below t =
-    and
-    5
-    parser·follow-kinds.ps
-    (falls 5 parser·follow-kinds.ps _<_ μ-parser·follow t)
-    parser·follow.Pre
+parser·follow-below t = below-measure parser·follow-kinds.ps μ-parser·follow parser·follow.Pre t
 
 abbrev parser·one-run-at : ℕ → In 5 parser·one-run-kinds.ps
-parser·one-run-at t =
-    and
-    5
-    parser·one-run-kinds.ps
-    (is 5 parser·one-run-kinds.ps μ-parser·one-run t)
-    parser·one-run.Pre
+parser·one-run-at t = at-measure parser·one-run-kinds.ps μ-parser·one-run parser·one-run.Pre t
 
 abbrev parser·one-run-below : ℕ → In 5 parser·one-run-kinds.ps
-parser·one-run-below t =
-    and
-    5
-    parser·one-run-kinds.ps
-    (falls 5 parser·one-run-kinds.ps _<_ μ-parser·one-run t)
-    parser·one-run.Pre
+parser·one-run-below t = below-measure parser·one-run-kinds.ps μ-parser·one-run parser·one-run.Pre t
 
 abbrev parser·steps-at : ℕ → In 5 parser·steps-kinds.ps
-parser·steps-at t =
-    and 5 parser·steps-kinds.ps (is 5 parser·steps-kinds.ps μ-parser·steps t) parser·steps.Pre
+parser·steps-at t = at-measure parser·steps-kinds.ps μ-parser·steps parser·steps.Pre t
 
 abbrev parser·steps-below : ℕ → In 5 parser·steps-kinds.ps
-parser·steps-below t =
-    and
-    5
-    parser·steps-kinds.ps
-    (falls 5 parser·steps-kinds.ps _<_ μ-parser·steps t)
-    parser·steps.Pre
+parser·steps-below t = below-measure parser·steps-kinds.ps μ-parser·steps parser·steps.Pre t
 
 abbrev parser·variant-at : ℕ → In 5 parser·variant-kinds.ps
-parser·variant-at t =
-    and
-    5
-    parser·variant-kinds.ps
-    (is 5 parser·variant-kinds.ps μ-parser·variant t)
-    parser·variant.Pre
+parser·variant-at t = at-measure parser·variant-kinds.ps μ-parser·variant parser·variant.Pre t
 
 abbrev parser·variant-below : ℕ → In 5 parser·variant-kinds.ps
-parser·variant-below t =
-    and
-    5
-    parser·variant-kinds.ps
-    (falls 5 parser·variant-kinds.ps _<_ μ-parser·variant t)
-    parser·variant.Pre
+parser·variant-below t = below-measure parser·variant-kinds.ps μ-parser·variant parser·variant.Pre t
 
 -- what a member is told of those that it calls
 abbrev left-recursion·enter-callees : ℕ → left-recursion·enter-lts.Claims
