@@ -9,7 +9,8 @@
 --   run-error-skipped    every error of a run stands at a skipped place (ErrorLaws/Skipped, with what holds of every call on the way; what that
 --                        takes of places is in ErrorLaws/Places)
 --   run-with             "Rust's two left-recursion messages and the claimed-name message never get past this": with whatever errors for
---                        re-entries and claimed names, the run is the same (ErrorLaws/Unseen)
+--                        re-entries and claimed names, the run is the same (ErrorLaws/Unseen, of the run that ErrorLaws/Told has, by the
+--                        relations of ErrorLaws/Like)
 use mathlib.Core.Path.{_≡_, refl, sym, _∙_, ap}
 use mathlib.Core.Bool.{Bool, true, false, cond, _&&_}
 use mathlib.Core.List.{List, []}
@@ -33,6 +34,8 @@ use Rattle.semantics.specs.Errors.{Error, wins, join, beyond, choiceErro
 use Rattle.semantics.specs.Run.{Call, counted}
 pub mod Places
 pub mod Skipped
+pub mod Told
+pub mod Like
 pub mod Unseen
 
 -- ---- "more than skipped text lies between"

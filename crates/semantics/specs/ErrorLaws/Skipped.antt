@@ -1,8 +1,9 @@
 -- Where the errors of a run stand.
 --
--- The plan. A call begins at a skipped place, and no use around it begins later (`Around`); its steps, and the rests of its parses, never lie before its start (`Behind`).
--- So errors, which stand at the start of a call, at the place of a choice or where a step was wanted, stand at skipped places (`Fails`). And a use around a call that
--- begins where the call's child does begins where the call itself does (`child-at-start`). Each part of the run has one law, in the order in which it is defined.
+-- The plan. A call begins at a skipped place, and no use around it begins later (`Around`); its steps, and the rests of its parses, never lie before its
+-- start (`Behind`). So errors, which stand at the start of a call, at the place of a choice or where a step was wanted, stand at skipped places (`Fails`).
+-- And a use around a call that begins where the call's child does begins where the call itself does (`child-at-start`). Each part of the run has one law, in
+-- the order in which it is defined.
 use mathlib.Core.Path.{_≡_, refl, sym, _∙_, ap, subst}
 use mathlib.Core.Bool.{Bool, true, false, cond}
 use mathlib.Core.List.{List, [], _∷_, List·Memᴰ·head, List·Memᴰ·tail, List·Memᴰ·not-nil, List·Memᴰ·eq-of-singleton}
@@ -15,7 +16,7 @@ use Rattle.characters.specs.Skipping.{skipFrom}
 use Rattle.characters.specs.SkippingLaws.{skip-forward, skip-twice}
 use Rattle.book.specs.Book.{Book, nthNonterminal, nthVariant}
 use Rattle.book.specs.declared.records.Step.{Step}
-use Rattle.semantics.specs.Numbers.{mostNesting, mostRounds, nonterminalWanted}
+use Rattle.semantics.specs.Numbers.{mostNesting, mostRounds, nonterminalWanted, moreWanted}
 use Rattle.semantics.specs.Values.{Parse}
 use Rattle.semantics.specs.Uses.{Use, Path, base, useOf, hasMark, same-start, governor, keeps}
 use Rattle.semantics.specs.Tokens.{freeEnd, claimed}
@@ -74,7 +75,7 @@ module _ (text : List ℕ) where
   unfolding choiceError
   choice-skipped at N a b h k l = by (beyond at (join a b)) (beyond-fails at (join a b) (join-skipped a b k l))
     where
-      by : (o : Option Error) → Fails o → Skipped (elim o as (λ _. Error) [ some e ↦ e | none ↦ error at 12 N ] .place)
+      by : (o : Option Error) → Fails o → Skipped (elim o as (λ _. Error) [ some e ↦ e | none ↦ error at moreWanted N ] .place)
       by none no-error = h
       by (some e) (an-error f) = f
 

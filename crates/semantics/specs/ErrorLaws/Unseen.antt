@@ -1,7 +1,9 @@
--- The error of a re-entry, and that of a claimed name, are never seen: with any errors in their place, of whatever kind and argument, the run is the same (`run-with`).
+-- The error of a re-entry, and that of a claimed name, are never seen: with any errors in their place, of whatever kind and argument, the run is the same
+-- (`run-with`).
 --
--- The plan. `runWith` is the run with errors that are told; `run-with` itself holds it to the run's definition. What is left of a variant then gives the same parses in the same state, and failures that its call can't tell
--- apart (`Like`); so the call gives the very same (`Same`), since it counts only what stands beyond its start. Each part of the run has one law.
+-- The plan. What is left of a variant gives the same parses in the same state, and failures that its call can't tell apart (`Like`): a re-entry, and a
+-- claimed name, fail at the start of the call that asked. So the call gives the very same (`Same`), since it counts only what stands beyond its start. Each
+-- part of the run has one law.
 use mathlib.Core.Path.{_≡_, refl, sym, _∙_, ap, subst}
 use mathlib.Core.Bool.{Bool, true, false, and-eq-true-iff}
 use mathlib.Core.List.{List, [], _∷_, List·Memᴰ·head, List·Memᴰ·tail, List·Memᴰ·not-nil, List·Memᴰ·eq-of-singleton}
@@ -9,20 +11,19 @@ use mathlib.Core.Option.{Option, none, some}
 use Prim.Native.Nat.{ℕ, zero, suc, _≤_}
 use native.Mathlib.Omega.{arith}
 use lib.Dec.{leb}
-use lib.ListN.{getD}
 use Rattle.characters.specs.Cases.{by-test}
 use Rattle.characters.specs.Skipping.{skipFrom}
 use Rattle.characters.specs.SkippingLaws.{skip-forward, skip-twice}
 use Rattle.book.specs.Book.{Book, nthNonterminal, nthVariant}
 use Rattle.book.specs.declared.records.Step.{Step}
-use Rattle.semantics.specs.Numbers.{mostNesting, mostRounds}
+use Rattle.semantics.specs.Numbers.{mostNesting, mostRounds, tooDeep}
 use Rattle.semantics.specs.Values.{Parse}
-use Rattle.semantics.specs.Uses.{Use, Path, base, useOf, hasMark, minimum, same-start, governor, keeps}
-use Rattle.semantics.specs.Tokens.{when, isSome, freeEnd, variableAt, hasClaimant, claimed}
-use Rattle.semantics.specs.Steps.{Taken, stepAt, afterElement, closed, Todo, taking, elements, ending, todoOf}
+use Rattle.semantics.specs.Uses.{Use, Path, base, hasMark, same-start, governor, keeps}
+use Rattle.semantics.specs.Tokens.{isSome, freeEnd, variableAt, hasClaimant, claimed}
+use Rattle.semantics.specs.Steps.{stepAt, afterElement, closed, Todo, taking, elements, ending, todoOf}
 use Rattle.semantics.specs.Cells.{Cell}
-use Rattle.semantics.specs.Errors.{Error, joinWith, stepError}
-use Rattle.semantics.specs.Run.{Result, met, ok, _>>=_, State, Parsed, parsed, Call, call, withMine, Runner, Go, Next, allIn, kept, ask, newest, others, withAsked}
+use Rattle.semantics.specs.Errors.{Error, joinWith}
+use Rattle.semantics.specs.Run.{Result, met, ok, _>>=_, State, Parsed, parsed, Call, call, withMine, Runner, Go, Next, allIn, kept, newest, others, withAsked}
 use Rattle.semantics.specs.Run.{add, addAll, spend, make, failedCall, either as eitherError, chosen, begin, withCell, withToken, complete, counted, variants, oneRun}
 use Rattle.semantics.specs.Run.{rounds, runCall, named, runIdentifier, plainNext, listNext, stops, nested, reentry, enter, enterChild, followMore, follow, followed}
 use Rattle.semantics.specs.Run.{stepUnit, orAbsent, choice, listing, steps, runner, run}
@@ -32,161 +33,13 @@ use Rattle.semantics.specs.Theorem.Results.{option-cases, list-cases, go
 use Rattle.semantics.specs.Theorem.Sets.{kept-sift}
 use Rattle.semantics.specs.Theorem.Sound.{At, gov-at}
 use Rattle.semantics.specs.Theorem.Tokens.{free-end-within}
-use Rattle.semantics.specs.ErrorLaws.{Alike, alike-join, alike-choice, alike-counted}
+use Rattle.semantics.specs.ErrorLaws.{Alike, alike-choice, alike-counted}
 use Rattle.semantics.specs.ErrorLaws.Places.{at-in, gov-start, claimant, closed-forward, Onward, after-onward, step-forward}
 use Rattle.semantics.specs.ErrorLaws.Skipped.{Behind, nothing-behind, behind-add, behind-all, Around, Ready, around-child, child-at-start}
-
--- ---- The run, with errors told for re-entries and claimed names
-module _ (told : ℕ → ℕ → Error) (book : Book) (text : List ℕ) (inner : Option Runner) where
-  identifierWith : Call → State → Result Parsed
-  identifierWith c s =
-      when (claimed book text (c .path) base (c .start))
-      (λ _. ok (parsed [] (some (told (c .start) (c .nonterminal))) s))
-      (λ _. named book text c s (freeEnd book text (c .start)))
-
-  enterWith : Path → List (List (Parse ℕ)) → ℕ → ℕ → State → Result Parsed
-  enterWith path sets N u s₀ = do
-    s ← spend s₀
-    elim (governor path base N u) [
-      | same-start i f around ↦ ok (reentry book text inner (kept f (getD sets i [])) (told u N) (withAsked s (ask i (s .asked))))
-      | minimum m ↦ nested book text inner s (λ run.
-          let c = call path sets N u [] in
-          when (hasMark book 2 N) (λ _. identifierWith c s)
-          (λ _. do
-            r ← runCall book text run c m (withAsked s (false ∷ s .asked))
-            ok (parsed (r .set) (r .failure) (withAsked (r .state) (others (r .state .asked))))))
-    ]
-
-  enterChildWith : Call → ℕ → ℕ → ℕ → State → Result Parsed
-  enterChildWith c j M x s =
-      let at = skipFrom text x in
-      enterWith (useOf book (c .nonterminal) (c .start) j at ∷ c .path) (c .mine ∷ c .stored) M at s
-
-  orAbsentWith : Call → ℕ → ℕ → List (Todo ℕ) → Go → Go
-  orAbsentWith c j M rest go x items set s = do
-    absent ← make text Cell.absent s
-    m ← withCell book text j items (absent .cell) (absent .state)
-    a ← go x (m .cell) set (m .state)
-    r ← enterChildWith c j M x (a .state)
-    b ← followed book text inner (plainNext book text c j rest items) (a .set) r
-    ok (chosen c (skipFrom text x) (a .failure) b)
-
-  choiceWith : Call → ℕ → Bool → ℕ → ℕ → Option ℕ → List (Todo ℕ) → Go → Go
-  choiceWith c j comma M values close rest go x items set s₀ = do
-    s ← spend s₀
-    a ← stops book text j values close go x items set s
-    r ← enterChildWith c j M x (a .state)
-    b ← followed book text inner (listNext book text c j comma M values close rest items) (a .set) r
-    ok (chosen c (skipFrom text x) (a .failure) b)
-
-  stepsWith : Runner
-  stepsWith c j [] x items set s = complete book text j x items set s
-  stepsWith c j (elements comma M values close ∷ rest) x items set s = choiceWith c j comma M values close rest (stepsWith c j rest) x items set s
-  stepsWith c j (ending values close ∷ rest) x items set s = stops book text j values close (stepsWith c j rest) x items set s
-  stepsWith c j (taking step ∷ rest) x items set s₀ = do
-    s ← stepUnit book text inner step s₀
-    elim (stepAt book text step x) [
-      | Taken.nothing ↦ ok (parsed set (some (stepError book text step (skipFrom text x))) s)
-      | Taken.token t ↦ withToken book text j items (t .item) s >>= (λ m. stepsWith c j rest (t .next) (m .cell) set (m .state))
-      | Taken.child M ↦ enterChildWith c j M x s >>= (λ r. followed book text inner (plainNext book text c j rest items) set r)
-      | Taken.optional M ↦ orAbsentWith c j M rest (stepsWith c j rest) x items set s
-      | Taken.list comma M close y ↦
-          make text Cell.empty s >>= (λ e. choiceWith c j comma M (e .cell) close rest (stepsWith c j rest) y items set (e .state))
-      | Taken.unopened y ↦ make text Cell.empty s >>= (λ e. stops book text j (e .cell) none (stepsWith c j rest) y items set (e .state))
-    ]
-
-module _ (told : ℕ → ℕ → Error) (book : Book) (text : List ℕ) where
-  runnerWith : ℕ → Option Runner
-  runnerWith zero = none
-  runnerWith (suc n) = some (stepsWith told book text (runnerWith n))
-
-  pub runWith : ℕ → ℕ → Result Parsed
-  runWith units start =
-      enterWith told book text (runnerWith mostNesting) [] [] start (skipFrom text 0) (record { units = units; cells = []; asked = [] })
-
--- ---- Failures and results that are alike
--- both or neither, and a call that begins at the place can't tell them apart
-data Both (place : ℕ) : Option Error → Option Error → Type 0 where
-  neither : Both place none none
-  both : {a b : Error} → Alike place a b → Both place (some a) (some b)
-
-both-same : {place : ℕ} (o : Option Error) → Both place o o
-both-same none = neither
-both-same (some e) = both (record { at = refl; beyond-it = λ far. refl })
-
-both-either : (place : ℕ) {a b c d : Option Error} → Both place a b → Both place c d → Both place (eitherError a c) (eitherError b d)
-unfolding eitherError
-both-either place neither k = neither
-both-either place (both h) neither = neither
-both-either place (both {a} {b} h) (both {a = c} {b = d} k) = both (alike-join place a b c d h k)
-
-module _ (text : List ℕ) where
-  -- the same result, or the same limit
-  data Same (u : ℕ) : Result Parsed → Result Parsed → Type 0 where
-    same-limit : {number units : ℕ} → Same u (met number units) (met number units)
-    same-result : {r : Parsed} → Behind text u (r .set) → Same u (ok r) (ok r)
-
-  -- the same but for failures
-  data Like (u : ℕ) : Result Parsed → Result Parsed → Type 0 where
-    like-limit : {number units : ℕ} → Like u (met number units) (met number units)
-    like-result : {set : List (Parse ℕ)} {s : State} {d e : Option Error} → Behind text u set → Both u d e → Like u (ok (parsed set d s)) (ok (parsed set e s))
-
-  same-is : {u : ℕ} {x y : Result Parsed} → Same u x y → x ≡ y
-  same-is same-limit = refl
-  same-is (same-result b) = refl
-
-  -- seen from a call that began before
-  same-like : {u v : ℕ} {x y : Result Parsed} → v ≤ u → Same u x y → Like v x y
-  same-like l same-limit = like-limit
-  same-like l (same-result {r} b) = like-result (λ p m. let k = b p m in omega arith) (both-same (r .failure))
-
-  -- a part that is the same on both sides, and then others
-  same-next : {u : ℕ} {A : Type 0} (m : Result A) (f g : A → Result Parsed) → ((a : A) → m ≡ ok a → Same u (f a) (g a)) → Same u (m >>= f) (m >>= g)
-  unfolding _>>=_
-  same-next (met number units) f g k = same-limit
-  same-next (ok a) f g k = k a refl
-
-  like-next : {u : ℕ} {A : Type 0} (m : Result A) (f g : A → Result Parsed) → ((a : A) → m ≡ ok a → Like u (f a) (g a)) → Like u (m >>= f) (m >>= g)
-  unfolding _>>=_
-  like-next (met number units) f g k = like-limit
-  like-next (ok a) f g k = k a refl
-
-  same-bind : {v u : ℕ} {x y : Result Parsed} (f g : Parsed → Result Parsed) → Same v x y → ((r : Parsed) → Behind text v (r .set) → Same u (f r) (g r)) →
-      Same u (x >>= f) (y >>= g)
-  unfolding _>>=_
-  same-bind f g same-limit k = same-limit
-  same-bind f g (same-result {r} b) k = k r b
-
-  like-bind : {v u : ℕ} {x y : Result Parsed} (f g : Parsed → Result Parsed) → Like v x y →
-      ((set : List (Parse ℕ)) (s : State) (d e : Option Error) → Behind text v set → Both v d e → Like u (f (parsed set d s)) (g (parsed set e s))) →
-      Like u (x >>= f) (y >>= g)
-  unfolding _>>=_
-  like-bind f g like-limit k = like-limit
-  like-bind f g (like-result {set} {s} {d} {e} b h) k = k set s d e b h
-
-  like-same : {v u : ℕ} {x y : Result Parsed} (f g : Parsed → Result Parsed) → Like v x y →
-      ((set : List (Parse ℕ)) (s : State) (d e : Option Error) → Behind text v set → Both v d e → Same u (f (parsed set d s)) (g (parsed set e s))) →
-      Same u (x >>= f) (y >>= g)
-  unfolding _>>=_
-  like-same f g like-limit k = same-limit
-  like-same f g (like-result {set} {s} {d} {e} b h) k = k set s d e b h
-
-  -- ---- What a part is given to run
-  abbrev LikeRunner : Runner → Runner → Type 0
-  LikeRunner f g = (c : Call) (j : ℕ) (todo : List (Todo ℕ)) (x items : ℕ) (set : List (Parse ℕ)) (s : State) → Ready text c → c .start ≤ x →
-      Behind text (c .start) set → Like (c .start) (f c j todo x items set s) (g c j todo x items set s)
-
-  data LikeInner : Option Runner → Option Runner → Type 0 where
-    deepest : LikeInner none none
-    deeper : {f g : Runner} → LikeRunner f g → LikeInner (some f) (some g)
-
-  abbrev LikeGo : Call → Go → Go → Type 0
-  LikeGo c go go′ = (x items : ℕ) (set : List (Parse ℕ)) (s : State) → c .start ≤ x → Behind text (c .start) set →
-      Like (c .start) (go x items set s) (go′ x items set s)
-
-  abbrev LikeNext : Call → Next → Type 0
-  LikeNext c next = (q : Parse ℕ) (s : State) (f g : Runner) (set : List (Parse ℕ)) → LikeRunner f g → c .start ≤ q .rest → Behind text (c .start) set →
-      Like (c .start) (next q s f set) (next q s g set)
+use Rattle.semantics.specs.ErrorLaws.Told.{identifierWith, enterWith, enterChildWith, orAbsentWith, choiceWith, stepsWith, runnerWith, runWith}
+use Rattle.semantics.specs.ErrorLaws.Like.{Both, neither, both, both-same, both-either, Same, same-limit, same-result, Like, like-limit, like-result}
+use Rattle.semantics.specs.ErrorLaws.Like.{same-is, same-like, same-next, like-next, same-bind, like-bind, like-same, LikeRunner, LikeInner, deepest, deeper}
+use Rattle.semantics.specs.ErrorLaws.Like.{LikeGo, LikeNext}
 
 module _ (book : Book) (text : List ℕ) where
   -- a call counts the same of failures that are alike to it
@@ -292,7 +145,7 @@ module _ (book : Book) (text : List ℕ) where
     unfolding nested
     nested-same {u} s k k′ h = by likes
       where
-        by : {o o′ : Option Runner} → LikeInner text o o′ → Same text u (elim o [ some run ↦ k run | none ↦ met 21 (s .units) ]) (elim o′ [ some run ↦ k′ run | none ↦ met 21 (s .units) ])
+        by : {o o′ : Option Runner} → LikeInner text o o′ → Same text u (elim o [ some run ↦ k run | none ↦ met tooDeep (s .units) ]) (elim o′ [ some run ↦ k′ run | none ↦ met tooDeep (s .units) ])
         by deepest = same-limit
         by (deeper {f} {g} like) = h f g like
 
@@ -301,7 +154,7 @@ module _ (book : Book) (text : List ℕ) where
     unfolding nested
     nested-like {u} s k k′ h = by likes
       where
-        by : {o o′ : Option Runner} → LikeInner text o o′ → Like text u (elim o [ some run ↦ k run | none ↦ met 21 (s .units) ]) (elim o′ [ some run ↦ k′ run | none ↦ met 21 (s .units) ])
+        by : {o o′ : Option Runner} → LikeInner text o o′ → Like text u (elim o [ some run ↦ k run | none ↦ met tooDeep (s .units) ]) (elim o′ [ some run ↦ k′ run | none ↦ met tooDeep (s .units) ])
         by deepest = like-limit
         by (deeper {f} {g} like) = h f g like
 
