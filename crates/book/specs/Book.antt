@@ -17,7 +17,8 @@ pub record Entry : Type 0 where
   pub label : ℕ
   pub spelling : List ℕ
 
--- A nonterminal's variants are the `number` ones from `first` on, and so are a variant's steps; both are numbered over the book from 0
+-- A nonterminal's variants are the `number` ones from `first` on, and so are a variant's steps; both are numbered over
+-- the book from 0
 pub record Book : Type 0 where
   pub words : List Entry
   pub names : List Entry
@@ -32,9 +33,12 @@ nthEntry entries i = getD entries i (record { label = 0; spelling = [] })
 abbrev pub nthNonterminal : Book → ℕ → Nonterminal
 nthNonterminal book i = getD (book .nonterminals) i (record { mark = Mark.Plain; first = 0; count = 0 })
 
+abbrev pub noVariant : Variant
+noVariant =
+    record { level = 0; associativity = Associativity.Left; committed = false; passing = false; first = 0; count = 0 }
+
 abbrev pub nthVariant : Book → ℕ → Variant
-nthVariant book j =
-    getD (book .variants) j (record { level = 0; associativity = Associativity.Left; committed = false; passing = false; first = 0; count = 0 })
+nthVariant book j = getD (book .variants) j noVariant
 
 abbrev pub nthStep : List Step → ℕ → Step
 nthStep steps k = getD steps k (Step.Character 0)
@@ -51,7 +55,8 @@ isReserved (w ∷ ws) spelling = reservedAs spelling w || isReserved ws spelling
 -- "The last equal one wins": each equal name takes the place of what was found before it. The names are numbered from i
 unfoldable pub lookupFrom : Found → ℕ → List Entry → List ℕ → Found
 lookupFrom found i [] spelling = found
-lookupFrom found i (n ∷ ns) spelling = lookupFrom (cond (same spelling (n .spelling)) (Found.Name i (n .label)) found) (suc i) ns spelling
+lookupFrom found i (n ∷ ns) spelling =
+    lookupFrom (cond (same spelling (n .spelling)) (Found.Name i (n .label)) found) (suc i) ns spelling
 
 abbrev pub lookupName : List Entry → List ℕ → Found
 lookupName names spelling = lookupFrom Found.Nothing 0 names spelling

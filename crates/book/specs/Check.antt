@@ -1,4 +1,5 @@
--- Document 01, "The book" and refusals 3 to 8 of "The answer": the check of a book, "byte by byte forward, a bad byte before a missing one".
+-- Document 01, "The book" and refusals 3 to 8 of "The answer": the check of a book, "byte by byte forward, a bad byte
+-- before a missing one". Numbers.antt names the refusals and the limits.
 use mathlib.Core.Bool.{Bool, cond, not, _&&_, _||_}
 use mathlib.Core.List.{List, [], _∷_, map}
 use Prim.Native.Nat.{ℕ, zero, suc, _+_, _%_}
@@ -6,6 +7,10 @@ use lib.Dec.{leb, ltb, eqb}
 use lib.ListN.{length, getD}
 use Rattle.characters.specs.Classes.{between, isOf}
 use Rattle.characters.specs.declared.classes.Class.the-variants.{Letter, Digit}
+use Rattle.book.specs.Numbers.{bookEndsEarly, badCount, badSpelling, badField, badPassing, bytesLeftOver}
+use Rattle.book.specs.Numbers.{mostWords, mostNames, mostNonterminals, mostVariants, reserved, lastKind}
+use Rattle.book.specs.Numbers.{longestSpelling, identifierMark, variantsEach, defaultLevel, both, lastFlags}
+use Rattle.book.specs.Numbers.{stepsEach, lastStepKind, firstCharacter, lastCharacter}
 use Rattle.book.specs.Book.{Entry, Book, stepNumber, nthStep}
 use Rattle.book.specs.declared.records.Mark.{Mark}
 use Rattle.book.specs.declared.records.Associativity.{Associativity}
@@ -43,19 +48,21 @@ here = λ book place. accepted place place
 -- A byte that passes a test, else the refusal at the place `at`; where the book has ended, 3 at its length
 unfoldable pub checked : (ℕ → Bool) → ℕ → ℕ → Reader ℕ
 checked fits number at book place =
-    cond (ltb place (length book)) (cond (fits (getD book place 0)) (accepted (getD book place 0) (place + 1)) (refused number at)) (refused 3 (length book))
+    cond (ltb place (length book))
+    (cond (fits (getD book place 0)) (accepted (getD book place 0) (place + 1)) (refused number at))
+    (refused bookEndsEarly (length book))
 
 -- "section count outside its limits or unequal to its sum": 4 at the count
 abbrev pub count : (ℕ → Bool) → Reader ℕ
 count fits = do
   at ← here
-  checked fits 4 at
+  checked fits badCount at
 
 -- "any other field out of range": 6 at that byte
 abbrev pub field : (ℕ → Bool) → Reader ℕ
 field fits = do
   at ← here
-  checked fits 6 at
+  checked fits badField at
 
 -- n records in a row. Each is told the sum of the sizes of those before it
 module _ {A : Type 0} (size : A → ℕ) (one : ℕ → Reader A) where
@@ -88,8 +95,8 @@ shaped i b = isOf Letter b || (ltb 0 i && isOf Digit b)
 unfoldable pub spelling : Reader (List ℕ)
 spelling = do
   at ← here
-  size ← checked (between 1 15) 5 at
-  row (λ b. 1) (λ i. checked (shaped i) 5 at) size 0
+  size ← checked (between 1 longestSpelling) badSpelling at
+  row (λ b. 1) (λ i. checked (shaped i) badSpelling at) size 0
 
 -- ---- Sections 1 and 2: "reserved 0 or 1, length, bytes"; "kind 0 to 7, length, bytes"
 unfoldable pub entry : ℕ → Reader Entry
@@ -104,21 +111,25 @@ markOf n = cond (eqb n 1) Mark.Variable (cond (eqb n 2) Mark.Identifier Mark.Pla
 
 unfoldable pub nonterminal : ℕ → Reader Nonterminal
 nonterminal first = do
-  mark ← field (between 0 2)
-  count ← field (between 0 (cond (eqb mark 2) 0 16))
+  mark ← field (between 0 identifierMark)
+  count ← field (between 0 (cond (eqb mark identifierMark) 0 variantsEach))
   give (record { mark = markOf mark; first = first; count = count })
 
--- ---- Section 4: "level; associativity 0 Left, 1 Right, 2 None, 3 Both; flags 0 to 3 (1 committed, plus 2 passing); steps 0 to 8";
--- "Level 255 is Rust's default and needs Both, else 6 at the associativity"
+-- ---- Section 4: "level; associativity 0 Left, 1 Right, 2 None, 3 Both; flags 0 to 3 (1 committed, plus 2 passing);
+-- steps 0 to 8"; "Level 255 is Rust's default and needs Both, else 6 at the associativity"
 abbrev pub associativityOf : ℕ → Associativity
-associativityOf n = cond (eqb n 0) Associativity.Left (cond (eqb n 1) Associativity.Right (cond (eqb n 2) Associativity.None Associativity.Both))
+associativityOf n =
+    cond (eqb n 0) Associativity.Left
+    (cond (eqb n 1) Associativity.Right
+    (cond (eqb n 2) Associativity.None
+    Associativity.Both))
 
 unfoldable pub variant : ℕ → Reader Variant
 variant first = do
-  level ← field (between 0 255)
-  associativity ← field (between (cond (eqb level 255) 3 0) 3)
-  flags ← field (between 0 3)
-  count ← field (between 0 8)
+  level ← field (between 0 defaultLevel)
+  associativity ← field (between (cond (eqb level defaultLevel) both 0) both)
+  flags ← field (between 0 lastFlags)
+  count ← field (between 0 stepsEach)
   give (record {
     level = level;
     associativity = associativityOf associativity;
@@ -132,15 +143,15 @@ variant first = do
 -- which a a kind has: "Characters are 33 to 126"; a word, a kind of names, a nonterminal, or 0
 abbrev pub argument : ℕ → ℕ → ℕ → ℕ → Bool
 argument words nonterminals kind a =
-    cond (eqb kind 0) (between 33 126 a)
+    cond (eqb kind 0) (between firstCharacter lastCharacter a)
     (cond (eqb kind 1) (ltb a words)
-    (cond (eqb kind 5) (between 0 7 a)
+    (cond (eqb kind 5) (between 0 lastKind a)
     (cond (leb 8 kind) (ltb a nonterminals)
     (eqb a 0))))
 
 -- which b and c: "12 delimited a between b and c; 13 the same, optional"
 abbrev pub delimiter : ℕ → ℕ → Bool
-delimiter kind b = cond (leb 12 kind) (between 33 126 b) (eqb b 0)
+delimiter kind b = cond (leb 12 kind) (between firstCharacter lastCharacter b) (eqb b 0)
 
 -- a kind that is none of these has no step; it reads as the character 0, which no book asks for
 unfoldable pub stepOf : ℕ → ℕ → ℕ → ℕ → Step
@@ -163,7 +174,7 @@ stepOf kind a b c =
 
 unfoldable pub step : ℕ → ℕ → Reader Step
 step words nonterminals = do
-  kind ← field (between 0 13)
+  kind ← field (between 0 lastStepKind)
   a ← field (argument words nonterminals kind)
   b ← field (delimiter kind)
   c ← field (delimiter kind)
@@ -175,11 +186,12 @@ passes steps v = not (v .passing) || (eqb (v .count) 1 && eqb (stepNumber (nthSt
 
 unfoldable pub allPass : List Step → List (ℕ × Variant) → Reader (Unit {0})
 allPass steps [] = give tt
-allPass steps (v ∷ vs) = λ book place. cond (passes steps (v .1)) (allPass steps vs book place) (refused 7 (v .0))
+allPass steps (v ∷ vs) = λ book place.
+    cond (passes steps (v .1)) (allPass steps vs book place) (refused badPassing (v .0))
 
 -- "last": "bytes left over", 8 at the "first of them"
 unfoldable pub ended : Reader (Unit {0})
-ended book place = cond (ltb place (length book)) (refused 8 place) (accepted tt place)
+ended book place = cond (ltb place (length book)) (refused bytesLeftOver place) (accepted tt place)
 
 -- ---- The whole book
 -- the sum of the sizes
@@ -187,17 +199,29 @@ abbrev pub total : {A : Type 0} → (A → ℕ) → List A → ℕ
 total size [] = 0
 total size (x ∷ xs) = size x + total size xs
 
+-- "the sum of those, at most 128"
+abbrev pub variantsFit : ℕ → ℕ → Bool
+variantsFit all n = between 0 mostVariants n && eqb n all
+
 -- the sections in order, then 7, then 8
-unfoldable pub whole : Reader Book
-whole = do
-  words ← section (between 0 64) (λ w. 0) (λ first. entry 1)
-  names ← section (between 0 64) (λ w. 0) (λ first. entry 7)
-  nonterminals ← section (between 1 32) (λ n. n .count) nonterminal
-  variants ← section (λ n. between 0 128 n && eqb n (total (λ x. x .count) nonterminals)) (λ v. v .1 .count) (λ first. placed (variant first))
-  steps ← section (eqb (total (λ v. v .1 .count) variants)) (λ s. 0) (λ first. step (length words) (length nonterminals))
+unfoldable pub entireBook : Reader Book
+entireBook = do
+  words ← section (between 0 mostWords) (λ w. 0) (λ first. entry reserved)
+  names ← section (between 0 mostNames) (λ w. 0) (λ first. entry lastKind)
+  nonterminals ← section (between 1 mostNonterminals) (λ n. n .count) nonterminal
+  variants ←
+      section (variantsFit (total (λ n. n .count) nonterminals)) (λ v. v .1 .count) (λ first. placed (variant first))
+  steps ←
+      section (eqb (total (λ v. v .1 .count) variants)) (λ s. 0) (λ first. step (length words) (length nonterminals))
   passed ← allPass steps variants
   over ← ended
-  give (record { words = words; names = names; nonterminals = nonterminals; variants = map (λ v. v .1) variants; steps = steps })
+  give (record {
+    words = words;
+    names = names;
+    nonterminals = nonterminals;
+    variants = map (λ v. v .1) variants;
+    steps = steps;
+  })
 
 -- the book that the bytes are, or a refusal's number and place
 pub data Outcome : Type 0 where
@@ -208,5 +232,14 @@ abbrev pub outcome : Checked Book → Outcome
 outcome (refused number place) = refusal number place
 outcome (accepted b next) = book b
 
+-- document 01's "refusal (0 if none), place", where a place that isn't stated is 0
+abbrev pub outcomeRefusal : Outcome → ℕ
+outcomeRefusal (Outcome.book b) = 0
+outcomeRefusal (Outcome.refusal number place) = number
+
+abbrev pub outcomePlace : Outcome → ℕ
+outcomePlace (Outcome.book b) = 0
+outcomePlace (Outcome.refusal number place) = place
+
 unfoldable pub checkBook : List ℕ → Outcome
-checkBook bytes = outcome (whole bytes 0)
+checkBook bytes = outcome (entireBook bytes 0)

@@ -1,4 +1,12 @@
--- Laws of what comes after the five sections: passing variants, the end, and the outcome.
+-- Laws of what comes after the five sections.
+--
+--   pass-            the loop over the variants: those before a number pass
+--   says-case        a verdict that is an outcome's has its numbers
+--   checks-          the check: refused in a section, at a passing variant, for bytes left over; or accepted
+--   passes-          whether one variant passes
+--   into-            the public check, with an index that is long enough and with one that isn't
+--
+-- Not here: the sections (RowLaws, WholeLaws).
 use mathlib.Core.Path.{_≡_, refl, ap, _∙_}
 use mathlib.Core.Bool.{true, false}
 use mathlib.Core.List.{List, [], _∷_, _++_, map}
@@ -10,8 +18,8 @@ use lib.ListN.{length, drop, drop-of-length-le}
 use lib.Seq.{drop-cons}
 use borrow.Author.Tests.{lt-ltb, le-ltb, eq-eqb, ne-eqb}
 use Rattle.book.specs.Book.{Book, nthVariant, stepNumber, nthStep}
-use Rattle.book.specs.Check.{Checked, refused, accepted, andThen, passes, allPass, ended, whole, Outcome, checkBook}
-use Rattle.book.specs.Index.{given, upTo, countIn, placeIn, firstIn, variantFrom, entriesIn, nonterminalsIn, placedIn, stepsIn, bookIn, fiveSections, Sections, SectionsRead, Checks, CheckedInto, Kept}
+use Rattle.book.specs.Check.{Checked, refused, accepted, andThen, passes, allPass, ended, entireBook, Outcome, checkBook}
+use Rattle.book.specs.Index.{readingOf, upTo, countIn, placeIn, firstIn, variantFrom, entriesIn, nonterminalsIn, placedIn, stepsIn, bookIn, fiveSections, Sections, SectionsRead, refusalOf, placeOf, verdict, Says, Checks, CheckedInto, Kept}
 use Rattle.book.specs.ReadingLaws.{upTo-in, upTo-length}
 use Rattle.book.specs.WholeLaws.{follow-read}
 use Rattle.book.specs.declared.checking.Verdict.{Verdict}
@@ -76,28 +84,32 @@ rest book words names nonterminals variants steps place =
     andThen (ended book p) (λ over q.
     accepted (record { words = words; names = names; nonterminals = nonterminals; variants = map (λ v. v .1) variants; steps = steps }) q))
 
-whole-is : (book : List ℕ) → whole book 0 ≡ fiveSections book (rest book)
-unfolding whole
-whole-is book = refl
+entire-is : (book : List ℕ) → entireBook book 0 ≡ fiveSections book (rest book)
+unfolding entireBook
+entire-is book = refl
 
-refused-checks : (book f g : List ℕ) {n p : ℕ} → whole book 0 ≡ refused n p → Kept 0 1091 f g → Checks book f g (Verdict.Refused n p)
+pub says-case : (o : Outcome) (r : Verdict) → r ≡ verdict o → Says o r
+says-case (Outcome.book b) r e = record { refusal = ap refusalOf e; place = ap placeOf e; case = e }
+says-case (Outcome.refusal n p) r e = record { refusal = ap refusalOf e; place = ap placeOf e; case = e }
+
+refused-checks : (book f g : List ℕ) {n p : ℕ} → entireBook book 0 ≡ refused n p → Kept 0 1091 f g → Checks book f g (Verdict.Refused n p)
 unfolding checkBook
-refused-checks book f g w k = record { says = rw w; gives = λ e. let z : _≡_ {A = ℕ} 0 1 = cc in absurd (omega arith); kept = k }
+refused-checks book f g w k = record { says = says-case _ _ (rw w); gives = λ e. let z : _≡_ {A = ℕ} 0 1 = cc in absurd (omega arith); kept = k }
 
 module _ (book f g : List ℕ) (part : Part) (s : SectionsRead book f g part) where
   -- the sections are refused
   pub checks-sections : {n p : ℕ} → part ≡ Part.Refused n p → Checks book f g (Verdict.Refused n p)
-  checks-sections told = refused-checks book f g (whole-is book ∙ s .reads (rest book) ∙ rw told) (s .kept)
+  checks-sections told = refused-checks book f g (entire-is book ∙ s .reads (rest book) ∙ rw told) (s .kept)
 
-  module _ (v next : ℕ) (told : part ≡ Part.Read v next) (passed : Part) (p-is : allPass (bookIn book g .steps) (placedIn book g) book next ≡ given passed (λ v. tt)) where
-    the-rest : whole book 0 ≡ rest book (entriesIn book g 0) (entriesIn book g 129) (nonterminalsIn book g) (placedIn book g) (stepsIn book g) next
-    the-rest = whole-is book ∙ s .reads (rest book) ∙ follow-read part _ told
+  module _ (v next : ℕ) (told : part ≡ Part.Read v next) (passed : Part) (p-is : allPass (bookIn book g .steps) (placedIn book g) book next ≡ readingOf passed (λ v. tt)) where
+    the-rest : entireBook book 0 ≡ rest book (entriesIn book g 0) (entriesIn book g 129) (nonterminalsIn book g) (placedIn book g) (stepsIn book g) next
+    the-rest = entire-is book ∙ s .reads (rest book) ∙ follow-read part _ told
 
     steps-are : bookIn book g .steps ≡ stepsIn book g
     unfolding bookIn
     steps-are = refl
 
-    pass-is : allPass (stepsIn book g) (placedIn book g) book next ≡ given passed (λ v. tt)
+    pass-is : allPass (stepsIn book g) (placedIn book g) book next ≡ readingOf passed (λ v. tt)
     pass-is = rw steps-are at p-is
 
     -- a variant doesn't pass
@@ -126,8 +138,8 @@ module _ (book f g : List ℕ) (part : Part) (s : SectionsRead book f g part) wh
       pub checks-accepted : length book ≤ last → Checks book f g Verdict.Accepted
       unfolding ended checkBook
       checks-accepted h =
-          let w : whole book 0 ≡ accepted gathered last = the-rest ∙ rw (pass-is, told′, le-ltb last (length book) h) in
-          record { says = rw w; gives = λ e. rw w (ap Outcome.book the-book); kept = s .kept }
+          let w : entireBook book 0 ≡ accepted gathered last = the-rest ∙ rw (pass-is, told′, le-ltb last (length book) h) in
+          record { says = says-case _ _ (rw w); gives = λ e. rw w (ap Outcome.book the-book); kept = s .kept }
 
 -- ---- One variant
 module _ (steps : List Step) (v w : Variant) (same-variant : v ≡ w) where
@@ -150,7 +162,7 @@ module _ (book f g : List ℕ) (r : Verdict) where
 pub into-short : (book f : List ℕ) → length f < 1091 → CheckedInto book f f (Verdict.Refused 1 0)
 into-short book f h =
     record {
-      says = rw (lt-ltb (length f) 1091 h);
+      says = says-case _ _ (rw (lt-ltb (length f) 1091 h));
       gives = λ e. let z : _≡_ {A = ℕ} 0 1 = cc in absurd (omega arith);
       beyond = λ k l. refl;
       short = λ l. refl;

@@ -1,4 +1,7 @@
 -- Laws of spellings, words and starting names, in the order in which the code reads their bytes.
+--
+--   bytesFrom, Begun, begun-     the loop over a spelling's bytes: what has been read, and what is read from here
+--   spelling-, entry-            where the reading of each stops, and what it reads
 use mathlib.Core.Path.{_≡_, refl, sym, _∙_}
 use mathlib.Core.List.{List, [], _∷_, _++_}
 use Prim.Native.Nat.{ℕ, _+_, _-_, _≤_, _<_}
@@ -12,7 +15,7 @@ use Rattle.characters.specs.Cases.{by-test}
 use Rattle.characters.specs.Classes.{between}
 use Rattle.characters.specs.Spelling.{partOf}
 use Rattle.book.specs.Check.{Checked, refused, accepted, checked, row, shaped, spelling, entry}
-use Rattle.book.specs.Index.{given, Valued, One}
+use Rattle.book.specs.Index.{readingOf, Valued, One}
 use Rattle.book.specs.ReaderLaws.{checked-short, checked-told, after, row-begins, row-refused, row-on, row-ends}
 use Rattle.book.specs.RecordLaws.{Byte, one-refused}
 use Rattle.book.specs.declared.parts.Part.{Part}
@@ -66,8 +69,8 @@ module _ (book : List ℕ) (place : ℕ) where
   spelling-stop e = rw e
 
   pub spelling-read : (size next : ℕ) (part : Part) → checked (between 1 15) 5 place book place ≡ accepted size next →
-      bytesFrom book place next size 0 next ≡ given part (λ v. partOf book next size) →
-      spelling book place ≡ given part (λ v. partOf book (place + 1) (getD book place 0))
+      bytesFrom book place next size 0 next ≡ readingOf part (λ v. partOf book next size) →
+      spelling book place ≡ readingOf part (λ v. partOf book (place + 1) (getD book place 0))
   unfolding spelling
   spelling-read size next part e f =
       let told = checked-told (between 1 15) 5 place book place size next e in
@@ -80,7 +83,7 @@ module _ (book : List ℕ) (place greatest : ℕ) where
   entry-stop e first = rw e
 
   pub entry-read : (label next : ℕ) (part : Part) → Byte (between 0 greatest) book place (accepted label next) →
-      spelling book next ≡ given part (λ v. partOf book (next + 1) (getD book next 0)) → Valued part 0 → One (Sort.Entry greatest) book place part
+      spelling book next ≡ readingOf part (λ v. partOf book (next + 1) (getD book next 0)) → Valued part 0 → One (Sort.Entry greatest) book place part
   unfolding entry
   entry-read label next (Part.Refused n p) l e h = one-refused (Sort.Entry greatest) book place (Part.Refused n p) refl (λ first. rw l (rw e))
   entry-read label next (Part.Read v last) l e h =

@@ -1,16 +1,21 @@
--- The index of a book, and the book that an index gives: each record from its place. This is no part of what document 01 says: the contract
--- of `check_into` equates the book that its index gives with the one of `checkBook`, and the reading functions are stated over the former.
+-- The index of a book, and the book that an index gives: each record from its place. This is no part of what document
+-- 01 says: the contract of `check_into` equates the book that its index gives with the one of `checkBook`, and the
+-- reading functions are stated over the former.
 use mathlib.Core.Bool.{Bool, cond, _&&_}
 use mathlib.Core.List.{List, [], _∷_, _++_}
 use mathlib.Core.Path.{_≡_}
 use Prim.Native.Nat.{ℕ, zero, suc, _+_, _-_, _*_, _%_, _≤_, _<_}
 use lib.Dec.{leb, ltb, eqb}
 use lib.ListN.{length, getD}
-use Rattle.characters.specs.Slices.{Lent, atEntry}
+use Rattle.characters.specs.Slices.{Lent, atEntry, indexSize}
 use Rattle.characters.specs.Classes.{between}
 use Rattle.characters.specs.Spelling.{partOf}
 use Rattle.book.specs.Book.{Entry, Book}
-use Rattle.book.specs.Check.{Checked, refused, accepted, andThen, Reader, row, section, placed, entry, markOf, nonterminal, associativityOf, variant, stepOf, step, total, Outcome, checkBook}
+use Rattle.book.specs.Numbers.{listTooShort, mostWords, mostNames, mostNonterminals, reserved, lastKind}
+use Rattle.book.specs.Numbers.{lastStepKind, firstCharacter, lastCharacter}
+use Rattle.book.specs.Check.{Checked, refused, accepted, andThen, Reader, row, section, placed, entry, markOf}
+use Rattle.book.specs.Check.{nonterminal, associativityOf, variant, stepOf, step, total, variantsFit}
+use Rattle.book.specs.Check.{Outcome, outcomeRefusal, outcomePlace, checkBook}
 use Rattle.book.specs.declared.checking.Verdict.{Verdict}
 use Rattle.book.specs.declared.parts.Part.{Part}
 use Rattle.book.specs.declared.sections.Sort.{Sort}
@@ -66,7 +71,22 @@ recordFrom Sort.Nonterminal book at first = nonterminalFrom book at first
 recordFrom Sort.Variant book at first = (at, variantFrom book at first)
 recordFrom (Sort.Step words nonterminals) book at first = stepFrom book at
 
--- ---- The index
+-- ---- The index: where each section's region begins (`indexSize` of Slices is how many numbers it has in all)
+abbrev pub wordsAt : ℕ
+wordsAt = 0
+
+abbrev pub namesAt : ℕ
+namesAt = 129
+
+abbrev pub nonterminalsAt : ℕ
+nonterminalsAt = 258
+
+abbrev pub variantsAt : ℕ
+variantsAt = 323
+
+abbrev pub stepsAt : ℕ
+stepsAt = 580
+
 -- the values of f below n, in order
 unfoldable pub upTo : {A : Type 0} → ℕ → (ℕ → A) → List A
 upTo zero f = []
@@ -88,14 +108,26 @@ recordsIn sort book index base n = upTo n (λ i. recordFrom sort book (placeIn i
 abbrev pub entriesIn : List ℕ → List ℕ → ℕ → List Entry
 entriesIn book index base = upTo (countIn index base) (λ i. entryFrom book (placeIn index base i))
 
+abbrev pub nonterminalsIn : List ℕ → List ℕ → List Nonterminal
+nonterminalsIn book index = recordsIn Sort.Nonterminal book index nonterminalsAt (countIn index nonterminalsAt)
+
+-- each with its place
+abbrev pub placedIn : List ℕ → List ℕ → List (ℕ × Variant)
+placedIn book index = recordsIn Sort.Variant book index variantsAt (countIn index variantsAt)
+
+abbrev pub stepsIn : List ℕ → List ℕ → List Step
+stepsIn book index = upTo (countIn index stepsAt) (λ k. stepFrom book (placeIn index stepsAt k))
+
 unfoldable pub bookIn : List ℕ → List ℕ → Book
 bookIn book index =
     record {
-      words = entriesIn book index 0;
-      names = entriesIn book index 129;
-      nonterminals = upTo (countIn index 258) (λ i. nonterminalFrom book (placeIn index 258 i) (firstIn index 258 i));
-      variants = upTo (countIn index 323) (λ j. variantFrom book (placeIn index 323 j) (firstIn index 323 j));
-      steps = upTo (countIn index 580) (λ k. stepFrom book (placeIn index 580 k));
+      words = entriesIn book index wordsAt;
+      names = entriesIn book index namesAt;
+      nonterminals = nonterminalsIn book index;
+      variants =
+          upTo (countIn index variantsAt)
+          (λ j. variantFrom book (placeIn index variantsAt j) (firstIn index variantsAt j));
+      steps = stepsIn book index;
     }
 
 -- the book of two slices that a function is lent
@@ -108,23 +140,26 @@ belowRange n = cond (eqb n 0) (record { low = 1; high = 0 }) (record { low = 0; 
 
 abbrev pub argumentRange : ℕ → ℕ → ℕ → Range
 argumentRange words nonterminals kind =
-    cond (eqb kind 0) (record { low = 33; high = 126 })
+    cond (eqb kind 0) (record { low = firstCharacter; high = lastCharacter })
     (cond (eqb kind 1) (belowRange words)
-    (cond (eqb kind 5) (record { low = 0; high = 7 })
+    (cond (eqb kind 5) (record { low = 0; high = lastKind })
     (cond (leb 8 kind) (belowRange nonterminals)
     (record { low = 0; high = 0 }))))
 
 abbrev pub delimiterRange : ℕ → Range
-delimiterRange kind = cond (leb 12 kind) (record { low = 33; high = 126 }) (record { low = 0; high = 0 })
+delimiterRange kind =
+    cond (leb 12 kind) (record { low = firstCharacter; high = lastCharacter }) (record { low = 0; high = 0 })
 
 abbrev pub allowed : ℕ → ℕ → ℕ → Allowed
-allowed words nonterminals kind = cond (leb kind 13) (Allowed.Ranges (argumentRange words nonterminals kind) (delimiterRange kind)) Allowed.Refused
+allowed words nonterminals kind =
+    cond (leb kind lastStepKind) (Allowed.Ranges (argumentRange words nonterminals kind) (delimiterRange kind))
+    Allowed.Refused
 
 -- ---- What the code's answers say
 -- a reading, of which the code gives the next place, or the refusal; what was read may go by the code's value
-abbrev pub given : {A : Type 0} → Part → (ℕ → A) → Checked A
-given (Part.Read value next) f = accepted (f value) next
-given (Part.Refused number place) f = refused number place
+abbrev pub readingOf : {A : Type 0} → Part → (ℕ → A) → Checked A
+readingOf (Part.Read value next) f = accepted (f value) next
+readingOf (Part.Refused number place) f = refused number place
 
 -- the code's value, where there is one, is n
 abbrev pub Valued : Part → ℕ → Type 0
@@ -143,13 +178,13 @@ pub record Kept (low high : ℕ) (f g : List ℕ) : Type 0 where
 
 -- one record was read
 pub record One (sort : Sort) (book : List ℕ) (at : ℕ) (part : Part) : Type 0 where
-  pub reads : (first : ℕ) → oneOf sort first book at ≡ given part (λ v. recordFrom sort book at first)
+  pub reads : (first : ℕ) → oneOf sort first book at ≡ readingOf part (λ v. recordFrom sort book at first)
   pub valued : (first : ℕ) → Valued part (sizeOf sort (recordFrom sort book at first))
   pub small : Small part
 
 -- a row of records was read, and its numbers stand in the index
 pub record Row (sort : Sort) (book : List ℕ) (at count base : ℕ) (f g : List ℕ) (part : Part) : Type 0 where
-  pub reads : row (sizeOf sort) (oneOf sort) count 0 book at ≡ given part (λ v. recordsIn sort book g base count)
+  pub reads : row (sizeOf sort) (oneOf sort) count 0 book at ≡ readingOf part (λ v. recordsIn sort book g base count)
   pub valued : Valued part (total (sizeOf sort) (recordsIn sort book g base count))
   pub kept : Kept (base + 1) (base + 1 + 2 * count) f g
 
@@ -159,8 +194,11 @@ Few (Part.Read value next) n high = n ≤ high
 Few (Part.Refused number place) n high = Unit {0}
 
 -- a section was read: its count, which passes a test and is at most `high`, and its row
-pub record Section (sort : Sort) (fits : ℕ → Bool) (book : List ℕ) (at high base : ℕ) (f g : List ℕ) (part : Part) : Type 0 where
-  pub reads : section fits (sizeOf sort) (oneOf sort) book at ≡ given part (λ v. recordsIn sort book g base (countIn g base))
+pub record Section (sort : Sort) (fits : ℕ → Bool) (book : List ℕ) (at high base : ℕ) (f g : List ℕ) (part : Part) :
+    Type 0 where
+  pub reads :
+      section fits (sizeOf sort) (oneOf sort) book at ≡
+      readingOf part (λ v. recordsIn sort book g base (countIn g base))
   pub valued : Valued part (total (sizeOf sort) (recordsIn sort book g base (countIn g base)))
   pub few : Few part (countIn g base) high
   pub kept : Kept base (base + 1 + 2 * high) f g
@@ -171,35 +209,26 @@ abbrev pub followed : Part → (ℕ → Checked Book) → Checked Book
 followed (Part.Read value next) K = K next
 followed (Part.Refused number place) K = refused number place
 
-abbrev pub nonterminalsIn : List ℕ → List ℕ → List Nonterminal
-nonterminalsIn book index = recordsIn Sort.Nonterminal book index 258 (countIn index 258)
-
-abbrev pub placedIn : List ℕ → List ℕ → List (ℕ × Variant)
-placedIn book index = recordsIn Sort.Variant book index 323 (countIn index 323)
-
-abbrev pub stepsIn : List ℕ → List ℕ → List Step
-stepsIn book index = upTo (countIn index 580) (λ k. stepFrom book (placeIn index 580 k))
-
 abbrev pub Heads : Type 0
 Heads = List Entry → List Entry → List Nonterminal → ℕ → Checked Book
 
 -- words, names and nonterminals, and what follows them
 abbrev pub heads : List ℕ → Heads → Checked Book
 heads book K =
-    andThen (section (between 0 64) (λ w. 0) (λ first. entry 1) book 0) (λ words p.
-    andThen (section (between 0 64) (λ w. 0) (λ first. entry 7) book p) (λ names q.
-    andThen (section (between 1 32) (λ n. n .count) nonterminal book q) (λ nonterminals r. K words names nonterminals r)))
+    andThen (section (between 0 mostWords) (λ w. 0) (λ first. entry reserved) book 0) (λ words p.
+    andThen (section (between 0 mostNames) (λ w. 0) (λ first. entry lastKind) book p) (λ names q.
+    andThen (section (between 1 mostNonterminals) (λ n. n .count) nonterminal book q) (λ nonterminals r.
+    K words names nonterminals r)))
 
 pub record HeadsRead (book f g : List ℕ) (part : Part) : Type 0 where
-  pub reads : (K : Heads) → heads book K ≡ followed part (K (entriesIn book g 0) (entriesIn book g 129) (nonterminalsIn book g))
+  pub reads :
+      (K : Heads) →
+      heads book K ≡ followed part (K (entriesIn book g wordsAt) (entriesIn book g namesAt) (nonterminalsIn book g))
   pub valued : Valued part (total (λ n. n .count) (nonterminalsIn book g))
-  pub few-words : Few part (countIn g 0) 64
-  pub few-names : Few part (countIn g 129) 64
-  pub few-nonterminals : Few part (countIn g 258) 32
-  pub kept : Kept 0 323 f g
-
-abbrev pub variantsFit : ℕ → ℕ → Bool
-variantsFit all n = between 0 128 n && eqb n all
+  pub few-words : Few part (countIn g wordsAt) mostWords
+  pub few-names : Few part (countIn g namesAt) mostNames
+  pub few-nonterminals : Few part (countIn g nonterminalsAt) mostNonterminals
+  pub kept : Kept 0 variantsAt f g
 
 abbrev pub Sections : Type 0
 Sections = List Entry → List Entry → List Nonterminal → List (ℕ × Variant) → List Step → ℕ → Checked Book
@@ -207,32 +236,62 @@ Sections = List Entry → List Entry → List Nonterminal → List (ℕ × Varia
 abbrev pub fiveSections : List ℕ → Sections → Checked Book
 fiveSections book K =
     heads book (λ words names nonterminals p.
-    andThen (section (variantsFit (total (λ n. n .count) nonterminals)) (λ v. v .1 .count) (λ first. placed (variant first)) book p) (λ variants q.
-    andThen (section (eqb (total (λ v. v .1 .count) variants)) (λ s. 0) (λ first. step (length words) (length nonterminals)) book q) (λ steps r.
+    andThen
+    (section (variantsFit (total (λ n. n .count) nonterminals)) (λ v. v .1 .count) (λ first. placed (variant first))
+    book p) (λ variants q.
+    andThen
+    (section (eqb (total (λ v. v .1 .count) variants)) (λ s. 0) (λ first. step (length words) (length nonterminals))
+    book q) (λ steps r.
     K words names nonterminals variants steps r)))
 
 pub record SectionsRead (book f g : List ℕ) (part : Part) : Type 0 where
-  pub reads : (K : Sections) → fiveSections book K ≡ followed part (K (entriesIn book g 0) (entriesIn book g 129) (nonterminalsIn book g) (placedIn book g) (stepsIn book g))
-  pub kept : Kept 0 1091 f g
+  pub reads :
+      (K : Sections) →
+      fiveSections book K ≡
+      followed part
+      (K (entriesIn book g wordsAt) (entriesIn book g namesAt) (nonterminalsIn book g) (placedIn book g)
+      (stepsIn book g))
+  pub kept : Kept 0 indexSize f g
+
+-- ---- Verdicts
+abbrev pub verdictOf : Part → Verdict
+verdictOf (Part.Read value next) = Verdict.Accepted
+verdictOf (Part.Refused number place) = Verdict.Refused number place
+
+-- a verdict's numbers: document 01's "refusal (0 if none), place", where a place that isn't stated is 0
+abbrev pub refusalOf : Verdict → ℕ
+refusalOf Verdict.Accepted = 0
+refusalOf (Verdict.Refused number place) = number
+
+abbrev pub placeOf : Verdict → ℕ
+placeOf Verdict.Accepted = 0
+placeOf (Verdict.Refused number place) = place
 
 -- the verdict of an outcome
 abbrev pub verdict : Outcome → Verdict
 verdict (Outcome.book b) = Verdict.Accepted
 verdict (Outcome.refusal number place) = Verdict.Refused number place
 
+-- a verdict has an outcome's numbers, and is its case
+pub record Says (o : Outcome) (r : Verdict) : Type 0 where
+  pub refusal : refusalOf r ≡ outcomeRefusal o
+  pub place : placeOf r ≡ outcomePlace o
+  pub case : r ≡ verdict o
+
 -- what the check promises: the verdict; the book, where it is accepted; and nothing beyond the index is stored
 pub record Checks (book f g : List ℕ) (r : Verdict) : Type 0 where
-  pub says : r ≡ verdict (checkBook book)
+  pub says : Says (checkBook book) r
   pub gives : r ≡ Verdict.Accepted → checkBook book ≡ Outcome.book (bookIn book g)
-  pub kept : Kept 0 1091 f g
+  pub kept : Kept 0 indexSize f g
 
-abbrev pub refusalOf : Part → Verdict
-refusalOf (Part.Read value next) = Verdict.Accepted
-refusalOf (Part.Refused number place) = Verdict.Refused number place
+-- the outcome of the check with an index: one that is too short is refused as 1
+abbrev pub checkWith : List ℕ → List ℕ → Outcome
+checkWith book index = cond (ltb (length index) indexSize) (Outcome.refusal listTooShort 0) (checkBook book)
 
--- the public promise: an index that is too short is refused as 1, and left
+-- The public promise. An index that is too short is left as it is. Where the book is refused, the index holds what was
+-- read before the refusal, of which nothing is said: whoever reads by it has the verdict
 pub record CheckedInto (book f g : List ℕ) (r : Verdict) : Type 0 where
-  pub says : r ≡ cond (ltb (length f) 1091) (Verdict.Refused 1 0) (verdict (checkBook book))
+  pub says : Says (checkWith book f) r
   pub gives : r ≡ Verdict.Accepted → checkBook book ≡ Outcome.book (bookIn book g)
-  pub beyond : (k : ℕ) → 1091 ≤ k → getD g k 0 ≡ getD f k 0
-  pub short : length f < 1091 → g ≡ f
+  pub beyond : (k : ℕ) → indexSize ≤ k → getD g k 0 ≡ getD f k 0
+  pub short : length f < indexSize → g ≡ f

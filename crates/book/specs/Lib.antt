@@ -1,4 +1,5 @@
 -- Document 01, "The book", and refusals 3 to 8 of "The answer".
+pub mod Numbers
 pub mod Book
 pub mod Check
 pub mod Index
@@ -9,3 +10,4 @@ pub mod RowLaws
 pub mod ReadingLaws
 pub mod WholeLaws
 pub mod EndLaws
+pub mod BoundLaws

@@ -1,4 +1,12 @@
--- Laws of readers: single bytes, what follows a part, and rows of records.
+-- Laws of readers, for the functions that read one byte and for those above them.
+--
+--   between-                        a number inside, under and over a range
+--   checked-, field-                a byte of the book: good, bad, missing
+--   read, stopped, stop, handed     what follows a part that was read, and one that was refused
+--   no-value, value-of, ..          the value of a part
+--   after, row-, total-snoc         a row of records, of which some have been read
+--
+-- Not here: the records themselves (RecordLaws, EntryLaws), and a row with its index (RowLaws).
 use mathlib.Core.Path.{_≡_, refl, sym, ap, _∙_}
 use mathlib.Core.Bool.{Bool, true, false, and-false}
 use mathlib.Core.List.{List, [], _∷_, _++_, append-nil, append-assoc}
@@ -11,7 +19,7 @@ use borrow.Author.Tests.{lt-ltb, le-ltb, le-leb, lt-leb, leb-true, ltb-true, ltb
 use Rattle.characters.specs.Cases.{by-test, clash}
 use Rattle.characters.specs.Classes.{between}
 use Rattle.book.specs.Check.{Checked, refused, accepted, andThen, Reader, checked, row, total}
-use Rattle.book.specs.Index.{given, Valued, Small}
+use Rattle.book.specs.Index.{readingOf, Valued, Small}
 use Rattle.book.specs.declared.parts.Part.{Part}
 
 -- ---- Ranges
@@ -71,20 +79,20 @@ module _ (low high number at : ℕ) (book : List ℕ) (place value : ℕ) (h : p
   field-read l k = checked-good (between low high) number at book place h (between-inside low high (getD book place 0) (omega arith) (omega arith)) ∙ rw value-is
 
 -- ---- What follows a part
-module _ {A : Type 0} (c : Checked A) (part : Part) (f : ℕ → A) (e : c ≡ given part f) where
+module _ {A : Type 0} (c : Checked A) (part : Part) (f : ℕ → A) (e : c ≡ readingOf part f) where
   pub read : {v q : ℕ} → part ≡ Part.Read v q → c ≡ accepted (f v) q
-  read told = e ∙ ap (λ (p : Part). given p f) told
+  read told = e ∙ ap (λ (p : Part). readingOf p f) told
 
   pub stopped : {n p : ℕ} → part ≡ Part.Refused n p → c ≡ refused n p
-  stopped told = e ∙ ap (λ (p : Part). given p f) told
+  stopped told = e ∙ ap (λ (p : Part). readingOf p f) told
 
   -- a refusal is handed on
-  pub stop : {B : Type 0} (K : A → ℕ → Checked B) (g : ℕ → B) {n p : ℕ} → part ≡ Part.Refused n p → andThen c K ≡ given part g
+  pub stop : {B : Type 0} (K : A → ℕ → Checked B) (g : ℕ → B) {n p : ℕ} → part ≡ Part.Refused n p → andThen c K ≡ readingOf part g
   stop K g told = rw (stopped told, told)
 
 -- a refusal as a part says it
-pub handed : {A : Type 0} {c : Checked A} {part : Part} (g : ℕ → A) {n p : ℕ} → c ≡ refused n p → part ≡ Part.Refused n p → c ≡ given part g
-handed g e told = e ∙ sym (ap (λ (x : Part). given x g) told)
+pub handed : {A : Type 0} {c : Checked A} {part : Part} (g : ℕ → A) {n p : ℕ} → c ≡ refused n p → part ≡ Part.Refused n p → c ≡ readingOf part g
+handed g e told = e ∙ sym (ap (λ (x : Part). readingOf x g) told)
 
 -- a part that was refused has no value
 pub no-value : {part : Part} {n p : ℕ} → part ≡ Part.Refused n p → (k : ℕ) → Valued part k

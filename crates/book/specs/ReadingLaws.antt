@@ -1,4 +1,12 @@
--- Laws of reading a book by its index, in the order in which the code asks, and of the lookups.
+-- Laws of reading a book by its index, in the order in which the code asks.
+--
+--   mark-of-number, ..                          a number of document 01, and what it stands for
+--   upTo-                                       a list of a function's values, by number
+--   nonterminal-, variant-, step-, entry-       a record that the book has, and one that it doesn't
+--   reserved-, words-length                     the loop that looks for a reserved word
+--   lookup-                                     the loop that looks for the last equal name
+--
+-- Not here: that the index gives the book of the check (WholeLaws, EndLaws).
 use mathlib.Core.Path.{_≡_, refl, sym, ap, _∙_}
 use mathlib.Core.Bool.{true, false, cond}
 use mathlib.Core.List.{List, [], _∷_, _++_}

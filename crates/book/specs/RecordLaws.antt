@@ -1,4 +1,10 @@
--- Laws of single records, in the order in which the code reads their bytes: where the reading stops, and what was read.
+-- Laws of nonterminals, variants and steps, in the order in which the code reads their bytes.
+--
+--   one-refused, Byte                        a record that is refused; a byte that was read
+--   nonterminal-, variant-, step-            where the reading of each stops, and what it reads
+--   past, Known, allowed-known, -refused     what the dispatch over the kinds of steps tells
+--
+-- Not here: words and names (EntryLaws).
 use mathlib.Core.Path.{_≡_, refl, sym, ap, _∙_, fun-ext}
 use mathlib.Core.Bool.{Bool, true, false, cond}
 use mathlib.Core.List.{List}
@@ -10,7 +16,7 @@ use borrow.Author.Tests.{le-ltb, eqb-true, eqb-false, leb-true, leb-false, ltb-t
 use Rattle.characters.specs.Cases.{by-test, clash}
 use Rattle.characters.specs.Classes.{between}
 use Rattle.book.specs.Check.{Checked, refused, accepted, checked, nonterminal, variant, step, argument, delimiter}
-use Rattle.book.specs.Index.{given, One, oneOf, recordFrom, belowRange, argumentRange, delimiterRange, allowed}
+use Rattle.book.specs.Index.{readingOf, One, oneOf, recordFrom, belowRange, argumentRange, delimiterRange, allowed}
 use Rattle.book.specs.ReaderLaws.{between-high, between-inside, between-under, between-over, ByteRead, checked-short, checked-bad, checked-good, checked-told, no-value, no-size}
 use Rattle.book.specs.declared.parts.Part.{Part}
 use Rattle.book.specs.declared.sections.Sort.{Sort}
@@ -20,7 +26,7 @@ use Rattle.book.specs.declared.sections.Allowed.{Allowed}
 -- a record that is refused
 pub one-refused : (sort : Sort) (book : List ℕ) (at : ℕ) (part : Part) {n p : ℕ} → part ≡ Part.Refused n p → ((first : ℕ) → oneOf sort first book at ≡ refused n p) → One sort book at part
 one-refused sort book at part told h = record {
-  reads = λ first. h first ∙ sym (ap (λ (x : Part). given x (λ v. recordFrom sort book at first)) told);
+  reads = λ first. h first ∙ sym (ap (λ (x : Part). readingOf x (λ v. recordFrom sort book at first)) told);
   valued = λ first. no-value told _;
   small = no-size told;
 }
@@ -36,7 +42,7 @@ module _ (book : List ℕ) (place : ℕ) where
   nonterminal-stop e first = rw e
 
   pub nonterminal-read : (mark next most : ℕ) (part : Part) → Byte (between 0 2) book place (accepted mark next) → most ≡ cond (eqb mark 2) 0 16 →
-      Byte (between 0 most) book next (given part (λ v. v)) → One Sort.Nonterminal book place part
+      Byte (between 0 most) book next (readingOf part (λ v. v)) → One Sort.Nonterminal book place part
   unfolding nonterminal
   nonterminal-read mark next most (Part.Refused n p) m most-is e =
       one-refused Sort.Nonterminal book place (Part.Refused n p) refl (λ first. rw m (rw (rw most-is at e)))
@@ -69,7 +75,7 @@ module _ (book : List ℕ) (place : ℕ) where
       variant-stop-flags e first = rw l (rw (rw least-is at a) (rw e))
 
       pub variant-read : (flags number-at : ℕ) (part : Part) → Byte (between 0 3) book flags-at (accepted flags number-at) →
-          Byte (between 0 8) book number-at (given part (λ v. v)) → One Sort.Variant book place part
+          Byte (between 0 8) book number-at (readingOf part (λ v. v)) → One Sort.Variant book place part
       unfolding variant
       variant-read flags number-at (Part.Refused n p) f e =
           one-refused Sort.Variant book place (Part.Refused n p) refl (λ first. rw l (rw (rw least-is at a) (rw f (rw e))))

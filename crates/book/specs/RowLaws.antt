@@ -1,4 +1,11 @@
--- Laws of a row of records with its index: two numbers are stored for each record.
+-- Laws of a row of records with its index, in which two numbers are stored for each record.
+--
+--   upTo-                 a list of a function's values
+--   Stored, stored        two numbers stored side by side
+--   Begun, begun-         the loop over the records: what has been read stands in the index
+--   section-, count-fits  a section: its count and its row
+--
+-- Not here: sections one after the other (WholeLaws).
 use mathlib.Core.Path.{_≡_, refl, sym, _∙_}
 use mathlib.Core.Bool.{Bool}
 use mathlib.Core.List.{List, [], _∷_, _++_}

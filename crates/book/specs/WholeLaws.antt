@@ -1,4 +1,12 @@
 -- Laws of the sections one after the other. A section's records stay where they are while later sections are read.
+--
+--   kept-, count-stays, records-stay     numbers of the index that a later section leaves
+--   follow, follow-                      what follows a part
+--   heads-                               words, names and nonterminals
+--   same-range, variants-fit, ..         the tests of the counts; `retest`, a section under another test that says the same
+--   sections-                            all five
+--
+-- Not here: what comes after them (EndLaws).
 use mathlib.Core.Path.{_≡_, sym, ap, _∙_}
 use mathlib.Core.Bool.{Bool, false, and-false}
 use mathlib.Core.List.{List}
@@ -10,8 +18,8 @@ use borrow.Author.Tests.{eq-eqb, ne-eqb, eqb-true, eqb-false, leb-true, leb-fals
 use Rattle.characters.specs.Cases.{by-test}
 use Rattle.characters.specs.Classes.{between}
 use Rattle.book.specs.Book.{Entry, Book}
-use Rattle.book.specs.Check.{Checked, andThen, checked, row, section, placed, entry, nonterminal, variant, step, total}
-use Rattle.book.specs.Index.{given, Few, Kept, Section, sizeOf, oneOf, recordsIn, countIn, placeIn, firstIn, entriesIn, nonterminalsIn, placedIn, stepsIn, followed, HeadsRead, variantsFit, SectionsRead}
+use Rattle.book.specs.Check.{Checked, andThen, checked, row, section, placed, entry, nonterminal, variant, step, total, variantsFit}
+use Rattle.book.specs.Index.{readingOf, Few, Kept, Section, sizeOf, oneOf, recordsIn, countIn, placeIn, firstIn, entriesIn, nonterminalsIn, placedIn, stepsIn, followed, HeadsRead, SectionsRead}
 use Rattle.book.specs.ReaderLaws.{between-inside, between-under, between-over, no-value, value-of}
 use Rattle.book.specs.RowLaws.{upTo-same, not-few}
 use Rattle.book.specs.ReadingLaws.{upTo-length}
@@ -46,7 +54,7 @@ module _ (sort : Sort) (book : List ℕ) (base low high : ℕ) (f g : List ℕ) 
       rw (p, q)))
 
 -- ---- What follows a part
-pub follow : {A : Type 0} (c : Checked A) (part : Part) (x : A) (K : A → ℕ → Checked Book) → c ≡ given part (λ v. x) → andThen c K ≡ followed part (K x)
+pub follow : {A : Type 0} (c : Checked A) (part : Part) (x : A) (K : A → ℕ → Checked Book) → c ≡ readingOf part (λ v. x) → andThen c K ≡ followed part (K x)
 follow c (Part.Read value next) x K e = rw e
 follow c (Part.Refused number place) x K e = rw e
 
@@ -183,7 +191,7 @@ module _ (book f g : List ℕ) (head : Part) (s : HeadsRead book f g head) where
     all-is : all ≡ total (λ n. n .count) (nonterminalsIn book g)
     all-is = value-of told _ (s .valued)
 
-    variants-read : section (variantsFit (total (λ n. n .count) (nonterminalsIn book g))) (λ v. v .1 .count) (λ first. placed (variant first)) book p ≡ given body (λ v. placedIn book h)
+    variants-read : section (variantsFit (total (λ n. n .count) (nonterminalsIn book g))) (λ v. v .1 .count) (λ first. placed (variant first)) book p ≡ readingOf body (λ v. placedIn book h)
     variants-read = rw (← all-is) (s′ .reads)
 
     pub sections-variants : {n q : ℕ} → body ≡ Part.Refused n q → SectionsRead book f h body
@@ -211,7 +219,7 @@ module _ (book f g : List ℕ) (head : Part) (s : HeadsRead book f g head) where
       few-variants-read = few-read _ _ told′ (s′ .few)
 
       steps-read : section (eqb (total (λ v. v .1 .count) (placedIn book h))) (λ s. 0) (λ first. step (length (entriesIn book g 0)) (length (nonterminalsIn book g))) book q ≡
-          given last (λ v. stepsIn book i)
+          readingOf last (λ v. stepsIn book i)
       steps-read =
           let total-is = value-of told′ _ (s′ .valued) in
           let words-are : countIn h 0 ≡ length (entriesIn book g 0) = s′ .kept .below 0 (omega arith) ∙ sym (upTo-length _ (countIn g 0)) in

@@ -5,8 +5,12 @@ ghost use Prim.Native.Nat.{ℕ, _+_, _*_, _≤_, _<_};
 ghost use lib.Dec.{ltb, eqb};
 ghost use lib.ListN.{length, getD};
 ghost use Rattle.book.specs.Book.{stepNumber, nthVariant};
-ghost use Rattle.book.specs.Check.{passes as passesIn, allPass, checkBook};
-ghost use Rattle.book.specs.Index.{given, Section, variantsFit, countIn, placedIn, bookIn, HeadsRead, SectionsRead, Checks, CheckedInto, refusalOf, verdict};
+ghost use Rattle.characters.specs.Slices.{indexSize};
+ghost use Rattle.book.specs.Numbers.{mostVariants};
+ghost use Rattle.book.specs.Check.{passes as passesIn, allPass, checkBook, variantsFit};
+ghost use Rattle.book.specs.Index.{wordsAt, nonterminalsAt, variantsAt, stepsAt};
+ghost use Rattle.book.specs.Index.{readingOf, Section, countIn, placedIn, bookAt, HeadsRead, SectionsRead};
+ghost use Rattle.book.specs.Index.{verdictOf, Says, Checks, CheckedInto};
 ghost use Rattle.book.specs.declared.sections.Sort.{Sort};
 use crate::index::INDEX_SIZE;
 use crate::index::NAMES;
@@ -16,10 +20,20 @@ use crate::index::VARIANTS;
 use crate::index::WORDS;
 use crate::index::count;
 use crate::index::place;
+use crate::limits::LARGEST_BYTE;
+use crate::limits::LAST_KIND;
+use crate::limits::MOST_NAMES;
+use crate::limits::MOST_NONTERMINALS;
+use crate::limits::MOST_VARIANTS;
+use crate::limits::MOST_WORDS;
+use crate::limits::RESERVED;
 use crate::parts::Part;
 use crate::reading::step;
 use crate::reading::step_number;
 use crate::reading::variant;
+use crate::refusals::BAD_PASSING;
+use crate::refusals::BYTES_LEFT_OVER;
+use crate::refusals::LIST_TOO_SHORT;
 use crate::sections::Sort;
 use crate::sections::section;
 
@@ -30,10 +44,10 @@ pub enum Verdict {
 
 // Words, names and nonterminals; the value is the number of variants.
 fn heads(book: &[u8], index: &mut [usize]) -> Part
-    requires { ⌜ 1091 ≤ length (now index) ⌝ }
+    requires { ⌜ indexSize ≤ length (now index) ⌝ }
     ensures { λ r. ⌜ HeadsRead (now (book .entry)) (now (index .entry)) (now (index .exit)) r ⌝ }
 {
-    let words = section(book, 0, 0, 64, Sort::Entry(1), index, WORDS);
+    let words = section(book, 0, 0, MOST_WORDS, Sort::Entry(RESERVED), index, WORDS);
     let Part::Read {
         value: _,
         next: names_at,
@@ -41,7 +55,15 @@ fn heads(book: &[u8], index: &mut [usize]) -> Part
     else {
         return words;
     };
-    let names = section(book, names_at, 0, 64, Sort::Entry(7), index, NAMES);
+    let names = section(
+        book,
+        names_at,
+        0,
+        MOST_NAMES,
+        Sort::Entry(LAST_KIND),
+        index,
+        NAMES,
+    );
     let Part::Read {
         value: _,
         next: nonterminals_at,
@@ -53,7 +75,7 @@ fn heads(book: &[u8], index: &mut [usize]) -> Part
         book,
         nonterminals_at,
         1,
-        32,
+        MOST_NONTERMINALS,
         Sort::Nonterminal,
         index,
         NONTERMINALS,
@@ -62,24 +84,27 @@ fn heads(book: &[u8], index: &mut [usize]) -> Part
 
 // The variants, `total` of them and at most 128; the value is the number of steps.
 fn variants(book: &[u8], at: usize, total: usize, index: &mut [usize]) -> Part
-    requires { ⌜ 1091 ≤ length (now index) ⌝ }
-    ensures { λ r. ⌜ Section Sort.Variant (variantsFit total) (now (book .entry)) at 128 323 (now (index .entry)) (now (index .exit)) r ⌝ }
+    requires { ⌜ indexSize ≤ length (now index) ⌝ }
+    ensures { λ r. ⌜ Section Sort.Variant (variantsFit total) (now (book .entry)) at mostVariants variantsAt
+        (now (index .entry)) (now (index .exit)) r ⌝ }
 {
-    if total <= 128 {
+    if total <= MOST_VARIANTS {
         section(book, at, total, total, Sort::Variant, index, VARIANTS)
     } else {
         section(book, at, 1, 0, Sort::Variant, index, VARIANTS)
     }
 }
 
-// The steps, `total` of them. A byte counts no more than 255.
+// The steps, `total` of them. A byte counts no more than 255, so a larger total is none that a count equals.
 fn steps(book: &[u8], at: usize, total: usize, index: &mut [usize]) -> Part
-    requires { ⌜ 1091 ≤ length (now index) ⌝ }
-    ensures { λ r. ⌜ Section (Sort.Step (countIn (now (index .entry)) 0) (countIn (now (index .entry)) 258)) (eqb total) (now (book .entry)) at 255 580 (now (index .entry)) (now (index .exit)) r ⌝ }
+    requires { ⌜ indexSize ≤ length (now index) ⌝ }
+    ensures { λ r. ⌜ Section
+        (Sort.Step (countIn (now (index .entry)) wordsAt) (countIn (now (index .entry)) nonterminalsAt)) (eqb total)
+        (now (book .entry)) at 255 stepsAt (now (index .entry)) (now (index .exit)) r ⌝ }
 {
     let words = count(index, WORDS);
     let nonterminals = count(index, NONTERMINALS);
-    if total <= 255 {
+    if total <= LARGEST_BYTE {
         section(
             book,
             at,
@@ -103,7 +128,7 @@ fn steps(book: &[u8], at: usize, total: usize, index: &mut [usize]) -> Part
 }
 
 fn five_sections(book: &[u8], index: &mut [usize]) -> Part
-    requires { ⌜ 1091 ≤ length (now index) ⌝ }
+    requires { ⌜ indexSize ≤ length (now index) ⌝ }
     ensures { λ r. ⌜ SectionsRead (now (book .entry)) (now (index .entry)) (now (index .exit)) r ⌝ }
 {
     let head = heads(book, index);
@@ -127,7 +152,7 @@ fn five_sections(book: &[u8], index: &mut [usize]) -> Part
 
 // A passing variant is one step of kind 8.
 fn passes(book: &[u8], index: &[usize], j: usize) -> bool
-    ensures { λ r. ⌜ r ≡ passesIn (bookIn (now (book .entry)) (now (index .entry)) .steps) (nthVariant (bookIn (now (book .entry)) (now (index .entry))) j) ⌝ }
+    ensures { λ r. ⌜ r ≡ passesIn (bookAt book index .steps) (nthVariant (bookAt book index) j) ⌝ }
 {
     let v = variant(book, index, j);
     if v.passing {
@@ -141,14 +166,15 @@ fn passes(book: &[u8], index: &[usize], j: usize) -> bool
 
 // The first variant that doesn't pass, as a refusal, or `next`.
 fn all_pass(book: &[u8], index: &[usize], next: usize) -> Part
-    ensures { λ r. ⌜ allPass (bookIn (now (book .entry)) (now (index .entry)) .steps) (placedIn (now (book .entry)) (now (index .entry))) (now (book .entry)) next ≡ given r (λ v. tt) ⌝ }
+    ensures { λ r. ⌜ allPass (bookAt book index .steps)
+        (placedIn (now (book .entry)) (now (index .entry))) (now (book .entry)) next ≡ readingOf r (λ v. tt) ⌝ }
 {
     let variants = count(index, VARIANTS);
     let mut j = 0;
     while j < variants {
         if !passes(book, index, j) {
             return Part::Refused {
-                number: 7,
+                number: BAD_PASSING,
                 place: place(index, VARIANTS, j),
             };
         }
@@ -159,7 +185,7 @@ fn all_pass(book: &[u8], index: &[usize], next: usize) -> Part
 
 // The check with an index that is long enough.
 fn checked(book: &[u8], index: &mut [usize]) -> Verdict
-    requires { ⌜ 1091 ≤ length (now index) ⌝ }
+    requires { ⌜ indexSize ≤ length (now index) ⌝ }
     ensures { λ r. ⌜ Checks (now (book .entry)) (now (index .entry)) (now (index .exit)) r ⌝ }
 {
     let sections = five_sections(book, index);
@@ -176,7 +202,7 @@ fn checked(book: &[u8], index: &mut [usize]) -> Verdict
     };
     if last < book.len() {
         Verdict::Refused {
-            number: 8,
+            number: BYTES_LEFT_OVER,
             place: last,
         }
     } else {
@@ -185,7 +211,7 @@ fn checked(book: &[u8], index: &mut [usize]) -> Verdict
 }
 
 fn refusal(part: Part) -> Verdict
-    ensures { λ r. ⌜ r ≡ refusalOf part ⌝ }
+    ensures { λ r. ⌜ r ≡ verdictOf part ⌝ }
 {
     match part {
         Part::Read { value: _, next: _ } => Verdict::Accepted,
@@ -193,22 +219,24 @@ fn refusal(part: Part) -> Verdict
     }
 }
 
-// The check of a book, which fills its index. An index that is too short is left as it is, and refused as 1.
+// The check of a book, which fills its index. An index that is too short is left as it is, and refused as 1. Where the
+// book is refused, the index holds the places of what was read before, and the contract says nothing of them: no book
+// is there to be read by them.
 pub fn check_into(book: &[u8], index: &mut [usize]) -> Verdict
     ensures { λ r. ⌜ CheckedInto (now (book .entry)) (now (index .entry)) (now (index .exit)) r ⌝ }
 {
     if index.len() < INDEX_SIZE {
         return Verdict::Refused {
-            number: 1,
+            number: LIST_TOO_SHORT,
             place: 0,
         };
     }
     checked(book, index)
 }
 
-// The check alone.
+// The check alone, for a caller who wants the verdict and reads no book by the index.
 pub fn check(book: &[u8]) -> Verdict
-    ensures { λ r. ⌜ r ≡ verdict (checkBook (now (book .entry))) ⌝ }
+    ensures { λ r. ⌜ Says (checkBook (now (book .entry))) r ⌝ }
 {
     let mut index = [0usize; INDEX_SIZE];
     check_into(book, &mut index)

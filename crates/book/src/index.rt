@@ -1,6 +1,6 @@
-// The index of a book: numbers in a lent slice, by which each record is found in constant time. It has a region for each section: the
-// count, and then two numbers for each record, its place in the book and the sum of the numbers of variants, or of steps, of the records
-// before it in the section.
+// The index of a book: numbers in a lent slice, by which each record is found in constant time. It has a region for
+// each section: the count, and then two numbers for each record, its place in the book and the sum of the numbers of
+// variants, or of steps, of the records before it in the section.
 ghost use mathlib.Core.Path.{_≡_};
 ghost use Prim.Native.Nat.{_≤_};
 ghost use lib.ListN.{getD, set};

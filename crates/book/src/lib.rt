@@ -1,17 +1,22 @@
-// The second layer: a rule book, checked and read by its fields. Document 01, "The book" and refusals 3 to 8 of "The answer".
+// The second layer: a rule book, checked and read by its fields. Document 01, "The book" and refusals 3 to 8 of "The
+// answer".
 //
-// `check` and `check_into` equal `checkBook` of specs/Check.antt on every list of bytes. `check_into` also fills an index, a lent slice of
-// `INDEX_SIZE` numbers, and promises that the book which the index gives (`bookIn` of specs/Index.antt) is the one of `checkBook`. Each reading
-// function takes the bytes and the index, and equals the field of that book, in constant time. No public function has a `requires`: a number that the
-// book doesn't have gets a fixed answer, whatever the bytes and the index hold.
+// `check` and `check_into` equal `checkBook` of specs/Check.antt on every list of bytes. `check_into` also fills an
+// index, a lent slice of `INDEX_SIZE` numbers, and promises that the book which the index gives (`bookIn` of
+// specs/Index.antt) is the one of `checkBook`. Each reading function takes the bytes and the index, and equals the
+// field of that book, in constant time. No public function has a `requires`: a number that the book doesn't have gets a
+// fixed answer, whatever the bytes and the index hold.
 //
-// The crate relies on the promises of `characters`, and assumes nothing. specs/ has the definitions (Book, Check), the index (Index), and laws.
+// The crate relies on the promises of `characters`, and assumes nothing. specs/ has the definitions (Book, Check), the
+// index (Index), and laws.
 mod checking;
 mod index;
+mod limits;
 mod names;
 mod parts;
 mod reading;
 mod records;
+mod refusals;
 mod sections;
 mod spellings;
 

@@ -4,7 +4,7 @@ ghost use Prim.Native.Nat.{_+_, _≤_};
 ghost use lib.ListN.{getD, length};
 ghost use Rattle.characters.specs.Spelling.{partOf, same};
 ghost use Rattle.book.specs.Book.{nthEntry, reservedAs, isReserved, lookupName};
-ghost use Rattle.book.specs.Index.{entriesIn, entryFrom, placeIn, bookIn};
+ghost use Rattle.book.specs.Index.{entriesIn, entryFrom, bookAt};
 use crate::index::NAMES;
 use crate::index::WORDS;
 use crate::index::count;
@@ -54,26 +54,26 @@ fn label(book: &[u8], index: &[usize], base: usize, i: usize) -> usize
 }
 
 pub fn word<'a>(book: &'a [u8], index: &[usize], i: usize) -> &'a [u8]
-    ensures { λ r. ⌜ now r ≡ nthEntry (bookIn (now (book .entry)) (now (index .entry)) .words) i .spelling ⌝ }
+    ensures { λ r. ⌜ now r ≡ nthEntry (bookAt book index .words) i .spelling ⌝ }
 {
     spelling(book, index, WORDS, i)
 }
 
 // 1 for a reserved word, 0 for another.
 pub fn word_label(book: &[u8], index: &[usize], i: usize) -> usize
-    ensures { λ r. ⌜ r ≡ nthEntry (bookIn (now (book .entry)) (now (index .entry)) .words) i .label ⌝ }
+    ensures { λ r. ⌜ r ≡ nthEntry (bookAt book index .words) i .label ⌝ }
 {
     label(book, index, WORDS, i)
 }
 
 pub fn name<'a>(book: &'a [u8], index: &[usize], i: usize) -> &'a [u8]
-    ensures { λ r. ⌜ now r ≡ nthEntry (bookIn (now (book .entry)) (now (index .entry)) .names) i .spelling ⌝ }
+    ensures { λ r. ⌜ now r ≡ nthEntry (bookAt book index .names) i .spelling ⌝ }
 {
     spelling(book, index, NAMES, i)
 }
 
 pub fn name_kind(book: &[u8], index: &[usize], i: usize) -> usize
-    ensures { λ r. ⌜ r ≡ nthEntry (bookIn (now (book .entry)) (now (index .entry)) .names) i .label ⌝ }
+    ensures { λ r. ⌜ r ≡ nthEntry (bookAt book index .names) i .label ⌝ }
 {
     label(book, index, NAMES, i)
 }
@@ -81,14 +81,15 @@ pub fn name_kind(book: &[u8], index: &[usize], i: usize) -> usize
 // Whether entry i is spelled as a part of the text.
 fn spelled(book: &[u8], index: &[usize], base: usize, i: usize, wanted: &[u8]) -> bool
     requires { ⌜ base ≤ 580 ⌝ }
-    ensures { λ r. ⌜ r ≡ same (now (wanted .entry)) (nthEntry (entriesIn (now (book .entry)) (now (index .entry)) base) i .spelling) ⌝ }
+    ensures { λ r. ⌜ r ≡ same (now (wanted .entry))
+        (nthEntry (entriesIn (now (book .entry)) (now (index .entry)) base) i .spelling) ⌝ }
 {
     same_bytes(wanted, spelling(book, index, base, i))
 }
 
 // Whether word i is reserved and spelled as a part of the text.
 fn reserved_as(book: &[u8], index: &[usize], i: usize, wanted: &[u8]) -> bool
-    ensures { λ r. ⌜ r ≡ reservedAs (now (wanted .entry)) (nthEntry (bookIn (now (book .entry)) (now (index .entry)) .words) i) ⌝ }
+    ensures { λ r. ⌜ r ≡ reservedAs (now (wanted .entry)) (nthEntry (bookAt book index .words) i) ⌝ }
 {
     if label(book, index, WORDS, i) == 1 {
         spelled(book, index, WORDS, i, wanted)
@@ -99,7 +100,7 @@ fn reserved_as(book: &[u8], index: &[usize], i: usize, wanted: &[u8]) -> bool
 
 // Whether a part of the text is reserved: whether an equal word is.
 pub fn is_reserved(book: &[u8], index: &[usize], text: &[u8], start: usize, size: usize) -> bool
-    ensures { λ r. ⌜ r ≡ isReserved (bookIn (now (book .entry)) (now (index .entry)) .words) (partOf (now (text .entry)) start size) ⌝ }
+    ensures { λ r. ⌜ r ≡ isReserved (bookAt book index .words) (partOf (now (text .entry)) start size) ⌝ }
 {
     let wanted = part(text, start, size);
     let words = count(index, WORDS);
@@ -115,7 +116,7 @@ pub fn is_reserved(book: &[u8], index: &[usize], text: &[u8], start: usize, size
 
 // Which starting name a part of the text is: the last equal one.
 pub fn lookup(book: &[u8], index: &[usize], text: &[u8], start: usize, size: usize) -> Found
-    ensures { λ r. ⌜ r ≡ lookupName (bookIn (now (book .entry)) (now (index .entry)) .names) (partOf (now (text .entry)) start size) ⌝ }
+    ensures { λ r. ⌜ r ≡ lookupName (bookAt book index .names) (partOf (now (text .entry)) start size) ⌝ }
 {
     let wanted = part(text, start, size);
     let names = count(index, NAMES);

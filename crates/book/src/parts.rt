@@ -2,7 +2,8 @@
 ghost use mathlib.Core.Path.{_≡_};
 ghost use Rattle.characters.specs.Classes.{between};
 ghost use Rattle.book.specs.Check.{checked};
-ghost use Rattle.book.specs.Index.{given};
+ghost use Rattle.book.specs.Index.{readingOf};
+use crate::refusals::BOOK_ENDS_EARLY;
 use characters::byte_at;
 
 pub enum Part {
@@ -12,22 +13,22 @@ pub enum Part {
     Refused { number: usize, place: usize },
 }
 
-// A byte from `low` to `high`, else the refusal `number` at the place `at`.
-pub fn field(book: &[u8], place: usize, low: usize, high: usize, number: usize, at: usize) -> Part
-    ensures { λ r. ⌜ checked (between low high) number at (now (book .entry)) place ≡ given r (λ v. v) ⌝ }
+// A byte from `low` to `high`, else the refusal `number` at its place.
+pub fn field(book: &[u8], place: usize, low: usize, high: usize, number: usize) -> Part
+    ensures { λ r. ⌜ checked (between low high) number place (now (book .entry)) place ≡ readingOf r (λ v. v) ⌝ }
 {
     if book.len() <= place {
         return Part::Refused {
-            number: 3,
+            number: BOOK_ENDS_EARLY,
             place: book.len(),
         };
     }
     let value = byte_at(book, place) as usize;
     if value < low {
-        return Part::Refused { number, place: at };
+        return Part::Refused { number, place };
     }
     if high < value {
-        return Part::Refused { number, place: at };
+        return Part::Refused { number, place };
     }
     Part::Read {
         value,

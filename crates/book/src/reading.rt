@@ -5,7 +5,7 @@ ghost use Prim.Native.Nat.{ℕ, _+_, _≤_};
 ghost use lib.ListN.{getD, length};
 ghost use Rattle.book.specs.Book.{nthNonterminal, nthVariant, nthStep, stepNumber};
 ghost use Rattle.book.specs.Check.{markOf, associativityOf, stepOf};
-ghost use Rattle.book.specs.Index.{bookIn};
+ghost use Rattle.book.specs.Index.{bookIn, bookAt};
 use crate::index::NONTERMINALS;
 use crate::index::STEPS;
 use crate::index::VARIANTS;
@@ -40,7 +40,8 @@ fn associativity_of(number: u8) -> Associativity
     }
 }
 
-// The step of a kind. The check refuses a kind that document 01 doesn't name; here it reads as the character 0, which no book asks for.
+// The step of a kind. The check refuses a kind that document 01 doesn't name; here it reads as the character 0, which
+// no book asks for.
 fn step_of(kind: u8, a: u32, b: u32, c: u32) -> Step
     ensures { λ r. ⌜ r ≡ stepOf kind a b c ⌝ }
 {
@@ -135,7 +136,7 @@ pub fn nonterminals(index: &[usize]) -> usize
 }
 
 pub fn nonterminal(book: &[u8], index: &[usize], i: usize) -> Nonterminal
-    ensures { λ r. ⌜ r ≡ nthNonterminal (bookIn (now (book .entry)) (now (index .entry))) i ⌝ }
+    ensures { λ r. ⌜ r ≡ nthNonterminal (bookAt book index) i ⌝ }
 {
     if i < count(index, NONTERMINALS) {
         let at = place(index, NONTERMINALS, i);
@@ -154,7 +155,7 @@ pub fn nonterminal(book: &[u8], index: &[usize], i: usize) -> Nonterminal
 }
 
 pub fn variant(book: &[u8], index: &[usize], j: usize) -> Variant
-    ensures { λ r. ⌜ r ≡ nthVariant (bookIn (now (book .entry)) (now (index .entry))) j ⌝ }
+    ensures { λ r. ⌜ r ≡ nthVariant (bookAt book index) j ⌝ }
 {
     if j < count(index, VARIANTS) {
         let at = place(index, VARIANTS, j);
@@ -180,7 +181,7 @@ pub fn variant(book: &[u8], index: &[usize], j: usize) -> Variant
 }
 
 pub fn step(book: &[u8], index: &[usize], k: usize) -> Step
-    ensures { λ r. ⌜ r ≡ nthStep (bookIn (now (book .entry)) (now (index .entry)) .steps) k ⌝ }
+    ensures { λ r. ⌜ r ≡ nthStep (bookAt book index .steps) k ⌝ }
 {
     if k < count(index, STEPS) {
         let at = place(index, STEPS, k);

@@ -5,44 +5,61 @@ ghost use Prim.Native.Nat.{_+_, _*_, _≤_};
 ghost use lib.Dec.{eqb};
 ghost use lib.ListN.{length};
 ghost use Rattle.characters.specs.Classes.{between};
+ghost use Rattle.book.specs.Numbers.{identifierMark, variantsEach, defaultLevel, both};
 ghost use Rattle.book.specs.Index.{belowRange, allowed, One, Row, Section};
 use crate::index::put;
+use crate::limits::BOTH;
+use crate::limits::DEFAULT_LEVEL;
+use crate::limits::FIRST_CHARACTER;
+use crate::limits::IDENTIFIER_MARK;
+use crate::limits::LARGEST_BYTE;
+use crate::limits::LAST_CHARACTER;
+use crate::limits::LAST_FLAGS;
+use crate::limits::LAST_KIND;
+use crate::limits::STEPS_EACH;
+use crate::limits::VARIANTS_EACH;
 use crate::parts::Part;
 use crate::parts::field;
+use crate::refusals::BAD_COUNT;
+use crate::refusals::BAD_FIELD;
 use crate::spellings::entry;
 
 fn most_variants(mark: usize) -> usize
-    ensures { λ r. ⌜ r ≡ cond (eqb mark 2) 0 16 ⌝ }
+    ensures { λ r. ⌜ r ≡ cond (eqb mark identifierMark) 0 variantsEach ⌝ }
 {
-    if mark == 2 { 0 } else { 16 }
+    if mark == IDENTIFIER_MARK {
+        0
+    } else {
+        VARIANTS_EACH
+    }
 }
 
 // Mark and number of variants; the value is the latter.
 fn nonterminal(book: &[u8], place: usize) -> Part
     ensures { λ r. ⌜ One Sort.Nonterminal (now (book .entry)) place r ⌝ }
 {
-    let mark = field(book, place, 0, 2, 6, place);
+    let mark = field(book, place, 0, IDENTIFIER_MARK, BAD_FIELD);
     let Part::Read { value, next } = mark else {
         return mark;
     };
-    field(book, next, 0, most_variants(value), 6, next)
+    field(book, next, 0, most_variants(value), BAD_FIELD)
 }
 
 fn least_associativity(level: usize) -> usize
-    ensures { λ r. ⌜ r ≡ cond (eqb level 255) 3 0 ⌝ }
+    ensures { λ r. ⌜ r ≡ cond (eqb level defaultLevel) both 0 ⌝ }
 {
-    if level == 255 { 3 } else { 0 }
+    if level == DEFAULT_LEVEL { BOTH } else { 0 }
 }
 
 // Level, associativity, flags and number of steps; the value is the last.
 fn variant(book: &[u8], place: usize) -> Part
     ensures { λ r. ⌜ One Sort.Variant (now (book .entry)) place r ⌝ }
 {
-    let level = field(book, place, 0, 255, 6, place);
+    let level = field(book, place, 0, LARGEST_BYTE, BAD_FIELD);
     let Part::Read { value, next } = level else {
         return level;
     };
-    let associativity = field(book, next, least_associativity(value), 3, 6, next);
+    let associativity = field(book, next, least_associativity(value), BOTH, BAD_FIELD);
     let Part::Read {
         value: _,
         next: flags_at,
@@ -50,7 +67,7 @@ fn variant(book: &[u8], place: usize) -> Part
     else {
         return associativity;
     };
-    let flags = field(book, flags_at, 0, 3, 6, flags_at);
+    let flags = field(book, flags_at, 0, LAST_FLAGS, BAD_FIELD);
     let Part::Read {
         value: _,
         next: number_at,
@@ -58,7 +75,7 @@ fn variant(book: &[u8], place: usize) -> Part
     else {
         return flags;
     };
-    field(book, number_at, 0, 8, 6, number_at)
+    field(book, number_at, 0, STEPS_EACH, BAD_FIELD)
 }
 
 pub struct Range {
@@ -90,8 +107,14 @@ fn arguments(kind: usize, words: usize, nonterminals: usize) -> Allowed
     ensures { λ r. ⌜ r ≡ allowed words nonterminals kind ⌝ }
 {
     let unused = Range { low: 0, high: 0 };
-    let character = Range { low: 33, high: 126 };
-    let name_kind = Range { low: 0, high: 7 };
+    let character = Range {
+        low: FIRST_CHARACTER,
+        high: LAST_CHARACTER,
+    };
+    let name_kind = Range {
+        low: 0,
+        high: LAST_KIND,
+    };
     let word = below(words);
     let nonterminal = below(nonterminals);
     match kind {
@@ -116,14 +139,17 @@ fn arguments(kind: usize, words: usize, nonterminals: usize) -> Allowed
 fn step(book: &[u8], place: usize, words: usize, nonterminals: usize) -> Part
     ensures { λ r. ⌜ One (Sort.Step words nonterminals) (now (book .entry)) place r ⌝ }
 {
-    let kind = field(book, place, 0, 255, 6, place);
+    let kind = field(book, place, 0, LARGEST_BYTE, BAD_FIELD);
     let Part::Read { value, next } = kind else {
         return kind;
     };
     let Allowed::Ranges(a, delimiter) = arguments(value, words, nonterminals) else {
-        return Part::Refused { number: 6, place };
+        return Part::Refused {
+            number: BAD_FIELD,
+            place,
+        };
     };
-    let first = field(book, next, a.low, a.high, 6, next);
+    let first = field(book, next, a.low, a.high, BAD_FIELD);
     let Part::Read {
         value: _,
         next: second_at,
@@ -131,7 +157,7 @@ fn step(book: &[u8], place: usize, words: usize, nonterminals: usize) -> Part
     else {
         return first;
     };
-    let second = field(book, second_at, delimiter.low, delimiter.high, 6, second_at);
+    let second = field(book, second_at, delimiter.low, delimiter.high, BAD_FIELD);
     let Part::Read {
         value: _,
         next: third_at,
@@ -139,7 +165,7 @@ fn step(book: &[u8], place: usize, words: usize, nonterminals: usize) -> Part
     else {
         return second;
     };
-    let third = field(book, third_at, delimiter.low, delimiter.high, 6, third_at);
+    let third = field(book, third_at, delimiter.low, delimiter.high, BAD_FIELD);
     let Part::Read {
         value: _,
         next: last,
@@ -174,7 +200,8 @@ fn one_record(book: &[u8], place: usize, sort: Sort) -> Part
     }
 }
 
-// `count` records in a row. The index gets the place of each, and the sum of the values of those before it; the value is the sum of all.
+// `count` records in a row. The index gets the place of each, and the sum of the values of those before it; the value
+// is the sum of all.
 fn row(
     book: &[u8],
     place: usize,
@@ -218,9 +245,10 @@ pub fn section(
     base: usize,
 ) -> Part
     requires { ⌜ (base + 1 + 2 * high ≤ length (now index)) × (high ≤ 255) ⌝ }
-    ensures { λ r. ⌜ Section sort (between low high) (now (book .entry)) place high base (now (index .entry)) (now (index .exit)) r ⌝ }
+    ensures { λ r. ⌜ Section sort (between low high) (now (book .entry)) place high base
+        (now (index .entry)) (now (index .exit)) r ⌝ }
 {
-    let count = field(book, place, low, high, 4, place);
+    let count = field(book, place, low, high, BAD_COUNT);
     let Part::Read { value, next } = count else {
         return count;
     };

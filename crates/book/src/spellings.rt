@@ -5,10 +5,15 @@ ghost use Prim.Native.Nat.{_+_};
 ghost use Rattle.characters.specs.Spelling.{partOf};
 ghost use Rattle.book.specs.Check.{checked, row};
 ghost use Rattle.book.specs.Check.{shaped as isShaped, spelling as spellingAt};
-ghost use Rattle.book.specs.Index.{given, Valued, One};
+ghost use Rattle.book.specs.Index.{readingOf, Valued, One};
+ghost use Rattle.book.specs.Numbers.{badSpelling};
 ghost use Rattle.book.specs.declared.sections.Sort.{Sort};
+use crate::limits::LONGEST_SPELLING;
 use crate::parts::Part;
 use crate::parts::field;
+use crate::refusals::BAD_FIELD;
+use crate::refusals::BAD_SPELLING;
+use crate::refusals::BOOK_ENDS_EARLY;
 use characters::Class;
 use characters::byte_at;
 use characters::is_of;
@@ -28,17 +33,18 @@ fn shaped(byte: u8, i: usize) -> bool
 
 // One byte of a spelling whose length stands at `at`.
 fn spelling_byte(book: &[u8], place: usize, i: usize, at: usize) -> Part
-    ensures { λ r. ⌜ checked (isShaped i) 5 at (now (book .entry)) place ≡ given r (λ v. getD (now (book .entry)) place 0) ⌝ }
+    ensures { λ r. ⌜ checked (isShaped i) badSpelling at (now (book .entry)) place ≡
+        readingOf r (λ v. getD (now (book .entry)) place 0) ⌝ }
 {
     if book.len() <= place {
         return Part::Refused {
-            number: 3,
+            number: BOOK_ENDS_EARLY,
             place: book.len(),
         };
     }
     if !shaped(byte_at(book, place), i) {
         return Part::Refused {
-            number: 5,
+            number: BAD_SPELLING,
             place: at,
         };
     }
@@ -49,7 +55,8 @@ fn spelling_byte(book: &[u8], place: usize, i: usize, at: usize) -> Part
 }
 
 fn spelling_bytes(book: &[u8], place: usize, size: usize, at: usize) -> Part
-    ensures { λ r. ⌜ (row (λ b. 1) (λ i. checked (isShaped i) 5 at) size 0 (now (book .entry)) place ≡ given r (λ v. partOf (now (book .entry)) place size)) × Valued r 0 ⌝ }
+    ensures { λ r. ⌜ (row (λ b. 1) (λ i. checked (isShaped i) badSpelling at) size 0 (now (book .entry)) place ≡
+        readingOf r (λ v. partOf (now (book .entry)) place size)) × Valued r 0 ⌝ }
 {
     let mut i = 0;
     let mut next_place = place;
@@ -68,9 +75,10 @@ fn spelling_bytes(book: &[u8], place: usize, size: usize, at: usize) -> Part
 }
 
 fn spelling(book: &[u8], place: usize) -> Part
-    ensures { λ r. ⌜ (spellingAt (now (book .entry)) place ≡ given r (λ v. partOf (now (book .entry)) (place + 1) (getD (now (book .entry)) place 0))) × Valued r 0 ⌝ }
+    ensures { λ r. ⌜ (spellingAt (now (book .entry)) place ≡
+        readingOf r (λ v. partOf (now (book .entry)) (place + 1) (getD (now (book .entry)) place 0))) × Valued r 0 ⌝ }
 {
-    let size = field(book, place, 1, 15, 5, place);
+    let size = field(book, place, 1, LONGEST_SPELLING, BAD_SPELLING);
     let Part::Read { value, next } = size else {
         return size;
     };
@@ -80,7 +88,7 @@ fn spelling(book: &[u8], place: usize) -> Part
 pub fn entry(book: &[u8], place: usize, greatest: usize) -> Part
     ensures { λ r. ⌜ One (Sort.Entry greatest) (now (book .entry)) place r ⌝ }
 {
-    let label = field(book, place, 0, greatest, 6, place);
+    let label = field(book, place, 0, greatest, BAD_FIELD);
     let Part::Read { value: _, next } = label else {
         return label;
     };

@@ -1,4 +1,4 @@
--- A proof by the two values of a test.
+-- A proof by the two values of a test (`by-test`), and from a test that is both (`clash`).
 use mathlib.Core.Path.{_≡_, refl, sym, _∙_}
 use mathlib.Core.Bool.{Bool, true, false, true≢false}
 

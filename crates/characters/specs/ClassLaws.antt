@@ -1,4 +1,11 @@
--- Laws of the byte classes: a class's number tells the class, a table that lists a rule follows it, and no byte above 32 is whitespace.
+-- Laws of the byte classes.
+--
+--   classAt, class-told, class-at-rest   a class's number tells the class
+--   tabulate, tabulate-at                a table that lists a rule follows it
+--   classTable, table-length, table-at   the table of the classes' numbers
+--   above-space                          no byte above 32 is whitespace
+--
+-- Not here: that the table in the source is `classTable`. The proof of `class_table` computes that, once.
 use mathlib.Core.Path.{_≡_, refl, sym, ap, _∙_}
 use mathlib.Core.Bool.{Bool, true, false, cond, _&&_, _||_}
 use mathlib.Core.List.{List, [], _∷_}

@@ -8,7 +8,8 @@ use Rattle.characters.specs.declared.classes.Class.the-variants.{Other, 
 abbrev pub between : ℕ → ℕ → ℕ → Bool
 between low high b = leb low b && leb b high
 
--- "whitespace (9 to 13, 32), digit, letter (A to Z, a to z, underscore), refused (128 up), other": `0` is 48, `A` 65, `a` 97 and `_` 95
+-- "whitespace (9 to 13, 32), digit, letter (A to Z, a to z, underscore), refused (128 up), other": `0` is 48, `A` 65,
+-- `a` 97 and `_` 95
 unfoldable pub classOf : ℕ → Class
 classOf b =
     cond (between 9 13 b || eqb b 32) Whitespace

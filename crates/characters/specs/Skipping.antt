@@ -40,11 +40,13 @@ roundEnd text place =
     elim (commentAt text at) [ true ↦ commentEnd text at | false ↦ at ]
 
 -- "repeat until a round drops nothing, and that round's place is the result", in at most n rounds
-unfoldable pub rounds : ℕ → List ℕ → ℕ → ℕ
-rounds zero text place = place
-rounds (suc n) text place = elim (eqb (roundEnd text place) place) [ true ↦ place | false ↦ rounds n text (roundEnd text place) ]
+unfoldable pub skipRounds : ℕ → List ℕ → ℕ → ℕ
+skipRounds zero text place = place
+skipRounds (suc n) text place =
+    let next = roundEnd text place in
+    elim (eqb next place) [ true ↦ place | false ↦ skipRounds n text next ]
 
--- A round that drops something drops a byte at least, so a round for each byte of the text is enough: `skip-stop` and `skip-on` of
--- SkippingLaws say the sentence without a number of rounds. A place beyond the end stays
+-- A round that drops something drops a byte at least, so a round for each byte of the text is enough: `skip-stop` and
+-- `skip-on` of SkippingLaws say the sentence without a number of rounds. A place beyond the end stays
 unfoldable pub skipFrom : List ℕ → ℕ → ℕ
-skipFrom text place = rounds (length text) text place
+skipFrom text place = skipRounds (length text) text place

@@ -1,4 +1,13 @@
 -- Laws of spans and of skipping.
+--
+--   leading-     of the bytes at the front of a list that pass a test (for this file alone)
+--   span-        a span goes on, stops, stays within the text; all of it belongs, and what follows doesn't
+--   comment-     where a comment ends, and that it is longer than nothing
+--   round-       one round: where it ends, and that it leaves fewer bytes or is the last
+--   skip-        skipping: `skip-stop` and `skip-on` are document 01's sentence, without a number of rounds;
+--                where it ends nothing is left to skip
+--
+-- Not here: what stands at a place (TokenLaws).
 use mathlib.Core.Path.{_≡_, refl, sym, ap, _∙_}
 use mathlib.Core.Bool.{Bool, true, false, not}
 use mathlib.Core.List.{List, [], _∷_}
@@ -12,7 +21,7 @@ use borrow.Author.Tests.{lt-ltb, le-ltb, eq-eqb, ne-eqb, eqb-true, eqb-false, lt
 use Rattle.characters.specs.Cases.{by-test, clash}
 use Rattle.characters.specs.ClassLaws.{above-space}
 use Rattle.characters.specs.Classes.{isOf, classOf}
-use Rattle.characters.specs.Skipping.{belongs, leading, spanEnd, commentAt, commentEnd, roundEnd, rounds, skipFrom}
+use Rattle.characters.specs.Skipping.{belongs, leading, spanEnd, commentAt, commentEnd, roundEnd, skipRounds, skipFrom}
 use Rattle.characters.specs.declared.classes.Class.the-variants.{Whitespace}
 use Rattle.characters.specs.declared.skipping.Span.{Span}
 use Rattle.characters.specs.declared.skipping.Span.the-variants.{Spaces, Line}
@@ -214,77 +223,77 @@ module _ (text : List ℕ) (place : ℕ) where
 
 -- ---- Skipping
 module _ (text : List ℕ) where
-  pub rounds-stop : (n place : ℕ) → roundEnd text place ≡ place → rounds n text place ≡ place
-  unfolding rounds
-  rounds-stop zero place r = refl
-  rounds-stop (suc n) place r = rw (eq-eqb (roundEnd text place) place r, rounds)
+  pub skip-rounds-stop : (n place : ℕ) → roundEnd text place ≡ place → skipRounds n text place ≡ place
+  unfolding skipRounds
+  skip-rounds-stop zero place r = refl
+  skip-rounds-stop (suc n) place r = rw (eq-eqb (roundEnd text place) place r, skipRounds)
 
-  pub rounds-on : (n place : ℕ) → (roundEnd text place ≡ place → ⊥) → rounds (suc n) text place ≡ rounds n text (roundEnd text place)
-  unfolding rounds
-  rounds-on n place r = rw (ne-eqb (roundEnd text place) place r, rounds)
+  pub skip-rounds-on : (n place : ℕ) → (roundEnd text place ≡ place → ⊥) → skipRounds (suc n) text place ≡ skipRounds n text (roundEnd text place)
+  unfolding skipRounds
+  skip-rounds-on n place r = rw (ne-eqb (roundEnd text place) place r, skipRounds)
 
   -- as many rounds as bytes are left are enough
-  enough : (n m place : ℕ) → length text ≤ place + n → length text ≤ place + m → rounds n text place ≡ rounds m text place
-  enough zero m place h k = rounds-stop zero place (round-out text place (omega arith)) ∙ sym (rounds-stop m place (round-out text place (omega arith)))
-  enough (suc n) zero place h k = rounds-stop (suc n) place (round-out text place (omega arith)) ∙ sym (rounds-stop zero place (round-out text place (omega arith)))
+  enough : (n m place : ℕ) → length text ≤ place + n → length text ≤ place + m → skipRounds n text place ≡ skipRounds m text place
+  enough zero m place h k = skip-rounds-stop zero place (round-out text place (omega arith)) ∙ sym (skip-rounds-stop m place (round-out text place (omega arith)))
+  enough (suc n) zero place h k = skip-rounds-stop (suc n) place (round-out text place (omega arith)) ∙ sym (skip-rounds-stop zero place (round-out text place (omega arith)))
   enough (suc n) (suc m) place h k =
       let f = round-forward text place in
       by-test (eqb (roundEnd text place) place)
-      (λ e. rounds-stop (suc n) place (eqb-true _ _ e) ∙ sym (rounds-stop (suc m) place (eqb-true _ _ e)))
+      (λ e. skip-rounds-stop (suc n) place (eqb-true _ _ e) ∙ sym (skip-rounds-stop (suc m) place (eqb-true _ _ e)))
       (λ e. let ne = eqb-false (roundEnd text place) place e in
-      rounds-on n place ne ∙ enough n m (roundEnd text place) (omega (arith, ne)) (omega (arith, ne)) ∙ sym (rounds-on m place ne))
+      skip-rounds-on n place ne ∙ enough n m (roundEnd text place) (omega (arith, ne)) (omega (arith, ne)) ∙ sym (skip-rounds-on m place ne))
 
   -- "repeat until a round drops nothing": these two laws say that the definition's rounds never run out
   pub skip-stop : (place : ℕ) → roundEnd text place ≡ place → skipFrom text place ≡ place
   unfolding skipFrom
-  skip-stop place r = rounds-stop (length text) place r
+  skip-stop place r = skip-rounds-stop (length text) place r
 
   pub skip-on : (place : ℕ) → skipFrom text place ≡ skipFrom text (roundEnd text place)
   unfolding skipFrom
   skip-on place =
       let f = round-forward text place in
       by-test (eqb (roundEnd text place) place)
-      (λ e. ap (λ (p : ℕ). rounds (length text) text p) (sym (eqb-true _ _ e)))
-      (λ e. enough (length text) (suc (length text)) place (omega arith) (omega arith) ∙ rounds-on (length text) place (eqb-false _ _ e))
+      (λ e. ap (λ (p : ℕ). skipRounds (length text) text p) (sym (eqb-true _ _ e)))
+      (λ e. enough (length text) (suc (length text)) place (omega arith) (omega arith) ∙ skip-rounds-on (length text) place (eqb-false _ _ e))
 
-  rounds-forward : (n place : ℕ) → place ≤ rounds n text place
-  unfolding rounds
-  rounds-forward zero place = omega arith
-  rounds-forward (suc n) place =
-      let h = rounds-forward n (roundEnd text place) in
+  skip-rounds-forward : (n place : ℕ) → place ≤ skipRounds n text place
+  unfolding skipRounds
+  skip-rounds-forward zero place = omega arith
+  skip-rounds-forward (suc n) place =
+      let h = skip-rounds-forward n (roundEnd text place) in
       let f = round-forward text place in
       by-test (eqb (roundEnd text place) place)
-      (λ e. omega (arith, rounds-stop (suc n) place (eqb-true _ _ e)))
-      (λ e. omega (arith, rounds-on n place (eqb-false _ _ e)))
+      (λ e. omega (arith, skip-rounds-stop (suc n) place (eqb-true _ _ e)))
+      (λ e. omega (arith, skip-rounds-on n place (eqb-false _ _ e)))
 
-  rounds-within : (n place : ℕ) → place ≤ length text → rounds n text place ≤ length text
-  unfolding rounds
-  rounds-within zero place l = l
-  rounds-within (suc n) place l =
-      let h = rounds-within n (roundEnd text place) (round-within text place l) in
+  skip-rounds-within : (n place : ℕ) → place ≤ length text → skipRounds n text place ≤ length text
+  unfolding skipRounds
+  skip-rounds-within zero place l = l
+  skip-rounds-within (suc n) place l =
+      let h = skip-rounds-within n (roundEnd text place) (round-within text place l) in
       by-test (eqb (roundEnd text place) place)
-      (λ e. omega (arith, rounds-stop (suc n) place (eqb-true _ _ e)))
-      (λ e. omega (arith, rounds-on n place (eqb-false _ _ e)))
+      (λ e. omega (arith, skip-rounds-stop (suc n) place (eqb-true _ _ e)))
+      (λ e. omega (arith, skip-rounds-on n place (eqb-false _ _ e)))
 
-  rounds-still : (n place : ℕ) → length text ≤ place + n → roundEnd text (rounds n text place) ≡ rounds n text place
-  unfolding rounds
-  rounds-still zero place h = round-out text place (omega arith)
-  rounds-still (suc n) place h =
+  skip-rounds-still : (n place : ℕ) → length text ≤ place + n → roundEnd text (skipRounds n text place) ≡ skipRounds n text place
+  unfolding skipRounds
+  skip-rounds-still zero place h = round-out text place (omega arith)
+  skip-rounds-still (suc n) place h =
       let f = round-forward text place in
       by-test (eqb (roundEnd text place) place)
-      (λ e. rw (rounds-stop (suc n) place (eqb-true _ _ e)) (eqb-true _ _ e))
-      (λ e. let ne = eqb-false (roundEnd text place) place e in rw (rounds-on n place ne) (rounds-still n (roundEnd text place) (omega (arith, ne))))
+      (λ e. rw (skip-rounds-stop (suc n) place (eqb-true _ _ e)) (eqb-true _ _ e))
+      (λ e. let ne = eqb-false (roundEnd text place) place e in rw (skip-rounds-on n place ne) (skip-rounds-still n (roundEnd text place) (omega (arith, ne))))
 
 module _ (text : List ℕ) (place : ℕ) where
   -- skipping never goes back
   pub skip-forward : place ≤ skipFrom text place
   unfolding skipFrom
-  skip-forward = rounds-forward text (length text) place
+  skip-forward = skip-rounds-forward text (length text) place
 
   -- and stays within the text
   pub skip-within : place ≤ length text → skipFrom text place ≤ length text
   unfolding skipFrom
-  skip-within l = rounds-within text (length text) place l
+  skip-within l = skip-rounds-within text (length text) place l
 
   -- a place beyond the end stays
   pub skip-out : length text ≤ place → skipFrom text place ≡ place
@@ -293,7 +302,7 @@ module _ (text : List ℕ) (place : ℕ) where
   -- from where it stands, a round drops nothing
   pub skip-still : roundEnd text (skipFrom text place) ≡ skipFrom text place
   unfolding skipFrom
-  skip-still = rounds-still text (length text) place (omega arith)
+  skip-still = skip-rounds-still text (length text) place (omega arith)
 
   -- skipping twice is skipping once
   pub skip-twice : skipFrom text (skipFrom text place) ≡ skipFrom text place

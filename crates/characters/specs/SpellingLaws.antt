@@ -1,4 +1,7 @@
 -- Laws of spellings.
+--
+--   part-    a part beyond the end, inside, and of as much as there is
+--   same-    the test of two spellings tells whether they are equal; and how a loop over their bytes goes on and ends
 use mathlib.Core.Path.{_≡_, refl, sym, ap, _∙_}
 use mathlib.Core.Bool.{true, false}
 use mathlib.Core.List.{List, [], _∷_}

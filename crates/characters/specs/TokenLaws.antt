@@ -1,4 +1,10 @@
--- Laws of identifiers and numbers: a token ends behind its start and within the text.
+-- Laws of identifiers and numbers.
+--
+--   identifier-   when one begins at a place, and that it ends behind its start and within the text
+--   decimal-      the number that digits spell, digit by digit
+--   number-       when one begins at a place, whether it is too large, and the same bounds
+--
+-- Not here: where a span ends (SkippingLaws).
 use mathlib.Core.Path.{_≡_, sym, _∙_}
 use mathlib.Core.Bool.{true, false}
 use mathlib.Core.List.{List, [], _∷_}

@@ -1,25 +1,22 @@
--- Document 01, "Characters": identifiers and numbers.
+-- Document 01, "Characters": identifiers and numbers. "Every token skips first; what follows it is unskipped": whoever
+-- wants a token reads it where skipping leads, and its end is its own.
 use mathlib.Core.Bool.{cond}
 use mathlib.Core.List.{List, [], _∷_}
 use Prim.Native.Nat.{ℕ, _+_, _-_, _*_, _^_}
 use lib.Dec.{leb, eqb}
 use lib.ListN.{getD}
 use Rattle.characters.specs.Classes.{isOf}
-use Rattle.characters.specs.Skipping.{spanEnd, skipFrom}
+use Rattle.characters.specs.Skipping.{spanEnd}
 use Rattle.characters.specs.Spelling.{partOf}
 use Rattle.characters.specs.declared.classes.Class.the-variants.{Letter}
 use Rattle.characters.specs.declared.skipping.Span.the-variants.{Word, Digits}
 use Rattle.characters.specs.declared.lexemes.Identifier.{Identifier}
 use Rattle.characters.specs.declared.lexemes.Number.{Number}
 
--- "Every token skips first; what follows it is unskipped": a token that is wanted at a place is read where skipping leads, and its
--- end is its own
-abbrev pub afterSkip : {A : Type 0} → (List ℕ → ℕ → A) → List ℕ → ℕ → A
-afterSkip readAt text place = readAt text (skipFrom text place)
-
 -- "letter, then letters or digits, longest"; beyond the end there is none
 unfoldable pub identifierAt : List ℕ → ℕ → Identifier
-identifierAt text place = cond (isOf Letter (getD text place 0)) (Identifier.Ends (spanEnd Word text (place + 1))) Identifier.Nothing
+identifierAt text place =
+    cond (isOf Letter (getD text place 0)) (Identifier.Ends (spanEnd Word text (place + 1))) Identifier.Nothing
 
 -- the number that digits spell after those that spell `value`
 unfoldable pub decimal : ℕ → List ℕ → ℕ

@@ -1,7 +1,8 @@
-// The class of each byte, read from one table. A class is known outside this crate through `class_of` and `is_of` alone, so that
-// the table may be stored in another way.
+// The class of each byte, read from one table. A class is known outside this crate through `class_of` and `is_of`
+// alone, so that the table may be stored in another way.
 //
-// Compiled code lays a constant array out on the stack at each reading. So a loop over many bytes lays the table out once, and reads it as a slice (`is_in`).
+// Compiled code lays a constant array out on the stack at each reading. So a loop over many bytes lays the table out
+// once, and reads it as a slice (`is_in`).
 ghost use mathlib.Core.Path.{_≡_};
 ghost use lib.ListN.{getD};
 ghost use Rattle.characters.specs.Classes.{classOf, classNumber, isOf};
@@ -16,6 +17,13 @@ pub enum Class {
     Refused,
 }
 
+// The table. That it lists the rule is computed in this function's proof, and nowhere else.
+pub fn class_table() -> [u8; 256]
+    ensures { λ r. ⌜ r ≡ classTable ⌝ }
+{
+    CLASSES
+}
+
 fn number_in(table: &[u8], byte: u8) -> u8
     requires { ⌜ now table ≡ classTable ⌝ }
     ensures { λ r. ⌜ r ≡ classNumber (classOf byte) ⌝ }
@@ -27,7 +35,7 @@ fn number_in(table: &[u8], byte: u8) -> u8
 pub fn class_of(byte: u8) -> Class
     ensures { λ r. ⌜ r ≡ classOf byte ⌝ }
 {
-    let table = CLASSES;
+    let table = class_table();
     let number = number_in(&table, byte);
     match number {
         0 => Class::Other,
@@ -60,7 +68,7 @@ pub fn is_in(table: &[u8], byte: u8, class: Class) -> bool
 pub fn is_of(byte: u8, class: Class) -> bool
     ensures { λ r. ⌜ r ≡ isOf class byte ⌝ }
 {
-    let table = CLASSES;
+    let table = class_table();
     is_in(&table, byte, class)
 }
 

@@ -1,9 +1,11 @@
 // The lowest layer: what a byte is, and what stands at a place of a text. Document 01, "Characters".
 //
-// Every public function has a contract that equates its answer with a definition in specs/, over every list of bytes and every
-// place, a place beyond the end included. No public function has a `requires`. The crate relies on nothing but `std`, and assumes nothing.
+// Every public function has a contract that equates its answer with a definition in specs/, over every list of bytes
+// and every place, a place beyond the end included. No public function has a `requires`. The crate relies on nothing
+// but `std`, and assumes nothing.
 //
-// specs/ has the definitions (Classes, Skipping, Tokens, Spelling) and, in files of their own, the laws that the layers above cite.
+// specs/ has the definitions (Classes, Skipping, Tokens, Spelling) and, in files of their own, the laws that the layers
+// above cite.
 mod classes;
 mod lexemes;
 mod skipping;

@@ -1,13 +1,13 @@
-// Skipping whitespace and comments, by rounds: a round drops whitespace and then one comment, if `//` follows. `// a` and a line feed
-// may stand before another comment, so rounds are repeated until one drops nothing.
+// Skipping whitespace and comments, by rounds: a round drops whitespace and then one comment, if `//` follows. `// a`
+// and a line feed may stand before another comment, so rounds are repeated until one drops nothing.
 ghost use mathlib.Core.Path.{_≡_};
 ghost use Rattle.characters.specs.ClassLaws.{classTable};
 ghost use Rattle.characters.specs.Skipping.{belongs, spanEnd, commentAt, commentEnd, roundEnd, skipFrom};
 ghost use Rattle.characters.specs.declared.skipping.Span.{Span};
 use crate::classes::Class;
 use crate::classes::byte_at;
+use crate::classes::class_table;
 use crate::classes::is_in;
-use crate::table::CLASSES;
 
 // The spans of text that are read to their longest end.
 pub enum Span {
@@ -43,7 +43,7 @@ fn in_span(table: &[u8], byte: u8, span: Span) -> bool
 pub fn span_end(text: &[u8], place: usize, span: Span) -> usize
     ensures { λ r. ⌜ r ≡ spanEnd span (now (text .entry)) place ⌝ }
 {
-    let classes = CLASSES;
+    let classes = class_table();
     let table: &[u8] = &classes;
     let mut at = place;
     while at < text.len() {
@@ -55,7 +55,8 @@ pub fn span_end(text: &[u8], place: usize, span: Span) -> usize
     at
 }
 
-// Where whitespace at a place ends. Few places have any, and a byte above the space is none: for it the table isn't read.
+// Where whitespace at a place ends. Few places have any, and a byte above the space is none: for it the table isn't
+// read.
 fn spaces_end(text: &[u8], place: usize) -> usize
     ensures { λ r. ⌜ r ≡ spanEnd Span.Spaces (now (text .entry)) place ⌝ }
 {

@@ -41,7 +41,9 @@ pub fn same_spelling(
     right_start: usize,
     right_size: usize,
 ) -> bool
-    ensures { λ r. ⌜ r ≡ same (partOf (now (left .entry)) «left_start» «left_size») (partOf (now (right .entry)) «right_start» «right_size») ⌝ }
+    ensures { λ r. ⌜ r ≡ same
+        (partOf (now (left .entry)) «left_start» «left_size»)
+        (partOf (now (right .entry)) «right_start» «right_size») ⌝ }
 {
     same_bytes(
         part(left, left_start, left_size),

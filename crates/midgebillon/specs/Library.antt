@@ -23,14 +23,19 @@ answerAt l = answer (getD l 0 0) (getD l 1 0) (getD l 2 0) (getD l 3 0) (getD l 
 
 -- the list with an answer's numbers at its front
 abbrev pub storing : code.Answer → List ℕ → List ℕ
-storing a l = set (set (set (set (set (set (set l 0 (a .refusal)) 1 (a .place)) 2 (a .kind)) 3 (a .argument)) 4 (a .work)) 5 (a .parses)) 6 (a .value)
+storing a l =
+    set (set (set (set (set (set (set l 0 (a .refusal)) 1 (a .place)) 2 (a .kind)) 3 (a .argument)) 4 (a .work))
+    5 (a .parses)) 6 (a .value)
 
 -- ---- Reading
--- Fewer than seven places: nothing at all is touched. Else the first seven numbers with both lists are what the call promises, and the numbers behind stay
-pub record ReadInto (bytes text : List ℕ) (start allowance : ℕ) (cells cells′ parses parses′ numbers numbers′ : List ℕ) : Type 0 where
+-- Fewer than seven places: nothing at all is touched. Else the first seven numbers with both lists are what the call
+-- promises, and the numbers behind stay
+pub record ReadInto (bytes text : List ℕ) (start allowance : ℕ)
+    (cells cells′ parses parses′ numbers numbers′ : List ℕ) : Type 0 where
   pub few : length numbers < 7 → (cells′ ≡ cells) × (parses′ ≡ parses) × (numbers′ ≡ numbers)
   pub reads : 7 ≤ length numbers →
-      Reads bytes text start (answerOf cells parses bytes text start allowance) (record { answer = answerAt numbers′; cells = cells′; parses = parses′ })
+      Reads bytes text start (answerOf cells parses bytes text start allowance)
+      (record { answer = answerAt numbers′; cells = cells′; parses = parses′ })
   pub behind : drop 7 numbers′ ≡ drop 7 numbers
 
 -- ---- Numbers that are an answer
@@ -46,8 +51,8 @@ abbrev pub isAccepted : Verdict → Bool
 isAccepted Verdict.Accepted = true
 isAccepted (Verdict.Refused number place) = false
 
--- A value's book is accepted, and its cell is there; a refusal is one of the table. More is not asked: whether the numbers are the answer to this book and
--- this text only another call can tell, and the line is defined for any others
+-- A value's book is accepted, and its cell is there; a refusal is one of the table. More is not asked: whether the
+-- numbers are the answer to this book and this text only another call can tell, and the line is defined for any others
 abbrev pub isAnswer : Verdict → List ℕ → Answer → Bool
 isAnswer v cells a = cond (eqb (a .refusal) 0) (isAccepted v && hasCell cells (a .value)) (isRefusal (a .refusal))
 

@@ -1,4 +1,8 @@
--- Laws for the two functions: one for each way out.
+-- Laws of the two functions, one for each way out.
+--
+--   untouched, answers                       `midgebillon_read`: too few numbers, and the call
+--   some-line                                no line is empty
+--   few-numbers, no-answer, line-printed     `midgebillon_print`: too few numbers, numbers that are no answer, the line
 use mathlib.Core.Path.{_≡_, refl, sym, subst, ap, _∙_}
 use mathlib.Core.Bool.{Bool, true, false, cond, _&&_}
 use mathlib.Core.List.{List, [], _∷_}
@@ -87,7 +91,7 @@ module _ (bytes text cells numbers out : List ℕ) where
   module _ (index index′ : List ℕ) (v : Verdict) (a : code.Answer) (test : Bool) (enough : 7 ≤ length numbers) (is : answerIn a ≡ answerAt numbers)
       (checked : CheckedInto bytes index index′ v) (long : 1091 ≤ length index) (judged : test ≡ isAnswer v cells (answerIn a)) where
     verdict-is : v ≡ verdict (checkBook bytes)
-    verdict-is = checked .says ∙ rw (le-ltb (length index) 1091 long)
+    verdict-is = checked .says .case ∙ rw (le-ltb (length index) 1091 long)
 
     tested : leb 7 (length numbers) && isAnswer (verdict (checkBook bytes)) cells (answerAt numbers) ≡ test
     tested =

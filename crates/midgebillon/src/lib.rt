@@ -1,12 +1,15 @@
-// The reader for C and Rust: the call of document 01, "The answer", and the line of "Printing", each as a function that other languages link.
+// The reader for C and Rust: the call of document 01, "The answer", and the line of "Printing", each as a function that
+// other languages link.
 //
-// `midgebillon_read` writes the seven numbers of the answer to the front of a lent list: what `run::read` promises holds of those numbers and of both lists
-// (`ReadInto` of specs/Library.antt). `midgebillon_print` writes the line of such numbers (`PrintsInto` and `lineFor` there). Neither has a `requires`: too
-// short a list, and numbers that are no answer, leave everything as it is. Neither keeps anything between calls.
+// `midgebillon_read` writes the seven numbers of the answer to the front of a lent list: what `run::read` promises
+// holds of those numbers and of both lists (`ReadInto` of specs/Library.antt). `midgebillon_print` writes the line of
+// such numbers (`PrintsInto` and `lineFor` there). Neither has a `requires`: too short a list, and numbers that are no
+// answer, leave everything as it is. Neither keeps anything between calls.
 //
-// The crate relies on the promises of `run`, `printing` and `book`, and assumes nothing. What no theorem says: whoever calls from another language owes what a
-// slice is: a pointer that is not null to as many numbers as the length says, and no slice that is written overlaps another. include/midgebillon.h tells a
-// C program so; examples/ has a wrapper for Rust whose types do.
+// The crate relies on the promises of `run`, `printing` and `book`, and assumes nothing. What no theorem says: whoever
+// calls from another language owes what a slice is: a pointer that is not null to as many numbers as the length says,
+// and no slice that is written overlaps another. include/midgebillon.h tells a C program so; examples/ has a wrapper
+// for Rust whose types do.
 //
 // specs/ has what both functions promise (Library) and laws, one for each way out of a function (LibraryLaws).
 mod answer;
@@ -33,7 +36,8 @@ pub extern "C" fn midgebillon_read(
     parses: &mut [u32],
     answer: &mut [u32],
 )
-    ensures { λ _. ⌜ ReadInto (now (book .entry)) (now (text .entry)) start allowance (now (cells .entry)) (now (cells .exit)) (now (parses .entry)) (now (parses .exit))
+    ensures { λ _. ⌜ ReadInto (now (book .entry)) (now (text .entry)) start allowance
+        (now (cells .entry)) (now (cells .exit)) (now (parses .entry)) (now (parses .exit))
         (now (answer .entry)) (now (answer .exit)) ⌝ }
 {
     if answer.len() < NUMBERS {
@@ -43,8 +47,8 @@ pub extern "C" fn midgebillon_read(
     put_answer(answer, a);
 }
 
-// The line of an answer and its length. Where the line does not fit, or the numbers are no answer, 0, and `out` stays as it is. (A spelling is a part of the
-// book or of the text, so both have one lifetime; for C that is no difference.)
+// The line of an answer and its length. Where the line does not fit, or the numbers are no answer, 0, and `out` stays
+// as it is. (A spelling is a part of the book or of the text, so both have one lifetime; for C that is no difference.)
 #[no_mangle]
 pub extern "C" fn midgebillon_print<'a>(
     book: &'a [u8],
@@ -53,7 +57,9 @@ pub extern "C" fn midgebillon_print<'a>(
     answer: &[u32],
     out: &mut [u8],
 ) -> usize
-    ensures { λ r. ⌜ PrintsInto (lineFor (now (book .entry)) (now (text .entry)) (now (cells .entry)) (now (answer .entry))) (now (out .entry)) (now (out .exit)) r ⌝ }
+    ensures { λ r. ⌜ PrintsInto
+        (lineFor (now (book .entry)) (now (text .entry)) (now (cells .entry)) (now (answer .entry)))
+        (now (out .entry)) (now (out .exit)) r ⌝ }
 {
     if answer.len() < NUMBERS {
         return 0;

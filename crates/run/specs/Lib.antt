@@ -2,5 +2,4 @@
 pub mod Promise
 pub mod Reading
 pub mod ListLaws
-pub mod RefusalLaws
 pub mod ReadingLaws

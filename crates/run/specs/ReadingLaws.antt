@@ -182,7 +182,7 @@ long-cells cells parses t e h = by (ltb (length cells) 12288) refl (sym e ∙ h)
 -- the verdict is the check's, of an index that is long enough
 pub verdict-refused : (bytes index index′ : List ℕ) (r : Verdict) (number place : ℕ) → CheckedInto bytes index index′ r → 1091 ≤ length index →
     r ≡ Verdict.Refused number place → checkBook bytes ≡ Outcome.refusal number place
-verdict-refused bytes index index′ r number place c h e = by (checkBook bytes) (sym e ∙ c .says ∙ rw (le-ltb (length index) 1091 h))
+verdict-refused bytes index index′ r number place c h e = by (checkBook bytes) (sym e ∙ c .says .case ∙ rw (le-ltb (length index) 1091 h))
   where
     by : (o : Outcome) → Verdict.Refused number place ≡ verdict o → o ≡ Outcome.refusal number place
     by (Outcome.refusal n p) q = let x : n ≡ number = cc in let y : p ≡ place = cc in cc

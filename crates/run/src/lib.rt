@@ -7,8 +7,7 @@
 //
 // The crate relies on the promises of parser, transitions, calls, sets, cells, characters and book and on the theorems
 // of semantics and run_model, and assumes nothing. specs/ has the promise (Promise), what the parts of the call equal
-// (Reading), and laws: of the lists (ListLaws), of the call (ReadingLaws), and that the numbers of a refusal fit into 32
-// bits (RefusalLaws).
+// (Reading), and laws: of the lists (ListLaws) and of the call (ReadingLaws).
 mod lists;
 mod reader;
 mod refusals;

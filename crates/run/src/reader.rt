@@ -265,8 +265,8 @@ fn no_allowance(allowance: u32) -> bool
     MOST_UNITS < allowance
 }
 
-// A refusal of the book's check. However long the book is, the check ends within its first bytes (`refusal-fits`), so
-// that both numbers fit.
+// A refusal of the book's check. However long the book is, the check ends within its first 3,778 bytes
+// (`refusal-bounds` of the crate book), so that both numbers fit.
 fn book_refused(number: usize, place: usize) -> Answer
     requires { ⌜ Fits number × Fits place ⌝ }
     ensures { λ r. ⌜ answerIn r ≡ answer number place 0 0 0 0 0 ⌝ }

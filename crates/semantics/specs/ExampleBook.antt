@@ -7,11 +7,11 @@ use lib.ListN.{getD, take, replicate}
 use Rattle.semantics.specs.Numbers.{cellsSize, parsesSize, mostUnits}
 use Rattle.semantics.specs.Values.{Tree, no-trees, _▸_}
 use Rattle.characters.specs.Classes.{classOf}
-use Rattle.characters.specs.Skipping.{leading, spanEnd, commentAt, commentEnd, roundEnd, rounds, skipFrom}
+use Rattle.characters.specs.Skipping.{leading, spanEnd, commentAt, commentEnd, roundEnd, skipRounds, skipFrom}
 use Rattle.characters.specs.Tokens.{identifierAt, decimal, numberOf, numberAt}
 use Rattle.characters.specs.Spelling.{same}
 use Rattle.book.specs.Book.{isReserved, lookupFrom}
-use Rattle.book.specs.Check.{checked, row, spelling, entry, nonterminal, variant, stepOf, step, allPass, ended, whole}
+use Rattle.book.specs.Check.{checked, row, spelling, entry, nonterminal, variant, stepOf, step, allPass, ended, entireBook}
 use Rattle.book.specs.Check.{checkBook}
 use Rattle.semantics.specs.Uses.{outwards, govern, governor}
 use Rattle.semantics.specs.Tokens.{isSome, characterEnd, identifierEnd, reservedAt, freeEnd, variableAt}
@@ -74,9 +74,9 @@ times a b = Tree.variant 2 (no-trees ▸ a ▸ b)
 
 -- what the rows compute with: every definition that is shut
 computing : Unit {0}
-unfolding classOf leading spanEnd commentAt commentEnd roundEnd rounds skipFrom identifierAt decimal numberOf numberAt
-    same isReserved lookupFrom checked row spelling entry nonterminal variant stepOf step allPass ended whole
-    checkBook outwards govern governor isSome characterEnd identifierEnd reservedAt freeEnd variableAt stepAt
+unfolding classOf leading spanEnd commentAt commentEnd roundEnd skipRounds skipFrom identifierAt decimal numberOf
+    numberAt same isReserved lookupFrom checked row spelling entry nonterminal variant stepOf step allPass ended
+    entireBook checkBook outwards govern governor isSome characterEnd identifierEnd reservedAt freeEnd variableAt stepAt
     hasClaimant afterElement closed numbersOf cellsIn identityOf findCell treeIn treesIn meaningOf meanings join
     beyond joinWith choiceError identifierError stepError _>>=_ sameParse has allIn kept add addAll ask newest others
     spend make itemCell withCell withToken nested closingOf begin complete counted variants oneRun roundsRun

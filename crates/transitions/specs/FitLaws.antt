@@ -16,7 +16,7 @@ use lib.ListN.{length, getD}
 use borrow.Author.Tests.{eqb-true, ltb-true}
 use Rattle.characters.specs.Classes.{between}
 use Rattle.book.specs.Book.{Entry, Book}
-use Rattle.book.specs.Check.{Checked, refused, accepted, andThen, Reader, row, placed, entry, nonterminal, variant, spelling, total, allPass, ended, whole, Outcome, outcome, checkBook}
+use Rattle.book.specs.Check.{Checked, refused, accepted, andThen, Reader, row, placed, entry, nonterminal, variant, spelling, total, allPass, ended, entireBook, Outcome, outcome, checkBook}
 use Rattle.book.specs.ReaderLaws.{between-high}
 use Rattle.book.specs.declared.records.Associativity.{Associativity}
 use Rattle.book.specs.declared.records.Nonterminal.{Nonterminal}
@@ -131,8 +131,8 @@ without-place P (x ∷ xs) d h zero = h 0
 without-place P (x ∷ xs) d h (suc j) = without-place P xs d (λ i. h (suc i)) j
 
 -- ---- The whole book
-whole-fits : (bytes : List ℕ) (book : Book) (text : List ℕ) (end : ℕ) → length text ≤ 4096 → whole bytes 0 ≡ accepted book end → Fit book text
-unfolding whole
+whole-fits : (bytes : List ℕ) (book : Book) (text : List ℕ) (end : ℕ) → length text ≤ 4096 → entireBook bytes 0 ≡ accepted book end → Fit book text
+unfolding entireBook
 whole-fits bytes book text end short e =
     by-section _ _ _ bytes 0 _ e (λ n₁ s₁ words at₁ few₁ read₁ e₁.
     by-section _ _ _ bytes at₁ _ e₁ (λ n₂ s₂ names at₂ few₂ read₂ e₂.
@@ -171,8 +171,8 @@ whole-fits bytes book text end short e =
 
 pub accepted-fits : (bytes : List ℕ) (b : Book) (text : List ℕ) → checkBook bytes ≡ Outcome.book b → length text ≤ 4096 → Fit b text
 unfolding checkBook
-accepted-fits bytes b text e short = of (whole bytes 0) refl e
+accepted-fits bytes b text e short = of (entireBook bytes 0) refl e
   where
-    of : (c : Checked Book) → whole bytes 0 ≡ c → outcome c ≡ Outcome.book b → Fit b text
+    of : (c : Checked Book) → entireBook bytes 0 ≡ c → outcome c ≡ Outcome.book b → Fit b text
     of (refused number place) told e = let z : _≡_ {A = ℕ} 0 1 = cc in absurd (omega arith)
     of (accepted x end) told e = let same : x ≡ b = cc in subst (λ (x : Book). Fit x text) same (whole-fits bytes x text end short told)

@@ -11,7 +11,7 @@ use Rattle.characters.specs.Cases.{by-test}
 use Rattle.characters.specs.Classes.{between}
 use Rattle.book.specs.Book.{Book, nthNonterminal, nthVariant, markNumber, stepNumber, nthStep}
 use Rattle.book.specs.Check.{Checked, refused, accepted, andThen, Reader, count, field, row, section}
-use Rattle.book.specs.Check.{nonterminal, markOf, passes, allPass, ended, whole, Outcome, outcome, checkBook}
+use Rattle.book.specs.Check.{nonterminal, markOf, passes, allPass, ended, entireBook, Outcome, outcome, checkBook}
 use Rattle.book.specs.ReaderLaws.{between-high, checked-told}
 use Rattle.book.specs.declared.records.Mark.{Mark}
 use Rattle.book.specs.declared.records.Nonterminal.{Nonterminal}
@@ -107,8 +107,8 @@ record Facts (book : Book) : Type 0 where
   fits : (N : ℕ) → Fits (nthNonterminal book N)
   pass : (j : ℕ) → passes (book .steps) (nthVariant book j) ≡ true
 
-whole-facts : (bytes : List ℕ) (book : Book) (end : ℕ) → whole bytes 0 ≡ accepted book end → Facts book
-unfolding whole
+whole-facts : (bytes : List ℕ) (book : Book) (end : ℕ) → entireBook bytes 0 ≡ accepted book end → Facts book
+unfolding entireBook
 whole-facts bytes book end e =
     by-section _ _ _ bytes 0 _ e (λ _ _ words at₁ _ _ e₁.
     by-section _ _ _ bytes at₁ _ e₁ (λ _ _ names at₂ _ _ e₂.
@@ -124,9 +124,9 @@ whole-facts bytes book end e =
 
 book-facts : (bytes : List ℕ) (book : Book) → checkBook bytes ≡ Outcome.book book → Facts book
 unfolding checkBook
-book-facts bytes book e = of (whole bytes 0) refl e
+book-facts bytes book e = of (entireBook bytes 0) refl e
   where
-    of : (c : Checked Book) → whole bytes 0 ≡ c → outcome c ≡ Outcome.book book → Facts book
+    of : (c : Checked Book) → entireBook bytes 0 ≡ c → outcome c ≡ Outcome.book book → Facts book
     of (refused number place) told e = let z : _≡_ {A = ℕ} 0 1 = cc in absurd (omega arith)
     of (accepted b end) told e = let same : b ≡ book = cc in subst Facts same (whole-facts bytes b end told)
 

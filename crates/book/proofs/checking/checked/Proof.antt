@@ -3,7 +3,7 @@ use mathlib.Core.Path.{ap, _∙_}
 use native.Mathlib.Omega.{arith}
 use borrow.Author.Needs.{needs}
 use Rattle.book.specs.EndLaws.{checks-sections, checks-passing, checks-over, checks-accepted}
-use Rattle.book.specs.Index.{refusalOf}
+use Rattle.book.specs.Index.{verdictOf}
 use Rattle.book.proofs.checking.checked.Statement.{statement}
 use Rattle.book.proofs.checking.checked.Tie as tie
 
@@ -26,7 +26,7 @@ returns : tie.Need-returns
 returns c =
     let five-sections = c .before .before .before .before .before .five-sections in
     let told = c .before .enum-told .given .1 in
-    rw (c .refusal .ensures ∙ ap refusalOf told) (checks-sections _ _ _ _ (five-sections .ensures) told)
+    rw (c .refusal .ensures ∙ ap verdictOf told) (checks-sections _ _ _ _ (five-sections .ensures) told)
 
 all-pass-requires : tie.Need-all-pass-requires
 all-pass-requires c κs = search needs
@@ -49,7 +49,7 @@ returns-2 c =
     let sections = c .before .before .before .before .before .before .sections in
     let all-pass = c .before .before .before .all-pass in
     let told = c .before .enum-told2 .given .1 in
-    rw (c .refusal2 .ensures ∙ ap refusalOf told) (checks-passing _ _ _ _ (five-sections .ensures) _ _ (sections .given .1) _ (all-pass .ensures) told)
+    rw (c .refusal2 .ensures ∙ ap verdictOf told) (checks-passing _ _ _ _ (five-sections .ensures) _ _ (sections .given .1) _ (all-pass .ensures) told)
 
 same-length-3 : tie.Need-same-length-3
 same-length-3 c = search needs

@@ -2,7 +2,7 @@
 use native.Mathlib.Omega.{arith}
 use lib.ListN.{getD}
 use borrow.Author.Needs.{needs}
-use Rattle.book.specs.Index.{variantsFit}
+use Rattle.book.specs.Check.{variantsFit}
 use Rattle.book.specs.WholeLaws.{retest, variants-fit, too-many-variants}
 use Rattle.book.specs.declared.sections.Sort.{Sort}
 use Rattle.characters.specs.Classes.{between}

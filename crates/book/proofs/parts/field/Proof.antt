@@ -24,8 +24,8 @@ returns-3 c =
     let byte-at = c .before .before .byte-at in
     field-high _ _ _ _ _ _ _ (if1 .left) (byte-at .ensures) (c .if3 .taken)
 
-add-t8 : tie.Need-add-t8
-add-t8 c = search needs
+add-t7 : tie.Need-add-t7
+add-t7 c = search needs
 
 returns-4 : tie.Need-returns-4
 returns-4 c =
@@ -35,4 +35,4 @@ returns-4 c =
 
 pub field-spec : {M : Type 1} → statement M
 field-spec =
-    tie.close (tie.spec returns byte-at-requires cast-value returns-2 returns-3 add-t8 returns-4)
+    tie.close (tie.spec returns byte-at-requires cast-value returns-2 returns-3 add-t7 returns-4)

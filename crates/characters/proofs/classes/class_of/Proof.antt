@@ -1,18 +1,18 @@
--- `characters::class_of` meets its contract: the number read from the table tells the class. antt computes the rule at the 256 bytes, and compares that with
--- the table in the source.
+-- `characters::class_of` meets its contract: the number read from the table tells the class.
 use mathlib.Core.Path.{refl, sym, _∙_}
 use borrow.Author.Needs.{needs}
-use Rattle.characters.specs.ClassLaws.{class-told, class-at-rest, tabulate, classTable}
-use Rattle.characters.specs.Classes.{classOf}
+use Rattle.characters.specs.ClassLaws.{class-told, class-at-rest}
 use Rattle.characters.proofs.classes.class_of.Statement.{statement}
 use Rattle.characters.proofs.classes.class_of.Tie as tie
+
+class-table-requires : tie.Need-class-table-requires
+class-table-requires c κs = search needs
 
 slice-aggregate-number-in : tie.Need-slice-aggregate-number-in
 slice-aggregate-number-in c = search needs
 
 number-in-requires : tie.Need-number-in-requires
-unfolding classTable tabulate classOf
-number-in-requires c κs = refl
+number-in-requires c κs = search needs
 
 returns : tie.Need-returns
 returns c = class-told (c .match .keys1) (c .before .number-in .ensures)
@@ -33,4 +33,13 @@ returns-5 c =
 
 pub class-of-spec : {M : Type 1} → statement M
 class-of-spec =
-    tie.close (tie.spec slice-aggregate-number-in number-in-requires returns returns-2 returns-3 returns-4 returns-5)
+    tie.close
+    (tie.spec
+    class-table-requires
+    slice-aggregate-number-in
+    number-in-requires
+    returns
+    returns-2
+    returns-3
+    returns-4
+    returns-5)

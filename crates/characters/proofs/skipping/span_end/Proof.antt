@@ -4,8 +4,7 @@ use Prim.Native.Nat.{_-_}
 use lib.ListN.{length}
 use borrow.Author.Needs.{needs}
 use borrow.Author.Tests.{not-true, not-false}
-use Rattle.characters.specs.ClassLaws.{tabulate, classTable}
-use Rattle.characters.specs.Classes.{classOf}
+use Rattle.characters.specs.ClassLaws.{classTable}
 use Rattle.characters.specs.Skipping.{spanEnd}
 use Rattle.characters.specs.SkippingLaws.{span-on, span-stop, span-out}
 use Rattle.characters.proofs.skipping.span_end.Statement.{statement}
@@ -17,12 +16,14 @@ Inv-loop text place span table at₀ at = (table ≡ classTable) × (spanEnd spa
 abbrev μ-loop : tie.MeasureT-loop
 μ-loop text place span table at₀ at = length text - at
 
+class-table-requires : tie.Need-class-table-requires Inv-loop μ-loop
+class-table-requires c κs = search needs
+
 slice-aggregate-table : tie.Need-slice-aggregate-table Inv-loop μ-loop
 slice-aggregate-table c = search needs
 
 loop-holds : tie.Need-loop-holds Inv-loop μ-loop
-unfolding classTable tabulate classOf
-loop-holds c = (refl, refl)
+loop-holds c = (c .before .class-table .ensures, refl)
 
 shared-slice-read-in-span : tie.Need-shared-slice-read-in-span Inv-loop μ-loop
 shared-slice-read-in-span c = search needs
@@ -59,6 +60,7 @@ span-end-spec =
     (tie.spec
     Inv-loop
     μ-loop
+    class-table-requires
     slice-aggregate-table
     loop-holds
     shared-slice-read-in-span

@@ -1,8 +1,8 @@
 -- `run::in_room` meets its contract.
 use native.Mathlib.Omega.{arith}
 use borrow.Author.Needs.{needs}
+use Rattle.book.specs.BoundLaws.{refusal-bounds}
 use Rattle.run.specs.ReadingLaws.{call-short, call-allowance, call-refused, call-book, long-cells, verdict-refused}
-use Rattle.run.specs.RefusalLaws.{refusal-fits}
 use Rattle.run.proofs.reader.in_room.Statement.{statement}
 use Rattle.run.proofs.reader.in_room.Tie as tie
 
@@ -57,7 +57,8 @@ book-refused-requires c κs =
     let shared-slice-known = c .before .before .before .before .before .before .before .before .before .before .before .before .before .before .before .before .before .before .before .shared-slice-known in
     let check-into = c .before .before .before .before .before .check-into in
     let verdict = c .before .verdict in
-    refusal-fits (args .book .now) (λ i. omega (arith, shared-slice-known .given i)) _ _ (verdict-refused _ _ _ _ _ _ (check-into .ensures) (pre .0) (verdict .given .1))
+    let bounds = refusal-bounds (args .book .now) (λ i. omega (arith, shared-slice-known .given i)) _ _ (verdict-refused _ _ _ _ _ _ (check-into .ensures) (pre .0) (verdict .given .1)) in
+    (omega (arith, bounds .0), omega (arith, bounds .1))
 
 enum-told : tie.Need-enum-told
 enum-told c = search needs

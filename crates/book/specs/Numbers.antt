@@ -1,0 +1,95 @@
+-- Document 01's numbers of a book, each named once: its refusals, and the limits of its sections and fields.
+use Prim.Native.Nat.{ℕ}
+
+-- ---- Refusals, in the table's order
+-- lent numbers too few; here, an index
+abbrev pub listTooShort : ℕ
+listTooShort = 1
+
+-- "ends too early"
+abbrev pub bookEndsEarly : ℕ
+bookEndsEarly = 3
+
+-- "section count outside its limits or unequal to its sum"
+abbrev pub badCount : ℕ
+badCount = 4
+
+-- "spelling not of length 1 to 15, or not identifier-shaped"
+abbrev pub badSpelling : ℕ
+badSpelling = 5
+
+-- "any other field out of range"
+abbrev pub badField : ℕ
+badField = 6
+
+-- "passing variant other than one step of kind 8"
+abbrev pub badPassing : ℕ
+badPassing = 7
+
+-- "bytes left over"
+abbrev pub bytesLeftOver : ℕ
+bytesLeftOver = 8
+
+-- ---- Sections
+-- "Words, 0 to 64"
+abbrev pub mostWords : ℕ
+mostWords = 64
+
+-- "Starting names, 0 to 64"
+abbrev pub mostNames : ℕ
+mostNames = 64
+
+-- "Nonterminals, 1 to 32"
+abbrev pub mostNonterminals : ℕ
+mostNonterminals = 32
+
+-- "Variants, the sum of those, at most 128"
+abbrev pub mostVariants : ℕ
+mostVariants = 128
+
+-- ---- Fields
+-- "reserved 0 or 1"
+abbrev pub reserved : ℕ
+reserved = 1
+
+-- "kind 0 to 7"
+abbrev pub lastKind : ℕ
+lastKind = 7
+
+-- "length 1 to 15"
+abbrev pub longestSpelling : ℕ
+longestSpelling = 15
+
+-- "Mark 0 plain; 1 calls `try_claim_as_var` first; 2 is `identifier_nonterminal`, with 0 variants"
+abbrev pub identifierMark : ℕ
+identifierMark = 2
+
+-- "number of variants 0 to 16"
+abbrev pub variantsEach : ℕ
+variantsEach = 16
+
+-- "Level 255 is Rust's default and needs Both"; a byte is no greater
+abbrev pub defaultLevel : ℕ
+defaultLevel = 255
+
+abbrev pub both : ℕ
+both = 3
+
+-- "flags 0 to 3"
+abbrev pub lastFlags : ℕ
+lastFlags = 3
+
+-- "steps 0 to 8"
+abbrev pub stepsEach : ℕ
+stepsEach = 8
+
+-- "Kinds: 0 character a; .. 13 the same, optional"
+abbrev pub lastStepKind : ℕ
+lastStepKind = 13
+
+-- "Characters are 33 to 126"
+abbrev pub firstCharacter : ℕ
+firstCharacter = 33
+
+abbrev pub lastCharacter : ℕ
+lastCharacter = 126
