@@ -5,6 +5,7 @@ use mathlib.Core.List.{List, [], _∷_}
 use Prim.Native.Nat.{ℕ, _+_, _-_, _*_, _^_, _<_}
 use lib.Dec.{ltb, eqb}
 use lib.ListN.{length, getD, drop}
+use Rattle.characters.specs.Slices.{Lent, atEntry}
 use Rattle.characters.specs.Spelling.{partOf}
 use Rattle.book.specs.Book.{Entry, nthEntry}
 use Rattle.book.specs.Index.{bookIn}
@@ -13,8 +14,8 @@ use Rattle.cells.specs.declared.numbers.Numbers.{Numbers}
 use Rattle.printing.specs.Printing.{decimal, printed, spaced}
 
 -- the names of the book that an index gives
-abbrev pub namesIn : List ℕ → List ℕ → List Entry
-namesIn book index = bookIn book index .names
+abbrev pub namesIn : Lent → Lent → List Entry
+namesIn book index = bookIn (atEntry book) (atEntry index) .names
 
 -- cell n of a list of numbers, and absent where there is none
 abbrev pub cellIn : List ℕ → ℕ → Cell
@@ -62,7 +63,9 @@ itemBytes names text numbers n = printed names (treeIn (stands text numbers n))
 
 -- the items of a chain, in a variant or in a list
 abbrev pub itemsBytes : List Entry → List ℕ → List ℕ → Bool → ℕ → List ℕ
-itemsBytes names text numbers inList n = cond inList (drop 1 (spaced names (treesIn (stands text numbers n)))) (spaced names (treesIn (stands text numbers n)))
+itemsBytes names text numbers inList n =
+    let items = spaced names (treesIn (stands text numbers n)) in
+    cond inList (drop 1 items) items
 
 unfoldable pub isChain : Cell → Bool
 isChain Cell.empty = false

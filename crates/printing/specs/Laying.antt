@@ -1,31 +1,35 @@
--- Bytes of the line in a lent slice, a window on the line whose first byte is the line's byte number `from`. This is no part of what document 01 says: the
--- functions that print a part of the line say by `Lays` what they store, and the laws of specs/LayingLaws.antt what is then in the slice.
+-- Bytes of the line, laid into a lent slice one after the other. This is no part of what document 01 says: the
+-- functions that print a part of the line say by `Lays` what they lay, and LayingLaws says what is then in the slice.
 use mathlib.Core.Path.{_≡_}
-use mathlib.Core.Bool.{cond}
+use mathlib.Core.Bool.{Bool, cond, not, _&&_}
 use mathlib.Core.List.{List, [], _∷_}
-use Prim.Native.Nat.{ℕ, suc, _+_, _-_, _^_, _≤_, _<_}
-use lib.Dec.{leb}
+use Prim.Native.Nat.{ℕ, _+_, _-_}
+use lib.Dec.{leb, ltb}
 use lib.ListN.{length, set}
+use Rattle.characters.specs.Slices.{Lent, atEntry, atExit}
+use Rattle.printing.specs.declared.laying.Laid.{Laid}
 
--- byte number `at` of the line, stored if it lies in the window: past its end `set` changes nothing
-abbrev pub stored : ℕ → List ℕ → ℕ → ℕ → List ℕ
-stored from out at b = cond (leb from at) (set out (at - from) b) out
+-- how far the line has come, and the slice
+abbrev pub Filling : Type 0
+Filling = Laid × List ℕ
 
-unfoldable pub laid : ℕ → List ℕ → ℕ → List ℕ → List ℕ
-laid from out at [] = out
-laid from out at (b ∷ bs) = laid from (stored from out at b) (suc at) bs
+-- one byte more: skipped, or stored, or dropped where the slice is full
+abbrev pub lay : Filling → ℕ → Filling
+lay s b =
+    cond (ltb 0 (s .0 .skip)) (record { skip = s .0 .skip - 1; size = s .0 .size }, s .1)
+    (cond (ltb (s .0 .size) (length (s .1))) (record { skip = 0; size = s .0 .size + 1 }, set (s .1) (s .0 .size) b) s)
 
--- a count that stops one past the limit
-abbrev pub counted : ℕ → ℕ → ℕ
-counted limit n = cond (leb n limit) n (limit + 1)
+unfoldable pub laid : Filling → List ℕ → Filling
+laid s [] = s
+laid s (b ∷ bs) = laid (lay s b) bs
 
--- a count of bytes that has not passed the window by more than one; the numbers fit a usize, since a slice has less than 2^63 bytes
-pub record Room (from : ℕ) (out : List ℕ) (at : ℕ) : Type 0 where
-  pub low : from < 2 ^ 63
-  pub within : at ≤ from + length out + 1
+-- nothing is to be skipped, and nothing more is stored
+abbrev pub full : Laid → List ℕ → Bool
+full at out = not (ltb 0 (at .skip)) && leb (length out) (at .size)
 
--- after `at` bytes of the line came these, and more can come
-pub record Lays (from : ℕ) (out : List ℕ) (at : ℕ) (bytes out′ : List ℕ) (at′ : ℕ) : Type 0 where
-  pub count : at′ ≡ counted (from + length out) (at + length bytes)
-  pub stores : out′ ≡ laid from out at bytes
-  pub room : Room from out′ at′
+-- the bytes were laid
+pub record LaysIn (at : Laid) (out bytes out′ : List ℕ) (at′ : Laid) : Type 0 where
+  pub is : _≡_ {A = Filling} (at′, out′) (laid (at, out) bytes)
+
+abbrev pub Lays : Laid → Lent → List ℕ → Laid → Type 0
+Lays at out bytes at′ = LaysIn at (atEntry out) bytes (atExit out) at′

@@ -1,180 +1,140 @@
--- Laws of bytes that are laid into a window: one part after the other, no room, and what the window then holds.
+-- Laws of bytes that are laid into a slice.
+--
+--   lays-none, lays-then, lays-as    one part of the line after the other
+--   lays-full                        a full slice stays as it is
+--   byte-                            one byte: skipped, stored, dropped
+--   laid-short, laid-skip            a line that ends before the part that is asked for, and one that doesn't
+--   laid-window                      what the slice then holds
+--   window, whole-line               the part of the line that was asked for; a whole line
+--   short-skip, short-size, ..       whether a line ends before a limit
+--
+-- Not here: what the bytes of the line are (CellLaws, NumberLaws, LineLaws).
 use mathlib.Core.Path.{_≡_, refl, sym, ap, _∙_}
+use mathlib.Core.Bool.{true}
 use mathlib.Core.List.{List, [], _∷_, _++_, append-nil, append-assoc}
-use mathlib.Core.Logic.{_⊎_, inl, inr, ⊎-elim}
 use Prim.Native.Nat.{ℕ, zero, suc, _+_, _-_, _≤_, _<_}
 use native.Mathlib.Omega.{arith}
+use native.Mathlib.Numerals.{add-one}
 use lib.Dec.{leb, ltb}
 use lib.ListN.{length, set, take, drop, take-append-drop, length-append, length-set, length-drop, drop-of-length-le}
-use lib.Seq.{set-out, take-suc-set, drop-set-lt, take-all, take-nil, length-take-le}
-use borrow.Author.Tests.{le-leb, lt-leb, leb-true, leb-false, ltb-true, ltb-false}
-use Rattle.characters.specs.Cases.{by-test}
+use lib.Seq.{take-suc-set, drop-set-lt, take-all, take-nil, length-take-le}
+use borrow.Author.Tests.{lt-ltb, le-ltb, leb-true, leb-false, ltb-true, ltb-false}
+use Rattle.characters.specs.Cases.{by-test, clash}
 use Rattle.characters.specs.Spelling.{partOf}
-use Rattle.printing.specs.Laying.{stored, laid, counted, Room, Lays}
+use Rattle.printing.specs.Laying.{Filling, lay, laid, full, LaysIn}
 use Rattle.printing.specs.Lines.{Window}
-
--- ---- Counts
-counted-in : (limit n : ℕ) → n ≤ limit → counted limit n ≡ n
-counted-in limit n h = rw (le-leb n limit h)
-
-counted-out : (limit n : ℕ) → limit < n → counted limit n ≡ limit + 1
-counted-out limit n h = rw (lt-leb n limit h)
-
--- ---- Stores
-stored-front : (from : ℕ) (out : List ℕ) (at b : ℕ) → at < from → stored from out at b ≡ out
-stored-front from out at b h = rw (lt-leb from at h)
-
-stored-at : (from : ℕ) (out : List ℕ) (at b : ℕ) → from ≤ at → stored from out at b ≡ set out (at - from) b
-stored-at from out at b h = rw (le-leb from at h)
-
-stored-length : (from : ℕ) (out : List ℕ) (at b : ℕ) → length (stored from out at b) ≡ length out
-stored-length from out at b =
-    by-test (leb from at) (λ t. rw t (length-set out (at - from) b)) (λ t. rw t)
-
-stored-past : (from : ℕ) (out : List ℕ) (at b : ℕ) → from + length out ≤ at → stored from out at b ≡ out
-stored-past from out at b h = stored-at from out at b (omega arith) ∙ set-out out (at - from) b (omega arith)
-
-laid-length : (from : ℕ) (out : List ℕ) (at : ℕ) (w : List ℕ) → length (laid from out at w) ≡ length out
-unfolding laid
-laid-length from out at [] = refl
-laid-length from out at (b ∷ w) = laid-length from (stored from out at b) (suc at) w ∙ stored-length from out at b
-
-laid-past : (from : ℕ) (out : List ℕ) (at : ℕ) (w : List ℕ) → from + length out ≤ at → laid from out at w ≡ out
-unfolding laid
-laid-past from out at [] h = refl
-laid-past from out at (b ∷ w) h = rw (stored-past from out at b h) (laid-past from out (suc at) w (omega arith))
-
-laid-append : (from : ℕ) (out : List ℕ) (at : ℕ) (v w : List ℕ) → laid from out at (v ++ w) ≡ laid from (laid from out at v) (at + length v) w
-unfolding laid
-laid-append from out at [] w = let e : at + 0 ≡ at = omega arith in rw e
-laid-append from out at (b ∷ v) w =
-    let e : suc at + length v ≡ at + suc (length v) = omega arith in
-    laid-append from (stored from out at b) (suc at) v w ∙ ap (λ (n : ℕ). laid from (laid from (stored from out at b) (suc at) v) n w) e
-
--- ---- Parts of the line, one after the other
-module _ {from : ℕ} {out : List ℕ} {at : ℕ} where
-  pub lays-none : Room from out at → Lays from out at [] out at
-  unfolding laid
-  lays-none room =
-      let within = room .within in
-      let e : at + 0 ≡ at = omega arith in
-      record {
-        count =
-            by-test (leb at (from + length out))
-            (λ t. rw (e, t))
-            (λ t. let h = leb-false at (from + length out) t in rw (e, t) (omega arith));
-        stores = refl;
-        room = room;
-      }
-
-  -- no room is left, so nothing is stored, whatever comes
-  pub lays-full : Room from out at → (w : List ℕ) → from + length out < at → Lays from out at w out at
-  lays-full room w full =
-      let within = room .within in
-      let most : at ≡ from + length out + 1 = omega arith in
-      record {
-        count = sym (counted-out (from + length out) (at + length w) (omega arith) ∙ sym most);
-        stores = sym (laid-past from out at w (omega arith));
-        room = room;
-      }
-
-  pub lays-then : {v w out′ out″ : List ℕ} {at′ at″ : ℕ} → Lays from out at v out′ at′ → Lays from out′ at′ w out″ at″ → Lays from out at (v ++ w) out″ at″
-  lays-then {v} {w} {out′} {out″} {at′} {at″} p q =
-      let limit = from + length out in
-      let same : length out′ ≡ length out = ap length (p .stores) ∙ laid-length from out at v in
-      let long = length-append v w in
-      let whole = laid-append from out at v w in
-      let bytes : out″ ≡ laid from (laid from out at v) at′ w = q .stores ∙ ap (λ (l : List ℕ). laid from l at′ w) (p .stores) in
-      let ends : at″ ≡ counted limit (at′ + length w) = q .count ∙ ap (λ (n : ℕ). counted (from + n) (at′ + length w)) same in
-      by-test (leb (at + length v) limit)
-      (λ t.
-      let is : at′ ≡ at + length v = p .count ∙ counted-in limit (at + length v) (leb-true (at + length v) limit t) in
-      let sum : at′ + length w ≡ at + length (v ++ w) = omega arith in
-      record {
-        count = ends ∙ ap (counted limit) sum;
-        stores = bytes ∙ ap (λ (n : ℕ). laid from (laid from out at v) n w) is ∙ sym whole;
-        room = q .room;
-      })
-      (λ t.
-      let past = leb-false (at + length v) limit t in
-      let is : at′ ≡ limit + 1 = p .count ∙ counted-out limit (at + length v) past in
-      let l = laid-length from out at v in
-      record {
-        count =
-            ends ∙ counted-out limit (at′ + length w) (omega arith) ∙ sym (counted-out limit (at + length (v ++ w)) (omega arith));
-        stores =
-            bytes ∙ laid-past from (laid from out at v) at′ w (omega arith)
-            ∙ sym (whole ∙ laid-past from (laid from out at v) (at + length v) w (omega arith));
-        room = q .room;
-      })
-
-  pub lays-as : {v w out′ : List ℕ} {at′ : ℕ} → Lays from out at v out′ at′ → v ≡ w → Lays from out at w out′ at′
-  lays-as p e = rw e at p
+use Rattle.printing.specs.declared.laying.Laid.{Laid}
 
 -- ---- One byte
-module _ (from : ℕ) (out : List ℕ) (at b : ℕ) (room : Room from out at) where
-  -- in front of the window
-  pub lays-front : at < from → Lays from out at (b ∷ []) out (at + 1)
+module _ (at : Laid) (out : List ℕ) (b : ℕ) where
+  lay-skip : 0 < at .skip → lay (at, out) b ≡ (record { skip = at .skip - 1; size = at .size }, out)
+  lay-skip h = rw (lt-ltb 0 (at .skip) h)
+
+  lay-store : at .skip ≤ 0 → at .size < length out →
+      lay (at, out) b ≡ (record { skip = 0; size = at .size + 1 }, set out (at .size) b)
+  lay-store h l = rw (le-ltb 0 (at .skip) h, lt-ltb (at .size) (length out) l)
+
+  lay-full : at .skip ≤ 0 → length out ≤ at .size → lay (at, out) b ≡ (at, out)
+  lay-full h l = rw (le-ltb 0 (at .skip) h, le-ltb (at .size) (length out) l)
+
+  pub byte-skipped : 0 < at .skip → LaysIn at out (b ∷ []) out (record { skip = at .skip - 1; size = at .size })
   unfolding laid
-  lays-front h =
-      record {
-        count = sym (counted-in (from + length out) (at + 1) (omega arith));
-        stores = sym (stored-front from out at b h);
-        room = record { low = room .low; within = omega arith };
-      }
+  byte-skipped h = record { is = sym (lay-skip h) }
 
-  -- in the window, or just past it
-  pub lays-byte : (out′ : List ℕ) → from ≤ at → at ≤ from + length out → out′ ≡ set out (at - from) b → Lays from out at (b ∷ []) out′ (at + 1)
+  pub byte-stored : {out′ : List ℕ} → at .skip ≤ 0 → at .size < length out → out′ ≡ set out (at .size) b →
+      LaysIn at out (b ∷ []) out′ (record { skip = 0; size = at .size + 1 })
   unfolding laid
-  lays-byte out′ h in-reach e =
-      let same : length out′ ≡ length out = ap length e ∙ length-set out (at - from) b in
-      record {
-        count =
-            by-test (leb (at + 1) (from + length out))
-            (λ t. rw t)
-            (λ t. let past = leb-false (at + 1) (from + length out) t in rw t (omega arith));
-        stores = e ∙ sym (stored-at from out at b h);
-        room = record { low = room .low; within = omega arith };
-      }
+  byte-stored h l e = record { is = rw e (sym (lay-store h l)) }
 
--- ---- What the window holds
--- bytes in front of the window leave no trace
-laid-front : (from : ℕ) (out : List ℕ) (at k : ℕ) (w : List ℕ) → at + k ≡ from → laid from out at w ≡ laid from out from (drop k w)
-unfolding laid
-laid-front from out at zero w e = let same : at ≡ from = omega arith in rw same
-laid-front from out at (suc k) [] e = refl
-laid-front from out at (suc k) (b ∷ w) e = rw (stored-front from out at b (omega arith)) (laid-front from out (suc at) k w (omega arith))
+  pub byte-dropped : at .skip ≤ 0 → length out ≤ at .size → LaysIn at out (b ∷ []) out at
+  unfolding laid
+  byte-dropped h l = record { is = sym (lay-full h l) }
 
--- from byte k of the window on
-laid-window : (from : ℕ) (out : List ℕ) (k : ℕ) (w : List ℕ) → laid from out (from + k) w ≡ take k out ++ (take (length out - k) w ++ drop (k + length w) out)
+-- ---- Parts of the line, one after the other
+laid-append : (s : Filling) (v w : List ℕ) → laid s (v ++ w) ≡ laid (laid s v) w
 unfolding laid
-laid-window from out k [] =
+laid-append s [] w = refl
+laid-append s (b ∷ v) w = laid-append (lay s b) v w
+
+laid-full : (at : Laid) (out w : List ℕ) → at .skip ≤ 0 → length out ≤ at .size → laid (at, out) w ≡ (at, out)
+unfolding laid
+laid-full at out [] h l = refl
+laid-full at out (b ∷ w) h l = rw (lay-full at out b h l) (laid-full at out w h l)
+
+module _ {at : Laid} {out : List ℕ} where
+  pub lays-none : LaysIn at out [] out at
+  unfolding laid
+  lays-none = record { is = refl }
+
+  pub lays-full : full at out ≡ true → (w : List ℕ) → LaysIn at out w out at
+  lays-full e w =
+      by-test (ltb 0 (at .skip))
+      (λ t. clash e (rw t))
+      (λ t. by-test (leb (length out) (at .size))
+      (λ u. record { is = sym (laid-full at out w (ltb-false 0 (at .skip) t) (leb-true (length out) (at .size) u)) })
+      (λ u. clash e (rw (t, u))))
+
+  pub lays-then : {v w out′ out″ : List ℕ} {at′ at″ : Laid} → LaysIn at out v out′ at′ → LaysIn at′ out′ w out″ at″ →
+      LaysIn at out (v ++ w) out″ at″
+  lays-then {v} {w} p q =
+      record { is = q .is ∙ ap (λ (s : Filling). laid s w) (p .is) ∙ sym (laid-append (at, out) v w) }
+
+  pub lays-as : {v w out′ : List ℕ} {at′ : Laid} → LaysIn at out v out′ at′ → v ≡ w → LaysIn at out w out′ at′
+  lays-as p e = rw e at p
+
+-- ---- What the slice holds
+abbrev before : ℕ → ℕ → Laid
+before skip size = record { skip = skip; size = size }
+
+-- a line that ends before the part that is asked for
+laid-short : (j k : ℕ) (out w : List ℕ) → length w ≤ j → laid (before j k, out) w ≡ (before (j - length w) k, out)
+unfolding laid
+laid-short j k out [] h = let e : j - 0 ≡ j = omega arith in rw e
+laid-short j k out (b ∷ w) h =
+    let e : j - suc (length w) ≡ j - 1 - length w = omega arith in
+    rw (lay-skip (before j k) out b (omega arith), e) (laid-short (j - 1) k out w (omega arith))
+
+-- bytes in front of it leave no trace
+laid-skip : (j k : ℕ) (out w : List ℕ) → j ≤ length w → laid (before j k, out) w ≡ laid (before 0 k, out) (drop j w)
+unfolding laid
+laid-skip zero k out w h = refl
+laid-skip (suc j) k out [] h = absurd (omega arith)
+laid-skip (suc j) k out (b ∷ w) h =
+    let e : suc j - 1 ≡ j = omega arith in
+    rw (lay-skip (before (suc j) k) out b (omega arith), e) (laid-skip j k out w (omega arith))
+
+-- from byte k of the slice on
+abbrev window-of : ℕ → List ℕ → List ℕ → Filling
+window-of k out w =
+    (before 0 (k + length (take (length out - k) w)), take k out ++ (take (length out - k) w ++ drop (k + length w) out))
+
+laid-window : (k : ℕ) (out w : List ℕ) → k ≤ length out → laid (before 0 k, out) w ≡ window-of k out w
+unfolding laid
+laid-window k out [] h =
     let e : k + 0 ≡ k = omega arith in
-    rw (take-nil (length out - k), e) (sym (take-append-drop k out))
-laid-window from out k (b ∷ w) =
+    rw (take-nil (length out - k), e) (ap (λ (l : List ℕ). (before 0 k, l)) (sym (take-append-drop k out)))
+laid-window k out (b ∷ w) h =
     by-test (ltb k (length out))
     (λ t.
     let inside = ltb-true k (length out) t in
-    let here : from + k - from ≡ k = omega arith in
-    let next : suc (from + k) ≡ from + suc k = omega arith in
-    let store : stored from out (from + k) b ≡ set out k b = stored-at from out (from + k) b (omega arith) ∙ ap (λ (i : ℕ). set out i b) here in
     let size : length (set out k b) ≡ length out = length-set out k b in
-    let one : length out - k ≡ suc (length out - suc k) = omega arith in
-    let sum : k + suc (length w) ≡ suc k + length w = omega arith in
-    let front : take (suc k) (set out k b) ≡ take k out ++ (b ∷ []) = take-suc-set out k b inside in
-    let back : drop (suc k + length w) (set out k b) ≡ drop (suc k + length w) out = drop-set-lt (suc k + length w) out k b (omega arith) in
-    let rest : laid from (set out k b) (from + suc k) w ≡ take (suc k) (set out k b) ++ (take (length (set out k b) - suc k) w ++ drop (suc k + length w) (set out k b)) =
-    laid-window from (set out k b) (suc k) w in
-    let tidy : take (suc k) (set out k b) ++ (take (length (set out k b) - suc k) w ++ drop (suc k + length w) (set out k b))
-    ≡ (take k out ++ (b ∷ [])) ++ (take (length out - suc k) w ++ drop (suc k + length w) out) =
-    rw (front, back, size) in
-    rw (store, next, one, sum) (rest ∙ tidy ∙ append-assoc (take k out) (b ∷ []) (take (length out - suc k) w ++ drop (suc k + length w) out)))
+    let one : length out - k ≡ suc (length out - (k + 1)) = omega arith in
+    let sum : k + suc (length w) ≡ k + 1 + length w = omega arith in
+    let more : k + suc (length (take (length out - (k + 1)) w)) ≡ k + 1 + length (take (length out - (k + 1)) w) = omega arith in
+    let front : take (k + 1) (set out k b) ≡ take k out ++ (b ∷ []) = rw (add-one k) (take-suc-set out k b inside) in
+    let back : drop (k + 1 + length w) (set out k b) ≡ drop (k + 1 + length w) out = drop-set-lt (k + 1 + length w) out k b (omega arith) in
+    rw (lay-store (before 0 k) out b (omega arith) inside, one, sum)
+    (laid-window (k + 1) (set out k b) w (omega arith)
+    ∙ rw (size, front, back, more)
+    (ap (λ (l : List ℕ). (before 0 (k + 1 + length (take (length out - (k + 1)) w)), l))
+    (append-assoc (take k out) (b ∷ []) (take (length out - (k + 1)) w ++ drop (k + 1 + length w) out)))))
     (λ t.
     let past = ltb-false k (length out) t in
     let none : length out - k ≡ 0 = omega arith in
     let far : length out ≤ k + suc (length w) = omega arith in
-    laid-past from out (from + k) (b ∷ w) (omega arith)
-    ∙ sym (rw (none, take-all k out past, drop-of-length-le out far) (append-nil out)))
+    let same : k + 0 ≡ k = omega arith in
+    laid-full (before 0 k) out (b ∷ w) (omega arith) past
+    ∙ sym (rw (none, same, take-all k out past, drop-of-length-le out far) (ap (λ (l : List ℕ). (before 0 k, l)) (append-nil out))))
 
 -- how long a part of the line is
 part-short : (line : List ℕ) (from room : ℕ) → length line - from ≤ room → length (partOf line from room) ≡ length line - from
@@ -197,61 +157,60 @@ after-part line out from =
     drop-of-length-le out past ∙ sym (drop-of-length-le out all))
 
 module _ (from : ℕ) (line out : List ℕ) where
-  holds : laid from out 0 line ≡ partOf line from (length out) ++ drop (length (partOf line from (length out))) out
+  abbrev part : List ℕ
+  part = partOf line from (length out)
+
+  holds : laid (before from 0, out) line ≡ (before (from - length line) (length part), part ++ drop (length part) out)
   holds =
-      let start : from + 0 ≡ from = omega arith in
+      by-test (leb from (length line))
+      (λ t.
+      let inside = leb-true from (length line) t in
+      let none : from - length line ≡ 0 = omega arith in
       let all : length out - 0 ≡ length out = omega arith in
-      let none : 0 + length (drop from line) ≡ length (drop from line) = omega arith in
-      laid-front from out 0 from line (omega arith)
-      ∙ ap (λ (n : ℕ). laid from out n (drop from line)) (sym start)
-      ∙ laid-window from out 0 (drop from line)
-      ∙ rw (all, none, after-part line out from)
+      let start : 0 + length part ≡ length part = omega arith in
+      let rest : 0 + length (drop from line) ≡ length (drop from line) = omega arith in
+      laid-skip from 0 out line inside ∙ laid-window 0 out (drop from line) (omega arith)
+      ∙ rw (all, none, start, rest, after-part line out from))
+      (λ t.
+      let past = leb-false from (length line) t in
+      let behind : length line ≤ from = omega arith in
+      laid-short from 0 out line behind ∙ rw (drop-of-length-le line behind, take-nil (length out)))
 
-  module _ {out′ : List ℕ} {end : ℕ} (lays : Lays from out 0 line out′ end) where
-    sized : (size : ℕ) → size ≡ length (partOf line from (length out)) → Window from line out out′ size
-    sized size e = record { size-is = e; out-is = lays .stores ∙ holds ∙ ap (λ (n : ℕ). partOf line from (length out) ++ drop n out) (sym e) }
+  module _ {out′ : List ℕ} {end : Laid} (lays : LaysIn (before from 0) out line out′ end) where
+    told : _≡_ {A = Filling} (end, out′) (before (from - length line) (length part), part ++ drop (length part) out)
+    told = lays .is ∙ holds
 
-    -- the count is the line's length, or the line is longer than the window
-    end-is : (end ≡ length line) ⊎ ((end ≡ from + length out + 1) × (from + length out < length line))
-    end-is =
-        let zero-sum : 0 + length line ≡ length line = omega arith in
-        let count : end ≡ counted (from + length out) (length line) = lays .count ∙ ap (counted (from + length out)) zero-sum in
-        by-test (leb (length line) (from + length out))
-        (λ t. inl (count ∙ counted-in (from + length out) (length line) (leb-true (length line) (from + length out) t)))
+    size-is : end .size ≡ length part
+    size-is = ap (λ (s : Filling). s .0 .size) told
+
+    pub skip-is : end .skip ≡ from - length line
+    skip-is = ap (λ (s : Filling). s .0 .skip) told
+
+    pub window : Window from line out out′ (end .size)
+    window =
+        record {
+          size-is = size-is;
+          out-is = ap (λ (s : Filling). s .1) told ∙ ap (λ (n : ℕ). part ++ drop n out) (sym size-is);
+        }
+
+    -- a slice of one byte behind the limit shows whether the line is within it
+    pub within-limit : length out ≡ 1 → end .size ≡ 0 → length line ≤ from
+    within-limit one none =
+        by-test (leb (length line) from)
+        (λ t. leb-true (length line) from t)
         (λ t.
-        let past = leb-false (length line) (from + length out) t in
-        inr (count ∙ counted-out (from + length out) (length line) past, past))
+        let past = leb-false (length line) from t in
+        let long = part-long line from (length out) (omega arith) in
+        absurd (omega (arith, size-is, long)))
 
-    pub window-none : end < from → Window from line out out′ 0
-    window-none h =
-        sized 0
-        (⊎-elim
-        (λ e. sym (part-short line from (length out) (omega arith) ∙ omega arith))
-        (λ e. let past = e .0 in absurd (omega arith))
-        end-is)
-
-    pub window-part : from ≤ end → end - from < length out → Window from line out out′ (end - from)
-    window-part h inside =
-        sized (end - from)
-        (⊎-elim
-        (λ e. sym (part-short line from (length out) (omega arith) ∙ omega arith))
-        (λ e. let past = e .0 in absurd (omega arith))
-        end-is)
-
-    pub window-full : from ≤ end → length out ≤ end - from → Window from line out out′ (length out)
-    window-full h full =
-        sized (length out)
-        (⊎-elim
-        (λ e. sym (part-long line from (length out) (omega arith)))
-        (λ e. let past = e .1 in sym (part-long line from (length out) (omega arith)))
-        end-is)
-
-    -- a window beyond the limit shows whether the line is within it
-    pub within-limit : end ≤ from → length line ≡ end
-    within-limit h = ⊎-elim (λ e. sym e) (λ e. let past = e .0 in absurd (omega arith)) end-is
-
-    pub beyond-limit : from < end → from < length line
-    beyond-limit h = ⊎-elim (λ e. omega arith) (λ e. let past = e .1 in omega arith) end-is
+    pub beyond-limit : (end .size ≡ 0 → ⊥) → from < length line
+    beyond-limit some =
+        by-test (leb (length line) from)
+        (λ t.
+        let within = leb-true (length line) from t in
+        let short = part-short line from (length out) (omega arith) in
+        absurd (some (omega (arith, size-is, short))))
+        (λ t. leb-false (length line) from t)
 
 -- a line that fits, in front of what the slice held
 pub whole-line : (line out out′ : List ℕ) (size : ℕ) → Window 0 line out out′ size → length line ≤ length out → out′ ≡ line ++ drop (length line) out

@@ -1,5 +1,5 @@
--- The line for an answer (Printing) and what the public functions answer (Lines); the window on the line (Laying) and what is printed of a cell (Cells), as the
--- code goes; laws; worked examples.
+-- The line for an answer (Printing) and what the public functions answer (Lines); bytes laid into a slice (Laying)
+-- and what is printed of a cell (Cells), as the code goes; laws; worked examples.
 pub mod Printing
 pub mod Lines
 pub mod Laying

@@ -1,4 +1,10 @@
--- Laws of the line: its parts, one after the other, and whether it fits.
+-- Laws of the line.
+--
+--   refused-fields, line-refused, line-value     its parts, one after the other
+--   length-in, length-out                        whether it is within a limit
+--   prints-whole, prints-nothing                 the line in a slice that holds it, and in one that doesn't
+--
+-- Not here: how its bytes are laid (LayingLaws).
 use mathlib.Core.Path.{_≡_, sym, _∙_}
 use mathlib.Core.List.{List, [], _∷_, _++_}
 use Prim.Native.Nat.{ℕ, _≤_, _<_}

@@ -5,6 +5,7 @@ use mathlib.Core.List.{List, _++_}
 use Prim.Native.Nat.{ℕ}
 use lib.Dec.{leb}
 use lib.ListN.{length, drop}
+use Rattle.characters.specs.Slices.{Lent, atEntry}
 use Rattle.characters.specs.Spelling.{partOf}
 use Rattle.run.specs.Promise.{answerIn}
 use Rattle.printing.specs.Printing.{lineBytes}
@@ -13,8 +14,8 @@ use Rattle.run.specs.declared.reader.Answer.{Answer}
 use Rattle.printing.specs.declared.line.Length.{Length}
 
 -- the line, by the code's parameters
-abbrev pub lineIn : List ℕ → List ℕ → List ℕ → List ℕ → Answer → List ℕ
-lineIn text book index cells a = lineBytes (namesIn book index) text cells (answerIn a)
+abbrev pub lineIn : Lent → Lent → Lent → Lent → Answer → List ℕ
+lineIn text book index cells a = lineBytes (namesIn book index) (atEntry text) (atEntry cells) (answerIn a)
 
 abbrev pub lengthWithin : ℕ → List ℕ → Length
 lengthWithin limit line = cond (leb (length line) limit) (Length.Bytes (length line)) Length.Longer

@@ -1,4 +1,7 @@
--- Laws of numbers in decimal, and of the line and column of a place.
+-- Laws of numbers.
+--
+--   decimal-digit, decimal-digits     a number in decimal: its last digit, and those before
+--   feeds-, since-                    the loops for the line and the column of a place
 use mathlib.Core.Path.{_≡_, refl, sym, ap, _∙_}
 use mathlib.Core.Bool.{cond}
 use mathlib.Core.List.{List, [], _∷_, _++_}

@@ -10,17 +10,20 @@ use Rattle.semantics.specs.Cells.{cellsIn, treeAt}
 use Rattle.semantics.specs.Answer.{Answer}
 
 -- ---- "numbers without leading zeros"
--- the digits of a tenth of the number, if that is not 0, and then its last digit. As many turns as the number are more than enough
+-- the digits of a tenth of the number, if that is not 0, and then its last digit. As many turns as the number are more
+-- than enough
 unfoldable pub digits : ℕ → ℕ → List ℕ
 digits zero n = (48 + n) ∷ []
-digits (suc turns) n = elim (ltb n 10) [ true ↦ (48 + n) ∷ [] | false ↦ digits turns (n / 10) ++ ((48 + n % 10) ∷ []) ]
+digits (suc turns) n =
+    elim (ltb n 10) [ true ↦ (48 + n) ∷ [] | false ↦ digits turns (n / 10) ++ ((48 + n % 10) ∷ []) ]
 
 abbrev pub decimal : ℕ → List ℕ
 decimal n = digits n n
 
 -- ---- A value
 unfoldable mutual
-  -- "variant as `(number items)`, list `[items]`, one space before each item but a list's first, .. absent `-`, variable `$` and spelling"
+  -- "variant as `(number items)`, list `[items]`, one space before each item but a list's first, .. absent `-`,
+  -- variable `$` and spelling"
   pub printed : List Entry → Tree → List ℕ
   printed names (Tree.variant j items) = 40 ∷ (decimal j ++ (spaced names items ++ (41 ∷ [])))
   printed names (Tree.name spelling) = spelling
@@ -34,7 +37,8 @@ unfoldable mutual
   spaced names no-trees = []
   spaced names (items ▸ item) = spaced names items ++ (32 ∷ printed names item)
 
--- the value of a cell; a run has at most 4,096 cells, so what stands past their numbers is none. Every list of numbers has a value: what is no cell is absent
+-- the value of a cell; a run has at most 4,096 cells, so what stands past their numbers is none. Every list of numbers
+-- has a value: what is no cell is absent
 abbrev pub valueBytes : List Entry → List ℕ → List ℕ → ℕ → List ℕ
 valueBytes names text numbers n = printed names (treeAt text (cellsIn (take 12288 numbers)) n)
 
@@ -99,4 +103,5 @@ refusedLine text a =
 -- "Success: `value ` and the value"; "One line feed ends each"
 unfoldable pub lineBytes : List Entry → List ℕ → List ℕ → Answer → List ℕ
 lineBytes names text numbers a =
-    elim (eqb (a .refusal) 0) [ true ↦ valueWord ++ (valueBytes names text numbers (a .value) ++ (10 ∷ [])) | false ↦ refusedLine text a ]
+    elim (eqb (a .refusal) 0)
+    [ true ↦ valueWord ++ (valueBytes names text numbers (a .value) ++ (10 ∷ [])) | false ↦ refusedLine text a ]

@@ -46,7 +46,8 @@ pub fn older(n: u32, cell: u32) -> u32
 
 // The part of the text, or of the book, that a name or a variable is spelled by; of any other cell, nothing.
 pub fn spelling<'a>(text: &'a [u8], book: &'a [u8], index: &[usize], cell: Numbers) -> &'a [u8]
-    ensures { λ r. ⌜ now r ≡ spellingOf (namesIn (now (book .entry)) (now (index .entry))) (now (text .entry)) (cellOf (cell .form) (cell .a) (cell .b)) ⌝ }
+    ensures { λ r. ⌜ now r ≡ spellingOf (namesIn book index) (now (text .entry))
+        (cellOf (cell .form) (cell .a) (cell .b)) ⌝ }
 {
     if cell.form == NAME {
         return part(text, cell.a as usize, cell.b as usize);

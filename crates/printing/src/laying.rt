@@ -1,67 +1,69 @@
-// Bytes of the line, laid into a lent slice. The slice is a window on the line: its first byte is the line's byte number `from`. A byte in front of the
-// window or past it is counted and not stored; `at` is how many bytes the line has so far. One byte past the window the count stops, since the line doesn't end
-// within it, and a count that far says that there is no room for more.
-ghost use Prim.Native.Nat.{_+_, _^_, _<_};
+// Bytes of the line, laid into a lent slice: the bytes in front of the part that is asked for are skipped, and those
+// past the slice dropped. What is skipped is counted down and what is stored is counted up, so that no count gets past
+// the numbers that the caller gave, and no sum can wrap.
 ghost use mathlib.Core.Path.{_≡_};
 ghost use mathlib.Core.List.{[], _∷_};
-ghost use lib.Dec.{ltb};
-ghost use lib.ListN.{length, set};
 ghost use Rattle.printing.specs.Printing.{decimal};
-ghost use Rattle.printing.specs.Laying.{Room, Lays};
+ghost use Rattle.printing.specs.Laying.{full, Lays};
 
-// Whether the line is known to be longer than the window.
-pub fn is_full(out: &[u8], from: usize, at: usize) -> bool
-    requires { ⌜ from < 2 ^ 63 ⌝ }
-    ensures { λ r. ⌜ r ≡ ltb (from + length (now (out .entry))) at ⌝ }
-{
-    from + out.len() < at
+// How far the line has come.
+pub struct Laid {
+    // how many of its bytes are still to be skipped
+    pub skip: usize,
+    // how many are stored
+    pub size: usize,
 }
 
-// A store, and nothing past the end.
-fn store(out: &mut [u8], i: usize, byte: u8)
-    ensures { λ _. ⌜ now (out .exit) ≡ set (now (out .entry)) i byte ⌝ }
+// Whether no byte that comes is skipped or stored.
+pub fn is_full(out: &[u8], at: Laid) -> bool
+    ensures { λ r. ⌜ r ≡ full at (now (out .entry)) ⌝ }
 {
-    if i < out.len() {
-        out[i] = byte;
+    if 0 < at.skip {
+        return false;
     }
+    out.len() <= at.size
 }
 
-pub fn byte(out: &mut [u8], from: usize, at: usize, byte: u8) -> usize
-    requires { ⌜ Room from (now out) at ⌝ }
-    ensures { λ r. ⌜ Lays from (now (out .entry)) at (byte ∷ []) (now (out .exit)) r ⌝ }
+pub fn byte(out: &mut [u8], at: Laid, byte: u8) -> Laid
+    ensures { λ r. ⌜ Lays at out (byte ∷ []) r ⌝ }
 {
-    if at < from {
-        return at + 1;
+    if 0 < at.skip {
+        return Laid {
+            skip: at.skip - 1,
+            size: at.size,
+        };
     }
-    if is_full(out, from, at) {
-        return at;
+    let size = at.size;
+    if size < out.len() {
+        out[size] = byte;
+        return Laid {
+            skip: 0,
+            size: size + 1,
+        };
     }
-    store(out, at - from, byte);
-    at + 1
+    at
 }
 
-pub fn bytes(out: &mut [u8], from: usize, at: usize, bytes: &[u8]) -> usize
-    requires { ⌜ Room from (now out) at ⌝ }
-    ensures { λ r. ⌜ Lays from (now (out .entry)) at (now (bytes .entry)) (now (out .exit)) r ⌝ }
+pub fn bytes(out: &mut [u8], at: Laid, bytes: &[u8]) -> Laid
+    ensures { λ r. ⌜ Lays at out (now (bytes .entry)) r ⌝ }
 {
     let mut next = at;
     let mut i = 0;
     while i < bytes.len() {
-        next = byte(out, from, next, bytes[i]);
+        next = byte(out, next, bytes[i]);
         i += 1;
     }
     next
 }
 
 // A number, in decimal.
-pub fn number(out: &mut [u8], from: usize, at: usize, n: u64) -> usize
-    requires { ⌜ Room from (now out) at ⌝ }
-    ensures { λ r. ⌜ Lays from (now (out .entry)) at (decimal n) (now (out .exit)) r ⌝ }
+pub fn number(out: &mut [u8], at: Laid, n: u64) -> Laid
+    ensures { λ r. ⌜ Lays at out (decimal n) r ⌝ }
 {
     let last = (48 + n % 10) as u8;
     if n < 10 {
-        return byte(out, from, at, last);
+        return byte(out, at, last);
     }
-    let next = number(out, from, at, n / 10);
-    byte(out, from, next, last)
+    let next = number(out, at, n / 10);
+    byte(out, next, last)
 }

@@ -1,12 +1,12 @@
 // The line for an answer.
 ghost use mathlib.Core.Path.{_≡_};
-ghost use Prim.Native.Nat.{_^_, _<_};
 ghost use mathlib.Core.List.{_++_};
-ghost use lib.ListN.{length, take};
+ghost use lib.ListN.{take};
 ghost use Rattle.printing.specs.Printing.{decimal, lineOf, columnOf, hasLine, refusedLine};
-ghost use Rattle.printing.specs.Laying.{Room, Lays};
+ghost use Rattle.printing.specs.Laying.{Lays};
 ghost use Rattle.run.specs.Promise.{answerIn};
 ghost use Rattle.printing.specs.Lines.{lineIn, lengthWithin, Prints, Window};
+use crate::laying::Laid;
 use crate::laying::byte;
 use crate::laying::bytes;
 use crate::laying::number;
@@ -68,30 +68,28 @@ fn column_of(text: &[u8], answer: Answer) -> usize
 }
 
 // A word and a number.
-fn field(out: &mut [u8], from: usize, at: usize, word: &[u8], n: u64) -> usize
-    requires { ⌜ Room from (now out) at ⌝ }
-    ensures { λ r. ⌜ Lays from (now (out .entry)) at (now (word .entry) ++ decimal n) (now (out .exit)) r ⌝ }
+fn field(out: &mut [u8], at: Laid, word: &[u8], n: u64) -> Laid
+    ensures { λ r. ⌜ Lays at out (now (word .entry) ++ decimal n) r ⌝ }
 {
-    let next = bytes(out, from, at, word);
-    number(out, from, next, n)
+    let next = bytes(out, at, word);
+    number(out, next, n)
 }
 
-fn refused(text: &[u8], answer: Answer, out: &mut [u8], from: usize) -> usize
-    requires { ⌜ from < 2 ^ 63 ⌝ }
-    ensures { λ r. ⌜ Lays from (now (out .entry)) 0 (refusedLine (now (text .entry)) (answerIn answer)) (now (out .exit)) r ⌝ }
+fn refused(text: &[u8], answer: Answer, out: &mut [u8], at: Laid) -> Laid
+    ensures { λ r. ⌜ Lays at out (refusedLine (now (text .entry)) (answerIn answer)) r ⌝ }
 {
     let line = line_of(text, answer);
     let column = column_of(text, answer);
-    let refusal = field(out, from, 0, b"refused ", answer.refusal as u64);
-    let place = field(out, from, refusal, b" place ", answer.place as u64);
-    let kind = field(out, from, place, b" kind ", answer.kind as u64);
-    let argument = field(out, from, kind, b" argument ", answer.argument as u64);
-    let lined = field(out, from, argument, b" line ", line as u64);
-    let columned = field(out, from, lined, b" column ", column as u64);
-    byte(out, from, columned, b'\n')
+    let refusal = field(out, at, b"refused ", answer.refusal as u64);
+    let place = field(out, refusal, b" place ", answer.place as u64);
+    let kind = field(out, place, b" kind ", answer.kind as u64);
+    let argument = field(out, kind, b" argument ", answer.argument as u64);
+    let lined = field(out, argument, b" line ", line as u64);
+    let columned = field(out, lined, b" column ", column as u64);
+    byte(out, columned, b'\n')
 }
 
-// The line, as much of it as lies in the window, and how long it is, or one past the window.
+// The line.
 fn line<'a>(
     text: &'a [u8],
     book: &'a [u8],
@@ -99,21 +97,21 @@ fn line<'a>(
     cells: &[u32],
     answer: Answer,
     out: &mut [u8],
-    from: usize,
-) -> usize
-    requires { ⌜ from < 2 ^ 63 ⌝ }
-    ensures { λ r. ⌜ Lays from (now (out .entry)) 0 (lineIn (now (text .entry)) (now (book .entry)) (now (index .entry)) (now (cells .entry)) answer) (now (out .exit)) r ⌝ }
+    at: Laid,
+) -> Laid
+    ensures { λ r. ⌜ Lays at out (lineIn text book index cells answer) r ⌝ }
 {
     if answer.refusal != 0 {
-        return refused(text, answer, out, from);
+        return refused(text, answer, out, at);
     }
-    let begun = bytes(out, from, 0, b"value ");
+    let begun = bytes(out, at, b"value ");
     let numbers = cell_numbers(cells);
-    let value = item(text, book, index, numbers, out, from, begun, answer.value);
-    byte(out, from, value, b'\n')
+    let value = item(text, book, index, numbers, out, begun, answer.value);
+    byte(out, value, b'\n')
 }
 
-// How long the line is, if it has at most `limit` bytes.
+// How long the line is, if it has at most `limit` bytes. These are skipped, so that a byte which is stored is past
+// them.
 pub fn line_length<'a>(
     text: &'a [u8],
     book: &'a [u8],
@@ -122,19 +120,23 @@ pub fn line_length<'a>(
     answer: Answer,
     limit: usize,
 ) -> Length
-    requires { ⌜ limit < 2 ^ 63 ⌝ }
-    ensures { λ r. ⌜ r ≡ lengthWithin limit (lineIn (now (text .entry)) (now (book .entry)) (now (index .entry)) (now (cells .entry)) answer) ⌝ }
+    ensures { λ r. ⌜ r ≡ lengthWithin limit (lineIn text book index cells answer) ⌝ }
 {
+    let start = Laid {
+        skip: limit,
+        size: 0,
+    };
     let mut past = [0u8; 1];
-    let end = line(text, book, index, cells, answer, &mut past, limit);
-    if end <= limit {
-        Length::Bytes(end)
+    let end = line(text, book, index, cells, answer, &mut past, start);
+    if end.size == 0 {
+        Length::Bytes(limit - end.skip)
     } else {
         Length::Longer
     }
 }
 
-// The part of the line from byte number `from` on, as much of it as there is and `out` holds; and how many bytes that is.
+// The part of the line from byte number `from` on, as much of it as there is and `out` holds; and how many bytes that
+// is.
 pub fn print_part<'a>(
     text: &'a [u8],
     book: &'a [u8],
@@ -144,18 +146,14 @@ pub fn print_part<'a>(
     from: usize,
     out: &mut [u8],
 ) -> usize
-    requires { ⌜ from < 2 ^ 63 ⌝ }
-    ensures { λ r. ⌜ Window from (lineIn (now (text .entry)) (now (book .entry)) (now (index .entry)) (now (cells .entry)) answer) (now (out .entry)) (now (out .exit)) r ⌝ }
+    ensures { λ r. ⌜ Window from (lineIn text book index cells answer) (now (out .entry)) (now (out .exit)) r ⌝ }
 {
-    let end = line(text, book, index, cells, answer, out, from);
-    if end < from {
-        return 0;
-    }
-    if end - from < out.len() {
-        end - from
-    } else {
-        out.len()
-    }
+    let start = Laid {
+        skip: from,
+        size: 0,
+    };
+    let end = line(text, book, index, cells, answer, out, start);
+    end.size
 }
 
 // The line, if `out` has room for all of it; else `out` stays as it is.
@@ -167,7 +165,7 @@ pub fn print<'a>(
     answer: Answer,
     out: &mut [u8],
 ) -> Length
-    ensures { λ r. ⌜ Prints (lineIn (now (text .entry)) (now (book .entry)) (now (index .entry)) (now (cells .entry)) answer) (now (out .entry)) (now (out .exit)) r ⌝ }
+    ensures { λ r. ⌜ Prints (lineIn text book index cells answer) (now (out .entry)) (now (out .exit)) r ⌝ }
 {
     let size = out.len();
     let length = line_length(text, book, index, cells, answer, size);

@@ -1,7 +1,7 @@
-// A value. A cell refers to older ones alone, so the cells' numbers fall along the calls of `item` and `items`; both turn back at once where there is no room
-// left, so that no cell is looked at for nothing but a few bytes past the window.
+// A value. A cell refers to older ones alone, so the cells' numbers fall along the calls of `item` and `items`; both
+// turn back at once where the slice is full, so that no cell is looked at for nothing.
 ghost use Rattle.semantics.specs.Cells.{cellOf};
-ghost use Rattle.printing.specs.Laying.{Room, Lays};
+ghost use Rattle.printing.specs.Laying.{Lays};
 ghost use Rattle.printing.specs.Cells.{namesIn, plainBytes, itemBytes, itemsBytes, gapBytes};
 use crate::cell::CHAIN;
 use crate::cell::LIST;
@@ -12,6 +12,7 @@ use crate::cell::VARIANT;
 use crate::cell::cell_at;
 use crate::cell::older;
 use crate::cell::spelling;
+use crate::laying::Laid;
 use crate::laying::byte;
 use crate::laying::bytes;
 use crate::laying::is_full;
@@ -26,30 +27,28 @@ fn plain<'a>(
     book: &'a [u8],
     index: &[usize],
     out: &mut [u8],
-    from: usize,
-    at: usize,
+    at: Laid,
     cell: Numbers,
-) -> usize
-    requires { ⌜ Room from (now out) at ⌝ }
-    ensures { λ r. ⌜ Lays from (now (out .entry)) at (plainBytes (namesIn (now (book .entry)) (now (index .entry))) (now (text .entry)) (cellOf (cell .form) (cell .a) (cell .b))) (now (out .exit)) r ⌝ }
+) -> Laid
+    ensures { λ r. ⌜ Lays at out
+        (plainBytes (namesIn book index) (now (text .entry)) (cellOf (cell .form) (cell .a) (cell .b))) r ⌝ }
 {
     if cell.form == NUMBER {
-        return number(out, from, at, cell.a as u64 * HALF + cell.b as u64);
+        return number(out, at, cell.a as u64 * HALF + cell.b as u64);
     }
     if cell.form == NAME {
-        return bytes(out, from, at, spelling(text, book, index, cell));
+        return bytes(out, at, spelling(text, book, index, cell));
     }
     if cell.form == VARIABLE {
-        let next = byte(out, from, at, b'$');
-        return bytes(out, from, next, spelling(text, book, index, cell));
+        let next = byte(out, at, b'$');
+        return bytes(out, next, spelling(text, book, index, cell));
     }
-    byte(out, from, at, b'-')
+    byte(out, at, b'-')
 }
 
 // The space before an item that comes after the items of a chain; a list's first has none.
-fn gap(cells: &[u32], out: &mut [u8], from: usize, at: usize, in_list: bool, chain: u32) -> usize
-    requires { ⌜ Room from (now out) at ⌝ }
-    ensures { λ r. ⌜ Lays from (now (out .entry)) at (gapBytes (now (cells .entry)) «in_list» chain) (now (out .exit)) r ⌝ }
+fn gap(cells: &[u32], out: &mut [u8], at: Laid, in_list: bool, chain: u32) -> Laid
+    ensures { λ r. ⌜ Lays at out (gapBytes (now (cells .entry)) «in_list» chain) r ⌝ }
 {
     if in_list {
         let before = cell_at(cells, chain);
@@ -57,7 +56,7 @@ fn gap(cells: &[u32], out: &mut [u8], from: usize, at: usize, in_list: bool, cha
             return at;
         }
     }
-    byte(out, from, at, b' ')
+    byte(out, at, b' ')
 }
 
 // The value of cell n.
@@ -67,31 +66,30 @@ pub fn item<'a>(
     index: &[usize],
     cells: &[u32],
     out: &mut [u8],
-    from: usize,
-    at: usize,
+    at: Laid,
     n: u32,
-) -> usize
-    requires { ⌜ Room from (now out) at ⌝ }
-    ensures { λ r. ⌜ Lays from (now (out .entry)) at (itemBytes (namesIn (now (book .entry)) (now (index .entry))) (now (text .entry)) (now (cells .entry)) n) (now (out .exit)) r ⌝ }
+) -> Laid
+    ensures { λ r. ⌜ Lays at out
+        (itemBytes (namesIn book index) (now (text .entry)) (now (cells .entry)) n) r ⌝ }
 {
-    if is_full(out, from, at) {
+    if is_full(out, at) {
         return at;
     }
     let cell = cell_at(cells, n);
     if cell.form == VARIANT {
-        let opened = byte(out, from, at, b'(');
-        let numbered = number(out, from, opened, cell.a as u64);
+        let opened = byte(out, at, b'(');
+        let numbered = number(out, opened, cell.a as u64);
         let chain = older(n, cell.b);
-        let filled = items(text, book, index, cells, out, from, numbered, chain, false);
-        return byte(out, from, filled, b')');
+        let filled = items(text, book, index, cells, out, numbered, chain, false);
+        return byte(out, filled, b')');
     }
     if cell.form == LIST {
-        let opened = byte(out, from, at, b'[');
+        let opened = byte(out, at, b'[');
         let chain = older(n, cell.a);
-        let filled = items(text, book, index, cells, out, from, opened, chain, true);
-        return byte(out, from, filled, b']');
+        let filled = items(text, book, index, cells, out, opened, chain, true);
+        return byte(out, filled, b']');
     }
-    plain(text, book, index, out, from, at, cell)
+    plain(text, book, index, out, at, cell)
 }
 
 // The items of chain n, the oldest first.
@@ -101,15 +99,14 @@ fn items<'a>(
     index: &[usize],
     cells: &[u32],
     out: &mut [u8],
-    from: usize,
-    at: usize,
+    at: Laid,
     n: u32,
     in_list: bool,
-) -> usize
-    requires { ⌜ Room from (now out) at ⌝ }
-    ensures { λ r. ⌜ Lays from (now (out .entry)) at (itemsBytes (namesIn (now (book .entry)) (now (index .entry))) (now (text .entry)) (now (cells .entry)) «in_list» n) (now (out .exit)) r ⌝ }
+) -> Laid
+    ensures { λ r. ⌜ Lays at out
+        (itemsBytes (namesIn book index) (now (text .entry)) (now (cells .entry)) «in_list» n) r ⌝ }
 {
-    if is_full(out, from, at) {
+    if is_full(out, at) {
         return at;
     }
     let cell = cell_at(cells, n);
@@ -117,8 +114,8 @@ fn items<'a>(
         return at;
     }
     let chain = older(n, cell.a);
-    let filled = items(text, book, index, cells, out, from, at, chain, in_list);
-    let next = gap(cells, out, from, filled, in_list, chain);
+    let filled = items(text, book, index, cells, out, at, chain, in_list);
+    let next = gap(cells, out, filled, in_list, chain);
     let last = older(n, cell.b);
-    item(text, book, index, cells, out, from, next, last)
+    item(text, book, index, cells, out, next, last)
 }

@@ -1,9 +1,9 @@
--- A part of a line lies within the slice that it was printed into.
+-- A law of the parts of a line: a part lies within the slice that it was printed into (`window-counts`).
 use mathlib.Core.Path.{_≡_, refl, sym, ap, _∙_}
 use mathlib.Core.List.{List, _++_}
 use Prim.Native.Nat.{ℕ, _≤_, _+_, min}
 use native.Mathlib.Omega.{arith}
-use lib.ListN.{length, take, drop, length-take, length-append}
+use lib.ListN.{length, drop, length-take, length-append}
 use Rattle.characters.specs.Spelling.{partOf}
 use Rattle.io.specs.Counts.{Counts}
 use Rattle.printing.specs.Lines.{Window}
@@ -14,7 +14,3 @@ module _ {from : ℕ} {line out out′ : List ℕ} {size : ℕ} (w : Window from
 
   pub window-counts : Counts size out′
   window-counts = (inside, omega (arith, inside, length-take size out′))
-
-  -- and is no longer than the slice
-  pub window-fits : size ≤ length out
-  window-fits = omega (arith, w .size-is, length-take (length out) (drop from line))

@@ -16,10 +16,10 @@ const CELL_NUMBERS: usize = 12288;
 
 const PARSE_NUMBERS: usize = 256;
 
-// No line gets that far; print_part asks for a bound.
-const LONGEST_LINE: usize = 4611686018427387904;
+const LARGEST: usize = 18446744073709551615;
 
-// The line in parts, each as much as `out` holds, until one is empty or can't be written.
+// The line in parts, each as much as `out` holds, until one is empty or can't be written. Each part is one of
+// `lineBytes` by the contract of `print_part`; no contract can say what is written, so this function has none.
 fn write_line<'a>(
     text: &'a [u8],
     book: &'a [u8],
@@ -29,7 +29,7 @@ fn write_line<'a>(
     out: &mut [u8],
 ) {
     let mut from = 0;
-    while from < LONGEST_LINE {
+    loop {
         let size = print_part(text, book, index, cells, answer, from, out);
         if size == 0 {
             return;
@@ -37,11 +37,16 @@ fn write_line<'a>(
         if !io::write_all(STDOUT_FILENO, &out[..size]) {
             return;
         }
+        // no line has that many bytes, which the definition of the line doesn't say
+        if LARGEST - from < size {
+            return;
+        }
         from += size;
     }
 }
 
-// Reads the text by the book, writes the line of the answer by way of `out`, which needs one byte at least, and gives the answer.
+// Reads the text by the book, writes the line of the answer by way of `out`, which needs one byte at least, and gives
+// the answer.
 pub fn answer_line<'a>(book: &'a [u8], text: &'a [u8], out: &mut [u8]) -> Answer
     ensures { λ r. ⌜ Answers (now (book .entry)) (now (text .entry)) r ⌝ }
 {

@@ -15,7 +15,7 @@ use Rattle.printing.proofs.laying.+number.Lts-number as number-lts
 use Rattle.printing.proofs.laying.byte.Reads as byte-reads
 
 abbrev μ-number : Measures 1 number-kinds.ps ℕ
-μ-number κs a = a .1 .1 .1 .0
+μ-number κs a = a .1 .1 .0
 
 abbrev number-at : ℕ → In 1 number-kinds.ps
 number-at t = and 1 number-kinds.ps (is 1 number-kinds.ps μ-number t) number.Pre
@@ -38,7 +38,7 @@ number-cast-last : (t : ℕ) → number-lts.Need-cast-last (number-claims t) (nu
 number-cast-last t c = omega arith
 
 number-byte-requires : (t : ℕ) → number-lts.Need-byte-requires (number-claims t) (number-at t) number.Post
-number-byte-requires t c κs = c .before .before .before .pre .1
+number-byte-requires t c κs = search needs
 
 number-same-length : (t : ℕ) → number-lts.Need-same-length (number-claims t) (number-at t) number.Post
 number-same-length t c = search needs
@@ -54,10 +54,10 @@ number-number-requires : (t : ℕ) → number-lts.Need-number-requires (number-c
 number-number-requires t c κs =
     let pre = c .before .before .before .pre in
     let if1 = c .before .if1 in
-    (omega (arith, pre .0, if1 .left), pre .1)
+    omega (arith, pre .0, if1 .left)
 
 number-byte-requires-2 : (t : ℕ) → number-lts.Need-byte-requires-2 (number-claims t) (number-at t) number.Post
-number-byte-requires-2 t c κs = c .before .before .before .number .ensures .room
+number-byte-requires-2 t c κs = search needs
 
 number-same-length-2 : (t : ℕ) → number-lts.Need-same-length-2 (number-claims t) (number-at t) number.Post
 number-same-length-2 t c = search needs

@@ -6,26 +6,24 @@ use lib.Seq.{take-suc, take-all}
 use lib.ListN.{length, take}
 use borrow.Author.Needs.{needs}
 use Rattle.printing.specs.LayingLaws.{lays-none, lays-then, lays-as}
-use Rattle.printing.specs.Laying.{Lays}
+use Rattle.printing.specs.Laying.{LaysIn}
 use Rattle.printing.proofs.laying.bytes.Statement.{statement}
 use Rattle.printing.proofs.laying.bytes.Tie as tie
 
 abbrev Inv-loop : tie.InvT-loop
-Inv-loop out₀ from at bytes next₀ i₀ out next i = (i ≤ length bytes) × Lays from out₀ at (take i bytes) out next × (length out ≡ length out₀)
+Inv-loop out₀ bytes next₀ i₀ out next i = (i ≤ length bytes) × LaysIn next₀ out₀ (take i bytes) out next × (length out ≡ length out₀)
 
 abbrev μ-loop : tie.MeasureT-loop
-μ-loop out₀ from at bytes next₀ i₀ out next i = length bytes - i
+μ-loop out₀ bytes next₀ i₀ out next i = length bytes - i
 
 loop-holds : tie.Need-loop-holds Inv-loop μ-loop
-loop-holds c =
-    let pre = c .before .before .pre in
-    (search needs, lays-none pre, refl)
+loop-holds c = (search needs, lays-none, refl)
 
 shared-slice-read-byte : tie.Need-shared-slice-read-byte Inv-loop μ-loop
 shared-slice-read-byte c = search needs
 
 byte-requires : tie.Need-byte-requires Inv-loop μ-loop
-byte-requires c κs = c .before .before .before .loop .inv .1 .room
+byte-requires c κs = search needs
 
 add-i : tie.Need-add-i Inv-loop μ-loop
 add-i c = search needs
@@ -42,8 +40,7 @@ loop-again c =
     let bytes = args .bytes .now in (
       search needs,
       lays-as (lays-then (loop .inv .1) (byte .ensures)) (rw (add-one (loop .i)) (sym (take-suc bytes (loop .i) 0 (loop-test .taken)))),
-      byte .kept .0 ∙
-          loop .inv .2,
+      byte .kept .0 ∙ loop .inv .2,
     )
 
 same-length : tie.Need-same-length Inv-loop μ-loop

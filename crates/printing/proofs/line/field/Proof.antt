@@ -8,7 +8,7 @@ bytes-requires : tie.Need-bytes-requires
 bytes-requires c κs = search needs
 
 number-requires : tie.Need-number-requires
-number-requires c κs = c .before .before .before .bytes .ensures .room
+number-requires c κs = search needs
 
 same-length : tie.Need-same-length
 same-length c = search needs

@@ -31,10 +31,10 @@ cell-numbers-requires : tie.Need-cell-numbers-requires
 cell-numbers-requires c κs = search needs
 
 item-requires : tie.Need-item-requires
-item-requires c κs = c .before .before .before .before .bytes .ensures .room
+item-requires c κs = search needs
 
 byte-requires : tie.Need-byte-requires
-byte-requires c κs = c .before .before .before .item .ensures .room
+byte-requires c κs = search needs
 
 same-length-2 : tie.Need-same-length-2
 same-length-2 c = search needs

@@ -29,7 +29,7 @@ cast-field-2 : tie.Need-cast-field-2
 cast-field-2 c = search needs
 
 field-requires-2 : tie.Need-field-requires-2
-field-requires-2 c κs = c .before .before .before .before .before .field .ensures .room
+field-requires-2 c κs = search needs
 
 slice-aggregate-field-3 : tie.Need-slice-aggregate-field-3
 slice-aggregate-field-3 c = search needs
@@ -38,7 +38,7 @@ cast-field-3 : tie.Need-cast-field-3
 cast-field-3 c = search needs
 
 field-requires-3 : tie.Need-field-requires-3
-field-requires-3 c κs = c .before .before .before .before .before .field2 .ensures .room
+field-requires-3 c κs = search needs
 
 slice-aggregate-field-4 : tie.Need-slice-aggregate-field-4
 slice-aggregate-field-4 c = search needs
@@ -47,22 +47,22 @@ cast-field-4 : tie.Need-cast-field-4
 cast-field-4 c = search needs
 
 field-requires-4 : tie.Need-field-requires-4
-field-requires-4 c κs = c .before .before .before .before .before .field3 .ensures .room
+field-requires-4 c κs = search needs
 
 slice-aggregate-field-5 : tie.Need-slice-aggregate-field-5
 slice-aggregate-field-5 c = search needs
 
 field-requires-5 : tie.Need-field-requires-5
-field-requires-5 c κs = c .before .before .before .before .field4 .ensures .room
+field-requires-5 c κs = search needs
 
 slice-aggregate-field-6 : tie.Need-slice-aggregate-field-6
 slice-aggregate-field-6 c = search needs
 
 field-requires-6 : tie.Need-field-requires-6
-field-requires-6 c κs = c .before .before .before .before .field5 .ensures .room
+field-requires-6 c κs = search needs
 
 byte-requires : tie.Need-byte-requires
-byte-requires c κs = c .before .before .before .field6 .ensures .room
+byte-requires c κs = search needs
 
 same-length : tie.Need-same-length
 same-length c =

@@ -3,7 +3,6 @@
 use mathlib.Core.Path.{sym, _∙_}
 use Prim.Native.Nat.{ℕ, _<_}
 use native.Mathlib.Omega.{arith}
-use borrow.Author.Tests.{ltb-true}
 use borrow.Author.Needs.{needs}
 use borrow.Fn.Kinds.{In}
 use borrow.Fn.PlainCycle.{Measures, is, falls, and}
@@ -27,10 +26,10 @@ use Rattle.printing.proofs.value.gap.Reads as gap-reads
 use Rattle.printing.proofs.value.plain.Reads as plain-reads
 
 abbrev μ-item : Measures 4 item-kinds.ps ℕ
-μ-item κs a = a .1 .1 .1 .1 .1 .1 .1 .0
+μ-item κs a = a .1 .1 .1 .1 .1 .1 .0
 
 abbrev μ-items : Measures 4 items-kinds.ps ℕ
-μ-items κs a = a .1 .1 .1 .1 .1 .1 .1 .0
+μ-items κs a = a .1 .1 .1 .1 .1 .1 .0
 
 abbrev item-at : ℕ → In 4 item-kinds.ps
 item-at t = and 4 item-kinds.ps (is 4 item-kinds.ps μ-item t) item.Pre
@@ -63,28 +62,27 @@ item-claims t = (
 )
 
 item-is-full-requires : (t : ℕ) → item-lts.Need-is-full-requires (item-claims t) (item-at t) item.Post
-item-is-full-requires t c κs = c .before .before .before .before .before .before .pre .1 .low
+item-is-full-requires t c κs = search needs
 
 item-same-length : (t : ℕ) → item-lts.Need-same-length (item-claims t) (item-at t) item.Post
 item-same-length t c = search needs
 
 item-returns : (t : ℕ) → item-lts.Need-returns (item-claims t) (item-at t) item.Post
 item-returns t c =
-    let pre = c .before .before .before .before .before .before .before .before .pre in
     let is-full = c .before .is-full in
-    lays-full (pre .1) _ (ltb-true _ _ (sym (is-full .ensures) ∙ c .if1 .taken))
+    lays-full (sym (is-full .ensures) ∙ c .if1 .taken) _
 
 item-cell-at-requires : (t : ℕ) → item-lts.Need-cell-at-requires (item-claims t) (item-at t) item.Post
 item-cell-at-requires t c κs = search needs
 
 item-byte-requires : (t : ℕ) → item-lts.Need-byte-requires (item-claims t) (item-at t) item.Post
-item-byte-requires t c κs = c .before .before .before .before .before .before .before .before .before .before .before .before .pre .1
+item-byte-requires t c κs = search needs
 
 item-cast-number : (t : ℕ) → item-lts.Need-cast-number (item-claims t) (item-at t) item.Post
 item-cast-number t c = search needs
 
 item-number-requires : (t : ℕ) → item-lts.Need-number-requires (item-claims t) (item-at t) item.Post
-item-number-requires t c κs = c .before .before .before .before .byte .ensures .room
+item-number-requires t c κs = search needs
 
 item-older-requires : (t : ℕ) → item-lts.Need-older-requires (item-claims t) (item-at t) item.Post
 item-older-requires t c κs = search needs
@@ -101,10 +99,10 @@ item-items-requires t c κs =
     let pre = start .pre in
     let form = if2 .taken in
     let placed = cell-at .ensures .placed (λ z. omega (arith, form, z)) in
-    (omega (arith, older-less (args .n) (cell-at .result .b) placed, older .ensures, pre .0), number .ensures .room)
+    omega (arith, older-less (args .n) (cell-at .result .b) placed, older .ensures, pre .0)
 
 item-byte-requires-2 : (t : ℕ) → item-lts.Need-byte-requires-2 (item-claims t) (item-at t) item.Post
-item-byte-requires-2 t c κs = c .before .before .before .items .ensures .room
+item-byte-requires-2 t c κs = search needs
 
 item-same-length-2 : (t : ℕ) → item-lts.Need-same-length-2 (item-claims t) (item-at t) item.Post
 item-same-length-2 t c = search needs
@@ -126,7 +124,7 @@ item-returns-2 t c =
     lays-as parts (item-variant names (args .text .now) (args .cells .now) (args .n) _ _ _ (cell-at .ensures .is) _ (older .ensures) (if2 .taken))
 
 item-byte-requires-3 : (t : ℕ) → item-lts.Need-byte-requires-3 (item-claims t) (item-at t) item.Post
-item-byte-requires-3 t c κs = c .before .before .before .before .before .before .before .before .before .before .before .before .before .before .pre .1
+item-byte-requires-3 t c κs = search needs
 
 item-older-requires-2 : (t : ℕ) → item-lts.Need-older-requires-2 (item-claims t) (item-at t) item.Post
 item-older-requires-2 t c κs = search needs
@@ -143,10 +141,10 @@ item-items-requires-2 t c κs =
     let pre = start .pre in
     let form = if3 .taken in
     let placed = cell-at .ensures .placed (λ z. omega (arith, form, z)) in
-    (omega (arith, older-less (args .n) (cell-at .result .a) placed, older2 .ensures, pre .0), byte3 .ensures .room)
+    omega (arith, older-less (args .n) (cell-at .result .a) placed, older2 .ensures, pre .0)
 
 item-byte-requires-4 : (t : ℕ) → item-lts.Need-byte-requires-4 (item-claims t) (item-at t) item.Post
-item-byte-requires-4 t c κs = c .before .before .before .items2 .ensures .room
+item-byte-requires-4 t c κs = search needs
 
 item-same-length-3 : (t : ℕ) → item-lts.Need-same-length-3 (item-claims t) (item-at t) item.Post
 item-same-length-3 t c = search needs
@@ -167,7 +165,7 @@ item-returns-3 t c =
     lays-as parts (item-list names (args .text .now) (args .cells .now) (args .n) _ _ _ (cell-at .ensures .is) _ (older2 .ensures) (if3 .taken))
 
 item-plain-requires : (t : ℕ) → item-lts.Need-plain-requires (item-claims t) (item-at t) item.Post
-item-plain-requires t c κs = c .before .before .before .before .before .before .before .before .before .before .before .before .before .before .pre .1
+item-plain-requires t c κs = search needs
 
 item-same-length-4 : (t : ℕ) → item-lts.Need-same-length-4 (item-claims t) (item-at t) item.Post
 item-same-length-4 t c = search needs
@@ -200,16 +198,15 @@ items-claims t = (
 )
 
 items-is-full-requires : (t : ℕ) → items-lts.Need-is-full-requires (items-claims t) (items-at t) items.Post
-items-is-full-requires t c κs = c .before .before .before .before .before .before .pre .1 .low
+items-is-full-requires t c κs = search needs
 
 items-same-length : (t : ℕ) → items-lts.Need-same-length (items-claims t) (items-at t) items.Post
 items-same-length t c = search needs
 
 items-returns : (t : ℕ) → items-lts.Need-returns (items-claims t) (items-at t) items.Post
 items-returns t c =
-    let pre = c .before .before .before .before .before .before .before .before .pre in
     let is-full = c .before .is-full in
-    lays-full (pre .1) _ (ltb-true _ _ (sym (is-full .ensures) ∙ c .if1 .taken))
+    lays-full (sym (is-full .ensures) ∙ c .if1 .taken) _
 
 items-cell-at-requires : (t : ℕ) → items-lts.Need-cell-at-requires (items-claims t) (items-at t) items.Post
 items-cell-at-requires t c κs = search needs
@@ -220,10 +217,9 @@ items-same-length-2 t c = search needs
 items-returns-2 : (t : ℕ) → items-lts.Need-returns-2 (items-claims t) (items-at t) items.Post
 items-returns-2 t c =
     let args = c .before .before .before .before .before .before .before .before .before .before .before .args in
-    let pre = c .before .before .before .before .before .before .before .before .before .before .before .pre in
     let cell-at = c .before .before .cell-at in
     let names = bookIn (args .book .now) (args .index .now) .names in
-    lays-as (lays-none (pre .1)) (items-none names (args .text .now) (args .cells .now) (args .n) _ _ _ (cell-at .ensures .is) (args .in-list) (c .if2 .taken))
+    lays-as lays-none (items-none names (args .text .now) (args .cells .now) (args .n) _ _ _ (cell-at .ensures .is) (args .in-list) (c .if2 .taken))
 
 items-older-requires : (t : ℕ) → items-lts.Need-older-requires (items-claims t) (items-at t) items.Post
 items-older-requires t c κs = search needs
@@ -239,10 +235,10 @@ items-items-requires t c κs =
     let pre = start .pre in
     let form = if2 .left in
     let placed = cell-at .ensures .placed (λ z. omega (arith, form, z)) in
-    (omega (arith, older-less (args .n) (cell-at .result .a) placed, older .ensures, pre .0), pre .1)
+    omega (arith, older-less (args .n) (cell-at .result .a) placed, older .ensures, pre .0)
 
 items-gap-requires : (t : ℕ) → items-lts.Need-gap-requires (items-claims t) (items-at t) items.Post
-items-gap-requires t c κs = c .before .before .before .items .ensures .room
+items-gap-requires t c κs = search needs
 
 items-older-requires-2 : (t : ℕ) → items-lts.Need-older-requires-2 (items-claims t) (items-at t) items.Post
 items-older-requires-2 t c κs = search needs
@@ -259,7 +255,7 @@ items-item-requires t c κs =
     let pre = start .pre in
     let form = if2 .left in
     let placed = cell-at .ensures .placed (λ z. omega (arith, form, z)) in
-    (omega (arith, older-less (args .n) (cell-at .result .b) placed, older2 .ensures, pre .0), gap .ensures .room)
+    omega (arith, older-less (args .n) (cell-at .result .b) placed, older2 .ensures, pre .0)
 
 items-same-length-3 : (t : ℕ) → items-lts.Need-same-length-3 (items-claims t) (items-at t) items.Post
 items-same-length-3 t c = search needs

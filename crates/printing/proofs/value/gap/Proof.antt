@@ -13,11 +13,10 @@ cell-at-requires c κs = search needs
 returns : tie.Need-returns
 returns c =
     let args = c .before .before .before .before .before .before .args in
-    let pre = c .before .before .before .before .before .before .pre in
     let if1 = c .before .before .before .if1 in
     let cell-at = c .before .before .cell-at in
     let first = gap-first (args .cells .now) (args .chain) _ _ _ (cell-at .ensures .is) (c .if2 .taken) in
-    lays-as (lays-none pre) (sym (rw (if1 .taken) first))
+    lays-as (lays-none) (sym (rw (if1 .taken) first))
 
 byte-requires : tie.Need-byte-requires
 byte-requires c κs = search needs

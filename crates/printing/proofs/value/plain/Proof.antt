@@ -63,7 +63,7 @@ spelling-requires-2 : tie.Need-spelling-requires-2
 spelling-requires-2 c κs = search needs
 
 bytes-requires-2 : tie.Need-bytes-requires-2
-bytes-requires-2 c κs = c .before .before .before .before .byte .ensures .room
+bytes-requires-2 c κs = search needs
 
 same-length-3 : tie.Need-same-length-3
 same-length-3 c = search needs

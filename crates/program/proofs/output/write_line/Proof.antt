@@ -1,22 +1,18 @@
--- `program::write_line` ends: each turn is one byte further at least.
+-- `program::write_line` ends: each turn is one byte further at least, and no place is past the largest number.
 use Prim.Native.Nat.{_-_, _≤_}
 use mathlib.Core.Path.{_≡_}
 use native.Mathlib.Omega.{arith}
 use lib.ListN.{length}
 use borrow.Author.Needs.{needs}
-use Rattle.program.specs.RuleLaws.{window-counts, window-fits}
+use Rattle.program.specs.RuleLaws.{window-counts}
 use Rattle.program.proofs.output.write_line.Statement.{statement}
 use Rattle.program.proofs.output.write_line.Tie as tie
-use Rattle.program.proofs.output.write_line.Reads as reads
-use Rattle.program.proofs.output.write_line.Lts as lts
-use Rattle.io.proofs.write_all.Reads as write-all-reads
-use Rattle.printing.proofs.print_part.Reads as print-part-reads
 
 abbrev Inv-loop : tie.InvT-loop
-Inv-loop text book index cells answer out₀ from₀ out from = length out ≡ length out₀
+Inv-loop text book index cells answer out₀ from₀ out from = (length out ≡ length out₀) × (from ≤ 18446744073709551615)
 
 abbrev μ-loop : tie.MeasureT-loop
-μ-loop text book index cells answer out₀ from₀ out from = 4611686018427387904 - from
+μ-loop text book index cells answer out₀ from₀ out from = 18446744073709551615 - from
 
 loop-holds : tie.Need-loop-holds Inv-loop μ-loop
 loop-holds c = search needs
@@ -45,22 +41,23 @@ same-length-2 c = search needs
 returns-2 : tie.Need-returns-2 Inv-loop μ-loop
 returns-2 c = search needs
 
-add-from : tie.Need-add-from Inv-loop μ-loop
-add-from c =
-    let printed = window-fits (c .before .before .before .before .before .before .print-part .ensures) in
-    omega (arith, printed, c .before .before .before .before .before .before .before .before .before .loop .inv, c .before .before .before .before .before .before .before .before .before .before .before .before .before .before .before .good .1 .1 .1 .1 .1 .0 .1)
-
-loop-less : tie.Need-loop-less Inv-loop μ-loop
-loop-less c = search needs
-
-loop-again : tie.Need-loop-again Inv-loop μ-loop
-loop-again c = search needs
+sub-if3 : tie.Need-sub-if3 Inv-loop μ-loop
+sub-if3 c = search needs
 
 same-length-3 : tie.Need-same-length-3 Inv-loop μ-loop
 same-length-3 c = search needs
 
 returns-3 : tie.Need-returns-3 Inv-loop μ-loop
 returns-3 c = search needs
+
+add-from : tie.Need-add-from Inv-loop μ-loop
+add-from c = search needs
+
+loop-less : tie.Need-loop-less Inv-loop μ-loop
+loop-less c = search needs
+
+loop-again : tie.Need-loop-again Inv-loop μ-loop
+loop-again c = search needs
 
 pub write-line-spec : {M : Type 1} → statement M
 write-line-spec =
@@ -77,8 +74,9 @@ write-line-spec =
     write-all-requires
     same-length-2
     returns-2
+    sub-if3
+    same-length-3
+    returns-3
     add-from
     loop-less
-    loop-again
-    same-length-3
-    returns-3)
+    loop-again)
