@@ -11,7 +11,7 @@ use Rattle.characters.specs.Slices.{Lent, atEntry, indexSize}
 use Rattle.characters.specs.Classes.{between}
 use Rattle.characters.specs.Spelling.{partOf}
 use Rattle.book.specs.Book.{Entry, Book}
-use Rattle.book.specs.Numbers.{listTooShort, mostWords, mostNames, mostNonterminals, reserved, lastKind}
+use Rattle.book.specs.Numbers.{shortLists, mostWords, mostNames, mostNonterminals, reserved, lastKind}
 use Rattle.book.specs.Numbers.{lastStepKind, firstCharacter, lastCharacter}
 use Rattle.book.specs.Check.{Checked, refused, accepted, andThen, Reader, row, section, placed, entry, markOf}
 use Rattle.book.specs.Check.{nonterminal, associativityOf, variant, stepOf, step, total, variantsFit}
@@ -286,7 +286,7 @@ pub record Checks (book f g : List ℕ) (r : Verdict) : Type 0 where
 
 -- the outcome of the check with an index: one that is too short is refused as 1
 abbrev pub checkWith : List ℕ → List ℕ → Outcome
-checkWith book index = cond (ltb (length index) indexSize) (Outcome.refusal listTooShort 0) (checkBook book)
+checkWith book index = cond (ltb (length index) indexSize) (Outcome.refusal shortLists 0) (checkBook book)
 
 -- The public promise. An index that is too short is left as it is. Where the book is refused, the index holds what was
 -- read before the refusal, of which nothing is said: whoever reads by it has the verdict

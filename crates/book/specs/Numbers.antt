@@ -3,8 +3,8 @@ use Prim.Native.Nat.{ℕ}
 
 -- ---- Refusals, in the table's order
 -- lent numbers too few; here, an index
-abbrev pub listTooShort : ℕ
-listTooShort = 1
+abbrev pub shortLists : ℕ
+shortLists = 1
 
 -- "ends too early"
 abbrev pub bookEndsEarly : ℕ

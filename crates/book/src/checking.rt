@@ -33,7 +33,7 @@ use crate::reading::step_number;
 use crate::reading::variant;
 use crate::refusals::BAD_PASSING;
 use crate::refusals::BYTES_LEFT_OVER;
-use crate::refusals::LIST_TOO_SHORT;
+use crate::refusals::SHORT_LISTS;
 use crate::sections::Sort;
 use crate::sections::section;
 
@@ -227,7 +227,7 @@ pub fn check_into(book: &[u8], index: &mut [usize]) -> Verdict
 {
     if index.len() < INDEX_SIZE {
         return Verdict::Refused {
-            number: LIST_TOO_SHORT,
+            number: SHORT_LISTS,
             place: 0,
         };
     }

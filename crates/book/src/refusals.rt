@@ -1,7 +1,7 @@
 // Document 01's refusals of a book.
 
 // Lent numbers too few: here, an index.
-pub const LIST_TOO_SHORT: usize = 1;
+pub const SHORT_LISTS: usize = 1;
 
 // "ends too early"
 pub const BOOK_ENDS_EARLY: usize = 3;

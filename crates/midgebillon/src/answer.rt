@@ -6,12 +6,11 @@ ghost use Rattle.characters.specs.Classes.{between};
 ghost use Rattle.run.specs.Promise.{answerIn};
 ghost use Rattle.midgebillon.specs.Library.{answerAt, storing, hasCell, isRefusal, isAnswer, lengthOf};
 use book::Verdict;
+use cells::MOST_CELLS;
 use printing::Length;
 use run::Answer;
 
 pub const NUMBERS: usize = 7;
-
-const MOST_CELLS: u32 = 4096;
 
 // The numbers of an answer, at the front of a lent list.
 pub fn put_answer(numbers: &mut [u32], a: Answer)

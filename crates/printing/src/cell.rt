@@ -3,21 +3,11 @@ ghost use mathlib.Core.Path.{_≡_};
 ghost use Rattle.semantics.specs.Cells.{cellOf};
 ghost use Rattle.printing.specs.Cells.{namesIn, Read, olderThan, spellingOf};
 use book::name;
+use cells::NAME_FORM;
 use cells::Numbers;
+use cells::VARIABLE_FORM;
 use cells::absent;
 use characters::part;
-
-pub const CHAIN: u32 = 2;
-
-pub const VARIANT: u32 = 3;
-
-pub const NAME: u32 = 4;
-
-pub const NUMBER: u32 = 5;
-
-pub const VARIABLE: u32 = 6;
-
-pub const LIST: u32 = 8;
 
 // Cell n, and absent where there is none.
 pub fn cell_at(cells: &[u32], n: u32) -> Numbers
@@ -49,10 +39,10 @@ pub fn spelling<'a>(text: &'a [u8], book: &'a [u8], index: &[usize], cell: Numbe
     ensures { λ r. ⌜ now r ≡ spellingOf (namesIn book index) (now (text .entry))
         (cellOf (cell .form) (cell .a) (cell .b)) ⌝ }
 {
-    if cell.form == NAME {
+    if cell.form == NAME_FORM {
         return part(text, cell.a as usize, cell.b as usize);
     }
-    if cell.form == VARIABLE {
+    if cell.form == VARIABLE_FORM {
         return name(book, index, cell.a as usize);
     }
     part(text, 0, 0)

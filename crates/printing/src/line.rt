@@ -12,13 +12,10 @@ use crate::laying::bytes;
 use crate::laying::number;
 use crate::place;
 use crate::value::item;
+use cells::CELLS_SIZE;
 use run::Answer;
-
-const CELL_NUMBERS: usize = 12288;
-
-const BAD_BYTE: u32 = 11;
-
-const NO_PARSE: u32 = 30;
+use run::HIGH_BYTE;
+use run::NO_PARSE;
 
 // How many bytes the line has, or that there are more than asked for.
 pub enum Length {
@@ -30,10 +27,10 @@ pub enum Length {
 fn cell_numbers(cells: &[u32]) -> &[u32]
     ensures { λ r. ⌜ now r ≡ take 12288 (now (cells .entry)) ⌝ }
 {
-    if cells.len() < CELL_NUMBERS {
+    if cells.len() < CELLS_SIZE {
         &cells[..]
     } else {
-        &cells[..CELL_NUMBERS]
+        &cells[..CELLS_SIZE]
     }
 }
 
@@ -41,7 +38,7 @@ fn cell_numbers(cells: &[u32]) -> &[u32]
 fn in_text(answer: Answer) -> bool
     ensures { λ r. ⌜ r ≡ hasLine (answerIn answer) ⌝ }
 {
-    if answer.refusal == BAD_BYTE {
+    if answer.refusal == HIGH_BYTE {
         return true;
     }
     answer.refusal == NO_PARSE

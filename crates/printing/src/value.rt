@@ -3,12 +3,6 @@
 ghost use Rattle.semantics.specs.Cells.{cellOf};
 ghost use Rattle.printing.specs.Laying.{Lays};
 ghost use Rattle.printing.specs.Cells.{namesIn, plainBytes, itemBytes, itemsBytes, gapBytes};
-use crate::cell::CHAIN;
-use crate::cell::LIST;
-use crate::cell::NAME;
-use crate::cell::NUMBER;
-use crate::cell::VARIABLE;
-use crate::cell::VARIANT;
 use crate::cell::cell_at;
 use crate::cell::older;
 use crate::cell::spelling;
@@ -17,7 +11,13 @@ use crate::laying::byte;
 use crate::laying::bytes;
 use crate::laying::is_full;
 use crate::laying::number;
+use cells::CHAIN_FORM;
+use cells::LIST_FORM;
+use cells::NAME_FORM;
+use cells::NUMBER_FORM;
 use cells::Numbers;
+use cells::VARIABLE_FORM;
+use cells::VARIANT_FORM;
 
 const HALF: u64 = 4294967296;
 
@@ -33,13 +33,13 @@ fn plain<'a>(
     ensures { λ r. ⌜ Lays at out
         (plainBytes (namesIn book index) (now (text .entry)) (cellOf (cell .form) (cell .a) (cell .b))) r ⌝ }
 {
-    if cell.form == NUMBER {
+    if cell.form == NUMBER_FORM {
         return number(out, at, cell.a as u64 * HALF + cell.b as u64);
     }
-    if cell.form == NAME {
+    if cell.form == NAME_FORM {
         return bytes(out, at, spelling(text, book, index, cell));
     }
-    if cell.form == VARIABLE {
+    if cell.form == VARIABLE_FORM {
         let next = byte(out, at, b'$');
         return bytes(out, next, spelling(text, book, index, cell));
     }
@@ -52,7 +52,7 @@ fn gap(cells: &[u32], out: &mut [u8], at: Laid, in_list: bool, chain: u32) -> La
 {
     if in_list {
         let before = cell_at(cells, chain);
-        if before.form != CHAIN {
+        if before.form != CHAIN_FORM {
             return at;
         }
     }
@@ -76,14 +76,14 @@ pub fn item<'a>(
         return at;
     }
     let cell = cell_at(cells, n);
-    if cell.form == VARIANT {
+    if cell.form == VARIANT_FORM {
         let opened = byte(out, at, b'(');
         let numbered = number(out, opened, cell.a as u64);
         let chain = older(n, cell.b);
         let filled = items(text, book, index, cells, out, numbered, chain, false);
         return byte(out, filled, b')');
     }
-    if cell.form == LIST {
+    if cell.form == LIST_FORM {
         let opened = byte(out, at, b'[');
         let chain = older(n, cell.a);
         let filled = items(text, book, index, cells, out, opened, chain, true);
@@ -110,7 +110,7 @@ fn items<'a>(
         return at;
     }
     let cell = cell_at(cells, n);
-    if cell.form != CHAIN {
+    if cell.form != CHAIN_FORM {
         return at;
     }
     let chain = older(n, cell.a);

@@ -3,18 +3,15 @@ ghost use mathlib.Core.Path.{_≡_};
 ghost use Rattle.program.specs.Rule.{Answers};
 use book::INDEX_SIZE;
 use book::check_into;
+use cells::CELLS_SIZE;
 use libc::STDOUT_FILENO;
 use printing::print_part;
 use run::Answer;
+use run::MOST_UNITS;
 use run::read;
+use sets::PARSES_SIZE;
 
 const START: u32 = 0;
-
-const ALLOWANCE: u32 = 1000000;
-
-const CELL_NUMBERS: usize = 12288;
-
-const PARSE_NUMBERS: usize = 256;
 
 const LARGEST: usize = 18446744073709551615;
 
@@ -50,9 +47,9 @@ fn write_line<'a>(
 pub fn answer_line<'a>(book: &'a [u8], text: &'a [u8], out: &mut [u8]) -> Answer
     ensures { λ r. ⌜ Answers (now (book .entry)) (now (text .entry)) r ⌝ }
 {
-    let mut cells = [0u32; CELL_NUMBERS];
-    let mut parses = [0u32; PARSE_NUMBERS];
-    let answer = read(book, text, START, ALLOWANCE, &mut cells, &mut parses);
+    let mut cells = [0u32; CELLS_SIZE];
+    let mut parses = [0u32; PARSES_SIZE];
+    let answer = read(book, text, START, MOST_UNITS, &mut cells, &mut parses);
     // the names that variables are spelled by
     let mut index = [0usize; INDEX_SIZE];
     check_into(book, &mut index);

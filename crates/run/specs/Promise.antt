@@ -11,7 +11,8 @@ use Rattle.characters.specs.Slices.{Lent, atEntry, atExit, indexSize, storeSize
 use Rattle.book.specs.Book.{Book}
 use Rattle.book.specs.Check.{checkBook}
 use Rattle.book.specs.Check as check
-use Rattle.semantics.specs.Numbers.{shortLists, notAccepted, isLimit}
+use Rattle.book.specs.Numbers.{shortLists}
+use Rattle.semantics.specs.Numbers.{notAccepted, isLimit}
 use Rattle.semantics.specs.Answer.{Answer, Answered, answer, untouched, answerOf}
 use Rattle.semantics.specs.Exact.{Exact}
 use Rattle.run.specs.declared.reader.Answer as code

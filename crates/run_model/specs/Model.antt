@@ -16,7 +16,8 @@ use Rattle.characters.specs.Skipping.{skipFrom}
 use Rattle.book.specs.Book.{Book, nthNonterminal, nthVariant, associativityNumber, stepNumber}
 use Rattle.book.specs.declared.records.Associativity.{Associativity}
 use Rattle.book.specs.declared.records.Step.{Step}
-use Rattle.semantics.specs.Numbers.{mostNesting, mostRounds, tooDeep, tooManyParses, defaultLevel, characterWanted, nonterminalWanted}
+use Rattle.book.specs.Numbers.{defaultLevel}
+use Rattle.semantics.specs.Numbers.{mostNesting, mostRounds, tooDeep, tooManyParses, characterWanted, nonterminalWanted}
 use Rattle.semantics.specs.Values.{Parse}
 use Rattle.semantics.specs.Uses.{hasMark}
 use Rattle.semantics.specs.Tokens.{when, isSome, variableAt, freeEnd}

@@ -4,22 +4,17 @@ use crate::record::after;
 use crate::record::number;
 use book::INDEX_SIZE;
 use book::check_into;
+use cells::CELLS_SIZE;
 use characters::part;
 use characters::same_bytes;
 use printing::Length;
 use printing::print;
 use run::Answer;
+use run::MOST_UNITS;
+use run::NO_PARSE;
 use run::read;
-
-const ALLOWANCE: u32 = 1000000;
-
-const CELL_NUMBERS: usize = 12288;
-
-const PARSE_NUMBERS: usize = 256;
-
-const MOST_PARSES: u32 = 64;
-
-const NO_PARSE: u32 = 30;
+use sets::MOST_PARSES;
+use sets::PARSES_SIZE;
 
 const LINE_ROOM: usize = 65536;
 
@@ -39,7 +34,7 @@ fn same_parse(list: &[u8], at: usize, parses: &[u32], first: usize) -> bool {
 }
 
 fn same_parses(list: &[u8], at: usize, count: u32, parses: &[u32]) -> bool {
-    if MOST_PARSES < count {
+    if MOST_PARSES < count as usize {
         return false;
     }
     let mut i = 0u32;
@@ -92,9 +87,9 @@ fn same_answer(answer: Answer, r: Record) -> bool {
 pub fn same(list: &[u8], r: Record) -> bool {
     let book = part(list, r.book, r.book_size);
     let text = part(list, r.text, r.text_size);
-    let mut cells = [0u32; CELL_NUMBERS];
-    let mut parses = [0u32; PARSE_NUMBERS];
-    let answer = read(book, text, r.start, ALLOWANCE, &mut cells, &mut parses);
+    let mut cells = [0u32; CELLS_SIZE];
+    let mut parses = [0u32; PARSES_SIZE];
+    let answer = read(book, text, r.start, MOST_UNITS, &mut cells, &mut parses);
     if !same_answer(answer, r) {
         return false;
     }

@@ -8,7 +8,8 @@ use lib.ListN.{length, take, drop, replicate}
 use Rattle.book.specs.Book.{Book, associativityNumber}
 use Rattle.book.specs.Check.{checkBook, Outcome}
 use Rattle.semantics.specs.Numbers.{cellsSize, parsesSize, mostUnits, longestText, firstHighByte}
-use Rattle.semantics.specs.Numbers.{shortLists, badAllowance, unknownStart, longText, highByte}
+use Rattle.book.specs.Numbers.{shortLists}
+use Rattle.semantics.specs.Numbers.{badAllowance, unknownStart, longText, highByte}
 use Rattle.semantics.specs.Numbers.{noParse, noneWhole, differentValues}
 use Rattle.semantics.specs.Values.{Parse, whole}
 use Rattle.semantics.specs.Tokens.{when}

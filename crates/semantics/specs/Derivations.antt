@@ -9,7 +9,7 @@ use Rattle.characters.specs.Skipping.{skipFrom}
 use Rattle.characters.specs.Spelling.{partOf}
 use Rattle.book.specs.Book.{Book, nthNonterminal, nthVariant}
 use Rattle.book.specs.declared.records.Associativity.{Associativity}
-use Rattle.semantics.specs.Numbers.{defaultLevel}
+use Rattle.book.specs.Numbers.{defaultLevel}
 use Rattle.semantics.specs.Values.{Tree, Trees, no-trees, _▸_, variant, name, number, variable, absent, list}
 use Rattle.semantics.specs.Values.{Parse}
 use Rattle.semantics.specs.Uses.{Path, base, useOf, hasMark, minimum, same-start, governor, keeps}

@@ -1,8 +1,9 @@
 -- Document 01's numbers, each by a name: sizes and limits, refusals, kinds of errors, forms of cells. Those of the
--- book, with its refusals 3 to 8, are the crate book's.
+-- book, with its refusals 3 to 8 and refusal 1, are the crate book's.
 use mathlib.Core.Bool.{Bool}
 use Prim.Native.Nat.{ℕ, _^_}
 use Rattle.characters.specs.Classes.{between}
+use Rattle.book.specs.Numbers.{shortLists}
 
 -- ---- Sizes and limits
 -- "cells under 12,288 numbers"; "the first 12,288 numbers of cells"
@@ -45,15 +46,7 @@ mostCells = 4096
 abbrev pub half : ℕ
 half = 2 ^ 32
 
--- "Level 255 is Rust's default"; "its name cell, level 255 Both"
-abbrev pub defaultLevel : ℕ
-defaultLevel = 255
-
 -- ---- Refusals, "no." of the table. 0 is none
--- "cells under 12,288 numbers or parses under 256"
-abbrev pub shortLists : ℕ
-shortLists = 1
-
 -- "allowance 0 or above 1,000,000"
 abbrev pub badAllowance : ℕ
 badAllowance = 2

@@ -10,7 +10,8 @@ use Rattle.characters.specs.Skipping.{skipFrom}
 use Rattle.book.specs.Book.{Book, nthNonterminal, nthVariant, associativityNumber, stepNumber}
 use Rattle.book.specs.declared.records.Associativity.{Associativity}
 use Rattle.book.specs.declared.records.Step.{Step}
-use Rattle.semantics.specs.Numbers.{mostNesting, mostParses, mostRounds, mostCells, half, defaultLevel}
+use Rattle.book.specs.Numbers.{defaultLevel}
+use Rattle.semantics.specs.Numbers.{mostNesting, mostParses, mostRounds, mostCells, half}
 use Rattle.semantics.specs.Numbers.{noUnit, tooDeep, tooManyParses, tooManyCells, characterWanted}
 use Rattle.semantics.specs.Numbers.{nonterminalWanted}
 use Rattle.semantics.specs.Values.{Parse}
