@@ -6,25 +6,10 @@ use Rattle.calls.specs.TableLaws.{run-joined}
 use Rattle.calls.proofs.add_run_to_set.Statement.{statement}
 use Rattle.calls.proofs.add_run_to_set.Tie as tie
 
-mul-add-all : tie.Need-mul-add-all
-mul-add-all c = search needs
-
-add-add-all : tie.Need-add-add-all
-add-add-all c = search needs
-
-mul-add-all-2 : tie.Need-mul-add-all-2
-mul-add-all-2 c = search needs
-
-add-add-all-2 : tie.Need-add-add-all-2
-add-add-all-2 c = search needs
-
 add-all-requires : tie.Need-add-all-requires
 add-all-requires c κs =
     let pre = c .before .before .pre in
     (omega (arith, pre), omega (arith, pre), inl (omega arith))
-
-same-length : tie.Need-same-length
-same-length c = search needs
 
 returns : tie.Need-returns
 returns c =
@@ -36,10 +21,10 @@ pub add-run-to-set-spec : {M : Type 1} → statement M
 add-run-to-set-spec =
     tie.close
     (tie.spec
-    mul-add-all
-    add-add-all
-    mul-add-all-2
-    add-add-all-2
+    (λ c. search needs)
+    (λ c. search needs)
+    (λ c. search needs)
+    (λ c. search needs)
     add-all-requires
-    same-length
+    (λ c. search needs)
     returns)

@@ -7,18 +7,6 @@ use Rattle.calls.specs.SettlingLaws.{answer-law}
 use Rattle.calls.proofs.answer.Statement.{statement}
 use Rattle.calls.proofs.answer.Tie as tie
 
-mark-requires : tie.Need-mark-requires
-mark-requires c κs = search needs
-
-kept-of-requires : tie.Need-kept-of-requires
-kept-of-requires c κs = search needs
-
-end-call-requires : tie.Need-end-call-requires
-end-call-requires c κs = search needs
-
-same-length : tie.Need-same-length
-same-length c = search needs
-
 returns : tie.Need-returns
 returns c =
     let args = c .before .before .before .before .before .before .before .before .before .before .before .before .before .args in
@@ -31,4 +19,4 @@ returns c =
 
 pub answer-spec : {M : Type 1} → statement M
 answer-spec =
-    tie.close (tie.spec mark-requires kept-of-requires end-call-requires same-length returns)
+    tie.close (tie.spec (λ c κs. search needs) (λ c κs. search needs) (λ c κs. search needs) (λ c. search needs) returns)

@@ -7,25 +7,10 @@ use Rattle.calls.specs.TableLaws.{read-run, table-set}
 use Rattle.calls.proofs.copy_run.Statement.{statement}
 use Rattle.calls.proofs.copy_run.Tie as tie
 
-mul-copy : tie.Need-mul-copy
-mul-copy c = search needs
-
-add-copy : tie.Need-add-copy
-add-copy c = search needs
-
-mul-copy-2 : tie.Need-mul-copy-2
-mul-copy-2 c = search needs
-
-add-copy-2 : tie.Need-add-copy-2
-add-copy-2 c = search needs
-
 copy-requires : tie.Need-copy-requires
 copy-requires c κs =
     let pre = c .before .before .pre in
     (omega (arith, pre), omega (arith, pre), inl (omega arith))
-
-same-length : tie.Need-same-length
-same-length c = search needs
 
 returns : tie.Need-returns
 returns c =
@@ -36,4 +21,4 @@ returns c =
 
 pub copy-run-spec : {M : Type 1} → statement M
 copy-run-spec =
-    tie.close (tie.spec mul-copy add-copy mul-copy-2 add-copy-2 copy-requires same-length returns)
+    tie.close (tie.spec (λ c. search needs) (λ c. search needs) (λ c. search needs) (λ c. search needs) copy-requires (λ c. search needs) returns)

@@ -4,15 +4,6 @@ use Rattle.calls.specs.TableLaws.{read-set}
 use Rattle.calls.proofs.found.Statement.{statement}
 use Rattle.calls.proofs.found.Tie as tie
 
-mul-size : tie.Need-mul-size
-mul-size c = search needs
-
-add-size : tie.Need-add-size
-add-size c = search needs
-
-size-requires : tie.Need-size-requires
-size-requires c κs = search needs
-
 returns : tie.Need-returns
 returns c =
     let args = c .before .before .args in
@@ -20,4 +11,4 @@ returns c =
     rw (read-set (args .rows .now) (args .row) (pre .0)) (c .size .ensures)
 
 pub found-spec : {M : Type 1} → statement M
-found-spec = tie.close (tie.spec mul-size add-size size-requires returns)
+found-spec = tie.close (tie.spec (λ c. search needs) (λ c. search needs) (λ c κs. search needs) returns)

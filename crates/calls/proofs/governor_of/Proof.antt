@@ -7,9 +7,6 @@ use Rattle.calls.specs.CallLaws.{governor-none, governor-same, governor-
 use Rattle.calls.proofs.governor_of.Statement.{statement}
 use Rattle.calls.proofs.governor_of.Tie as tie
 
-newest-governor-requires : tie.Need-newest-governor-requires
-newest-governor-requires c κs = search needs
-
 returns : tie.Need-returns
 returns c =
     let args = c .before .before .before .args in
@@ -35,17 +32,11 @@ get-requires-2 c κs =
     let pre = c .before .before .before .before .before .pre in
     omega (arith, if1 .left, pre)
 
-associativity-of-requires : tie.Need-associativity-of-requires
-associativity-of-requires c κs = search needs
-
 get-requires-3 : tie.Need-get-requires-3
 get-requires-3 c κs =
     let if1 = c .before .before .before .before .if1 in
     let pre = c .before .before .before .before .before .before .before .pre in
     omega (arith, if1 .left, pre)
-
-minimum-of-requires : tie.Need-minimum-of-requires
-minimum-of-requires c κs = search needs
 
 returns-3 : tie.Need-returns-3
 returns-3 c =
@@ -64,12 +55,12 @@ pub governor-of-spec : {M : Type 1} → statement M
 governor-of-spec =
     tie.close
     (tie.spec
-    newest-governor-requires
+    (λ c κs. search needs)
     returns
     get-requires
     returns-2
     get-requires-2
-    associativity-of-requires
+    (λ c κs. search needs)
     get-requires-3
-    minimum-of-requires
+    (λ c κs. search needs)
     returns-3)

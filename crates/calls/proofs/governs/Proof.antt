@@ -6,17 +6,11 @@ use Rattle.calls.specs.CallLaws.{not-live, not-same, not-scope, by-child
 use Rattle.calls.proofs.governs.Statement.{statement}
 use Rattle.calls.proofs.governs.Tie as tie
 
-get-requires : tie.Need-get-requires
-get-requires c κs = search needs
-
 returns : tie.Need-returns
 returns c =
     let args = c .before .before .before .args in
     let get = c .before .get in
     not-live (rowOf (table (args .rows .now)) (args .row)) _ _ _ (get .ensures) (c .if1 .taken)
-
-get-requires-2 : tie.Need-get-requires-2
-get-requires-2 c κs = search needs
 
 returns-2 : tie.Need-returns-2
 returns-2 c =
@@ -25,9 +19,6 @@ returns-2 c =
     let if1 = c .before .before .if1 in
     let get2 = c .before .get2 in
     not-same (rowOf (table (args .rows .now)) (args .row)) _ _ _ _ (get .ensures) (if1 .left) (get2 .ensures) (c .if2 .taken)
-
-get-requires-3 : tie.Need-get-requires-3
-get-requires-3 c κs = search needs
 
 returns-3 : tie.Need-returns-3
 returns-3 c =
@@ -38,9 +29,6 @@ returns-3 c =
     let if2 = c .before .before .if2 in
     let get3 = c .before .get3 in
     not-scope (rowOf (table (args .rows .now)) (args .row)) _ _ _ _ _ (get .ensures) (if1 .left) (get2 .ensures) (if2 .left) (get3 .ensures) (c .if3 .taken)
-
-get-requires-4 : tie.Need-get-requires-4
-get-requires-4 c κs = search needs
 
 returns-4 : tie.Need-returns-4
 returns-4 c =
@@ -58,11 +46,11 @@ pub governs-spec : {M : Type 1} → statement M
 governs-spec =
     tie.close
     (tie.spec
-    get-requires
+    (λ c κs. search needs)
     returns
-    get-requires-2
+    (λ c κs. search needs)
     returns-2
-    get-requires-3
+    (λ c κs. search needs)
     returns-3
-    get-requires-4
+    (λ c κs. search needs)
     returns-4)

@@ -3,18 +3,6 @@ use borrow.Author.Needs.{needs}
 use Rattle.calls.proofs.is_variable.Statement.{statement}
 use Rattle.calls.proofs.is_variable.Tie as tie
 
-nonterminal-requires : tie.Need-nonterminal-requires
-nonterminal-requires c κs = search needs
-
-enum-told : tie.Need-enum-told
-enum-told c = search needs
-
-enum-told-2 : tie.Need-enum-told-2
-enum-told-2 c = search needs
-
-enum-told-3 : tie.Need-enum-told-3
-enum-told-3 c = search needs
-
 returns : tie.Need-returns
 returns c =
     let nonterminal = c .before .before .nonterminal in
@@ -33,4 +21,4 @@ returns-3 c =
 pub is-variable-spec : {M : Type 1} → statement M
 is-variable-spec =
     tie.close
-    (tie.spec nonterminal-requires enum-told enum-told-2 enum-told-3 returns returns-2 returns-3)
+    (tie.spec (λ c κs. search needs) (λ c. search needs) (λ c. search needs) (λ c. search needs) returns returns-2 returns-3)

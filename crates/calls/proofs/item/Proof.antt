@@ -4,15 +4,6 @@ use Rattle.calls.specs.TableLaws.{read-set}
 use Rattle.calls.proofs.item.Statement.{statement}
 use Rattle.calls.proofs.item.Tie as tie
 
-mul-item : tie.Need-mul-item
-mul-item c = search needs
-
-add-item : tie.Need-add-item
-add-item c = search needs
-
-item-requires : tie.Need-item-requires
-item-requires c κs = search needs
-
 returns : tie.Need-returns
 returns c =
     let args = c .before .before .args in
@@ -20,4 +11,4 @@ returns c =
     rw (read-set (args .rows .now) (args .row) (pre .0)) (c .item .ensures)
 
 pub item-spec : {M : Type 1} → statement M
-item-spec = tie.close (tie.spec mul-item add-item item-requires returns)
+item-spec = tie.close (tie.spec (λ c. search needs) (λ c. search needs) (λ c κs. search needs) returns)

@@ -6,34 +6,10 @@ use Rattle.calls.specs.TableLaws.{kept-law}
 use Rattle.calls.proofs.kept_of.Statement.{statement}
 use Rattle.calls.proofs.kept_of.Tie as tie
 
-get-requires : tie.Need-get-requires
-get-requires c κs = search needs
-
-associativity-of-requires : tie.Need-associativity-of-requires
-associativity-of-requires c κs = search needs
-
-get-requires-2 : tie.Need-get-requires-2
-get-requires-2 c κs = search needs
-
-mul-kept : tie.Need-mul-kept
-mul-kept c = search needs
-
-add-kept : tie.Need-add-kept
-add-kept c = search needs
-
-mul-kept-2 : tie.Need-mul-kept-2
-mul-kept-2 c = search needs
-
-add-kept-2 : tie.Need-add-kept-2
-add-kept-2 c = search needs
-
 kept-requires : tie.Need-kept-requires
 kept-requires c κs =
     let pre = c .before .before .before .before .before .before .before .pre in
     (omega (arith, pre), omega (arith, pre), inl (omega (arith, pre)))
-
-same-length : tie.Need-same-length
-same-length c = search needs
 
 returns : tie.Need-returns
 returns c =
@@ -48,13 +24,13 @@ pub kept-of-spec : {M : Type 1} → statement M
 kept-of-spec =
     tie.close
     (tie.spec
-    get-requires
-    associativity-of-requires
-    get-requires-2
-    mul-kept
-    add-kept
-    mul-kept-2
-    add-kept-2
+    (λ c κs. search needs)
+    (λ c κs. search needs)
+    (λ c κs. search needs)
+    (λ c. search needs)
+    (λ c. search needs)
+    (λ c. search needs)
+    (λ c. search needs)
     kept-requires
-    same-length
+    (λ c. search needs)
     returns)

@@ -4,15 +4,6 @@ use Rattle.calls.specs.SettlingLaws.{next-over, next-again, next-full}
 use Rattle.calls.proofs.settle.Statement.{statement}
 use Rattle.calls.proofs.settle.Tie as tie
 
-run-in-set-requires : tie.Need-run-in-set-requires
-run-in-set-requires c κs = search needs
-
-end-call-requires : tie.Need-end-call-requires
-end-call-requires c κs = search needs
-
-same-length : tie.Need-same-length
-same-length c = search needs
-
 returns : tie.Need-returns
 returns c =
     let args = c .before .before .before .before .before .before .before .before .args in
@@ -21,12 +12,6 @@ returns c =
     let end-call = c .before .before .end-call in
     next-over _ (args .row) _ (run-in-set .ensures) _ (if1 .taken) (end-call .ensures)
 
-add-run-to-set-requires : tie.Need-add-run-to-set-requires
-add-run-to-set-requires c κs = search needs
-
-same-length-2 : tie.Need-same-length-2
-same-length-2 c = search needs
-
 returns-2 : tie.Need-returns-2
 returns-2 c =
     let args = c .before .before .before .before .before .before .before .before .before .args in
@@ -34,9 +19,6 @@ returns-2 c =
     let if1 = c .before .before .before .before .before .if1 in
     let add-run-to-set = c .before .before .before .add-run-to-set in
     next-again _ (args .row) _ (run-in-set .ensures) _ _ (if1 .left) (add-run-to-set .ensures) (c .if2 .taken)
-
-same-length-3 : tie.Need-same-length-3
-same-length-3 c = search needs
 
 returns-3 : tie.Need-returns-3
 returns-3 c =
@@ -50,12 +32,12 @@ pub settle-spec : {M : Type 1} → statement M
 settle-spec =
     tie.close
     (tie.spec
-    run-in-set-requires
-    end-call-requires
-    same-length
+    (λ c κs. search needs)
+    (λ c κs. search needs)
+    (λ c. search needs)
     returns
-    add-run-to-set-requires
-    same-length-2
+    (λ c κs. search needs)
+    (λ c. search needs)
     returns-2
-    same-length-3
+    (λ c. search needs)
     returns-3)

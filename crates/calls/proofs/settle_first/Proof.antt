@@ -6,18 +6,6 @@ use Rattle.calls.specs.SettlingLaws.{first-failed, first-again, first-ov
 use Rattle.calls.proofs.settle_first.Statement.{statement}
 use Rattle.calls.proofs.settle_first.Tie as tie
 
-copy-run-requires : tie.Need-copy-run-requires
-copy-run-requires c κs = search needs
-
-found-requires : tie.Need-found-requires
-found-requires c κs = search needs
-
-end-call-requires : tie.Need-end-call-requires
-end-call-requires c κs = search needs
-
-same-length : tie.Need-same-length
-same-length c = search needs
-
 returns : tie.Need-returns
 returns c =
     let args = c .before .before .before .before .before .before .before .before .before .before .before .before .args in
@@ -29,12 +17,6 @@ returns c =
     first-failed (table (args .rows .now)) _ (args .row) _ (table-below (args .rows .now) (args .row) (pre .0)) (copy-run .ensures) (found .ensures) _
     (if1 .taken) (end-call .ensures)
 
-get-requires : tie.Need-get-requires
-get-requires c κs = search needs
-
-same-length-2 : tie.Need-same-length-2
-same-length-2 c = search needs
-
 returns-2 : tie.Need-returns-2
 returns-2 c =
     let args = c .before .before .before .before .before .before .before .before .before .before .before .args in
@@ -45,12 +27,6 @@ returns-2 c =
     let get = c .before .get in
     first-again (table (args .rows .now)) _ (args .row) _ (table-below (args .rows .now) (args .row) (pre .0)) (copy-run .ensures) (found .ensures) _
     (if1 .left) (get .ensures) (c .if2 .taken)
-
-end-call-requires-2 : tie.Need-end-call-requires-2
-end-call-requires-2 c κs = search needs
-
-same-length-3 : tie.Need-same-length-3
-same-length-3 c = search needs
 
 returns-3 : tie.Need-returns-3
 returns-3 c =
@@ -69,14 +45,14 @@ pub settle-first-spec : {M : Type 1} → statement M
 settle-first-spec =
     tie.close
     (tie.spec
-    copy-run-requires
-    found-requires
-    end-call-requires
-    same-length
+    (λ c κs. search needs)
+    (λ c κs. search needs)
+    (λ c κs. search needs)
+    (λ c. search needs)
     returns
-    get-requires
-    same-length-2
+    (λ c κs. search needs)
+    (λ c. search needs)
     returns-2
-    end-call-requires-2
-    same-length-3
+    (λ c κs. search needs)
+    (λ c. search needs)
     returns-3)

@@ -6,18 +6,6 @@ use Rattle.calls.specs.CallLaws.{variant-law}
 use Rattle.calls.proofs.take_variant.Statement.{statement}
 use Rattle.calls.proofs.take_variant.Tie as tie
 
-put-requires : tie.Need-put-requires
-put-requires c κs = search needs
-
-associativity-number-requires : tie.Need-associativity-number-requires
-associativity-number-requires c κs = search needs
-
-put-requires-2 : tie.Need-put-requires-2
-put-requires-2 c κs = search needs
-
-same-length : tie.Need-same-length
-same-length c = search needs
-
 returns : tie.Need-returns
 returns c =
     let associativity-number = c .before .before .before .associativity-number in
@@ -31,4 +19,4 @@ returns c =
 pub take-variant-spec : {M : Type 1} → statement M
 take-variant-spec =
     tie.close
-    (tie.spec put-requires associativity-number-requires put-requires-2 same-length returns)
+    (tie.spec (λ c κs. search needs) (λ c κs. search needs) (λ c κs. search needs) (λ c. search needs) returns)

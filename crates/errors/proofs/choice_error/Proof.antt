@@ -7,18 +7,6 @@ use Rattle.errors.specs.Failures.{choice-drops, choice-keeps}
 use Rattle.errors.proofs.choice_error.Statement.{statement}
 use Rattle.errors.proofs.choice_error.Tie as tie
 
-join-requires : tie.Need-join-requires
-join-requires c κs = search needs
-
-beyond-requires : tie.Need-beyond-requires
-beyond-requires c κs = search needs
-
-enum-known-e : tie.Need-enum-known-e
-enum-known-e c = search needs
-
-enum-told : tie.Need-enum-told
-enum-told c = search needs
-
 returns : tie.Need-returns
 returns c =
     let args = c .before .before .before .before .args in
@@ -37,4 +25,4 @@ returns-2 c =
 
 pub choice-error-spec : {M : Type 1} → statement M
 choice-error-spec =
-    tie.close (tie.spec join-requires beyond-requires enum-known-e enum-told returns returns-2)
+    tie.close (tie.spec (λ c κs. search needs) (λ c κs. search needs) (λ c. search needs) (λ c. search needs) returns returns-2)

@@ -4,18 +4,9 @@ use Rattle.errors.specs.Failures.{counted}
 use Rattle.errors.proofs.counted.Statement.{statement}
 use Rattle.errors.proofs.counted.Tie as tie
 
-enum-known-failure : tie.Need-enum-known-failure
-enum-known-failure c = search needs
-
-enum-told : tie.Need-enum-told
-enum-told c = search needs
-
 returns : tie.Need-returns
 unfolding counted
 returns c = rw (c .enum-told .given .1)
-
-beyond-requires : tie.Need-beyond-requires
-beyond-requires c κs = search needs
 
 returns-2 : tie.Need-returns-2
 unfolding counted
@@ -31,4 +22,4 @@ returns-3 c =
 
 pub counted-spec : {M : Type 1} → statement M
 counted-spec =
-    tie.close (tie.spec enum-known-failure enum-told returns beyond-requires returns-2 returns-3)
+    tie.close (tie.spec (λ c. search needs) (λ c. search needs) returns (λ c κs. search needs) returns-2 returns-3)

@@ -4,12 +4,6 @@ use Rattle.errors.specs.Failures.{failedCall}
 use Rattle.errors.proofs.failed_call.Statement.{statement}
 use Rattle.errors.proofs.failed_call.Tie as tie
 
-enum-known-failure : tie.Need-enum-known-failure
-enum-known-failure c = search needs
-
-enum-told : tie.Need-enum-told
-enum-told c = search needs
-
 returns : tie.Need-returns
 unfolding failedCall
 returns c = rw (c .enum-told .given .1)
@@ -19,4 +13,4 @@ unfolding failedCall
 returns-2 c = rw (c .before .failure .given .1)
 
 pub failed-call-spec : {M : Type 1} → statement M
-failed-call-spec = tie.close (tie.spec enum-known-failure enum-told returns returns-2)
+failed-call-spec = tie.close (tie.spec (λ c. search needs) (λ c. search needs) returns returns-2)

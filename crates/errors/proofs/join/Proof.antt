@@ -5,9 +5,6 @@ use Rattle.semantics.specs.Errors.{join}
 use Rattle.errors.proofs.join.Statement.{statement}
 use Rattle.errors.proofs.join.Tie as tie
 
-wins-requires : tie.Need-wins-requires
-wins-requires c κs = search needs
-
 returns : tie.Need-returns
 unfolding join
 returns c = rw (sym (c .before .wins .ensures) ∙ c .if1 .taken)
@@ -17,4 +14,4 @@ unfolding join
 returns-2 c = rw (sym (c .before .wins .ensures) ∙ c .if1 .left)
 
 pub join-spec : {M : Type 1} → statement M
-join-spec = tie.close (tie.spec wins-requires returns returns-2)
+join-spec = tie.close (tie.spec (λ c κs. search needs) returns returns-2)

@@ -10,30 +10,6 @@ returns c =
     let args = c .before .before .before .before .before .before .args in
     few-numbers (args .book .now) (args .text .now) (args .cells .now) (args .answer .now) (args .out .now) (omega arith)
 
-answer-in-requires : tie.Need-answer-in-requires
-answer-in-requires c κs = search needs
-
-slice-aggregate-check-into : tie.Need-slice-aggregate-check-into
-slice-aggregate-check-into c = search needs
-
-check-into-requires : tie.Need-check-into-requires
-check-into-requires c κs = search needs
-
-is-answer-requires : tie.Need-is-answer-requires
-is-answer-requires c κs = search needs
-
-slice-aggregate-print : tie.Need-slice-aggregate-print
-slice-aggregate-print c = search needs
-
-print-requires : tie.Need-print-requires
-print-requires c κs = search needs
-
-length-of-requires : tie.Need-length-of-requires
-length-of-requires c κs = search needs
-
-same-length : tie.Need-same-length
-same-length c = search needs
-
 returns-2 : tie.Need-returns-2
 returns-2 c =
     let args = c .before .before .before .before .before .before .before .before .before .before .before .before .before .before .before .before .before .before .args in
@@ -61,13 +37,13 @@ midgebillon-print-spec =
     tie.close
     (tie.spec
     returns
-    answer-in-requires
-    slice-aggregate-check-into
-    check-into-requires
-    is-answer-requires
-    slice-aggregate-print
-    print-requires
-    length-of-requires
-    same-length
+    (λ c κs. search needs)
+    (λ c. search needs)
+    (λ c κs. search needs)
+    (λ c κs. search needs)
+    (λ c. search needs)
+    (λ c κs. search needs)
+    (λ c κs. search needs)
+    (λ c. search needs)
     returns-2
     returns-3)

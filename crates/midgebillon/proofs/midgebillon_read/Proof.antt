@@ -10,21 +10,6 @@ returns c =
     let args = c .before .before .before .before .before .before .args in
     untouched (args .book .now) (args .text .now) (args .start) (args .allowance) (args .cells .now) (args .parses .now) (args .answer .now) (omega arith)
 
-read-requires : tie.Need-read-requires
-read-requires c κs = search needs
-
-put-answer-requires : tie.Need-put-answer-requires
-put-answer-requires c κs = search needs
-
-same-length : tie.Need-same-length
-same-length c = search needs
-
-same-length-2 : tie.Need-same-length-2
-same-length-2 c = search needs
-
-same-length-3 : tie.Need-same-length-3
-same-length-3 c = search needs
-
 returns-2 : tie.Need-returns-2
 returns-2 c =
     let args = c .before .before .before .before .before .before .before .before .before .before .before .before .before .before .before .before .before .args in
@@ -37,9 +22,9 @@ midgebillon-read-spec =
     tie.close
     (tie.spec
     returns
-    read-requires
-    put-answer-requires
-    same-length
-    same-length-2
-    same-length-3
+    (λ c κs. search needs)
+    (λ c κs. search needs)
+    (λ c. search needs)
+    (λ c. search needs)
+    (λ c. search needs)
     returns-2)

@@ -550,9 +550,6 @@ parser·follow-Inv-loop book index text store₀ rows₀ left here next parses a
 abbrev parser·follow-μ-loop : parser·follow-lts.MeasureT-loop
 parser·follow-μ-loop book index text store₀ rows₀ left here next parses all₀ i₀ store rows all i = parses - i
 
-parser·follow-goes-on-requires : (t : ℕ) → parser·follow-lts.Need-goes-on-requires (parser·follow-callees t) (parser·follow-at t) parser·follow.Post parser·follow-Inv-loop parser·follow-μ-loop
-parser·follow-goes-on-requires t c κs = search needs
-
 parser·follow-returns : (t : ℕ) → parser·follow-lts.Need-returns (parser·follow-callees t) (parser·follow-at t) parser·follow.Post parser·follow-Inv-loop parser·follow-μ-loop
 parser·follow-returns t c =
     let goes-on = c .before .goes-on in
@@ -569,9 +566,6 @@ parser·follow-loop-holds t c =
     let goes-on = c .before .before .before .goes-on in
     let if1 = c .before .before .if1 in
     (search needs, refl, refl, goes-without-limit _ (sym (goes-on .ensures) ∙ not-false _ (if1 .left)), λ held. record { held = held; is = rw sub-zero })
-
-parser·follow-at-limit-requires : (t : ℕ) → parser·follow-lts.Need-at-limit-requires (parser·follow-callees t) (parser·follow-at t) parser·follow.Post parser·follow-Inv-loop parser·follow-μ-loop
-parser·follow-at-limit-requires t c κs = search needs
 
 parser·follow-same-length : (t : ℕ) → parser·follow-lts.Need-same-length (parser·follow-callees t) (parser·follow-at t) parser·follow.Post parser·follow-Inv-loop parser·follow-μ-loop
 parser·follow-same-length t c = (c .before .before .before .before .loop) .inv .1
@@ -611,9 +605,6 @@ parser·follow-steps-requires t c κs =
     let if2 = c .before .before .before .before .before .before .before .before .if2 in
     let next-of = c .before .before .before .before .next-of in
     (omega (arith, start .pre .0, if2 .left, start .pre .1 .3 .1, rank-few (next-of .result .doing)), (omega (arith, start .pre .1 .0), omega (arith, start .pre .1 .1, loop .inv .2), start .pre .1 .2, start .pre .1 .3))
-
-parser·follow-joined-requires : (t : ℕ) → parser·follow-lts.Need-joined-requires (parser·follow-callees t) (parser·follow-at t) parser·follow.Post parser·follow-Inv-loop parser·follow-μ-loop
-parser·follow-joined-requires t c κs = search needs
 
 parser·follow-same-length-3 : (t : ℕ) → parser·follow-lts.Need-same-length-3 (parser·follow-callees t) (parser·follow-at t) parser·follow.Post parser·follow-Inv-loop parser·follow-μ-loop
 parser·follow-same-length-3 t c =
@@ -696,15 +687,6 @@ parser·one-run-clear-run-requires : (t : ℕ) → parser·one-run-lts.Need-clea
 parser·one-run-clear-run-requires t c κs =
     let start = c .before .before .before .before .before .before .before .before in
     (start .pre .1 .0, start .pre .1 .1)
-
-parser·one-run-cast-nonterminal : (t : ℕ) → parser·one-run-lts.Need-cast-nonterminal (parser·one-run-callees t) (parser·one-run-at t) parser·one-run.Post parser·one-run-Inv-loop parser·one-run-μ-loop
-parser·one-run-cast-nonterminal t c = search needs
-
-parser·one-run-nonterminal-requires : (t : ℕ) → parser·one-run-lts.Need-nonterminal-requires (parser·one-run-callees t) (parser·one-run-at t) parser·one-run.Post parser·one-run-Inv-loop parser·one-run-μ-loop
-parser·one-run-nonterminal-requires t c κs = search needs
-
-parser·one-run-done-requires : (t : ℕ) → parser·one-run-lts.Need-done-requires (parser·one-run-callees t) (parser·one-run-at t) parser·one-run.Post parser·one-run-Inv-loop parser·one-run-μ-loop
-parser·one-run-done-requires t c κs = search needs
 
 parser·one-run-loop-holds : (t : ℕ) → parser·one-run-lts.Need-loop-holds (parser·one-run-callees t) (parser·one-run-at t) parser·one-run.Post parser·one-run-Inv-loop parser·one-run-μ-loop
 parser·one-run-loop-holds t c = (search needs, refl, refl, ap (λ o. o .limit) ((c .done) .ensures), λ held. record { held = held; is = rw (sub-zero, add-zero) })
@@ -800,12 +782,6 @@ parser·steps-μ-loop book index text store₀ rows₀ left here₀ doing₀ o�
 parser·steps-loop-holds : (t : ℕ) → parser·steps-lts.Need-loop-holds (parser·steps-callees t) (parser·steps-at t) parser·steps.Post parser·steps-Inv-loop parser·steps-μ-loop
 parser·steps-loop-holds t c = (refl, refl, (c .before .before .before .before .before) .pre .1 .3, omega arith, λ held. record { held = held; is = refl })
 
-parser·steps-goes-on-requires : (t : ℕ) → parser·steps-lts.Need-goes-on-requires (parser·steps-callees t) (parser·steps-at t) parser·steps.Post parser·steps-Inv-loop parser·steps-μ-loop
-parser·steps-goes-on-requires t c κs = search needs
-
-parser·steps-enum-told : (t : ℕ) → parser·steps-lts.Need-enum-told (parser·steps-callees t) (parser·steps-at t) parser·steps.Post parser·steps-Inv-loop parser·steps-μ-loop
-parser·steps-enum-told t c = search needs
-
 parser·steps-finish-requires : (t : ℕ) → parser·steps-lts.Need-finish-requires (parser·steps-callees t) (parser·steps-at t) parser·steps.Post parser·steps-Inv-loop parser·steps-μ-loop
 parser·steps-finish-requires t c κs =
     let start = c .before .before .before .before .before .before .before .before .before .before .before .before .before .before in
@@ -862,9 +838,6 @@ parser·steps-loop-again t c =
     let take-step = c .before .before .before .before .before .take-step in
     (take-step .kept .1 .1 .1 .0 ∙ loop .inv .0, loop .inv .1, (loop .inv .2 .0, omega (arith, loop .inv .2 .1), omega (arith, loop .inv .2 .2, if2 .left)), omega (arith, loop .inv .3, if2 .left, rank-few (take-step .result .doing)), path-step _ _ _ _ (loop .here .call) (loop .here .variant) (loop .here .step) (loop .here .remaining) _ _ _ (loop .o) _ _ _ _ (table (loop .rows)) (loop .inv .4) (sym (goes-on .ensures) ∙ if1 .taken) (enum-told .given .1) _ _ (if2 .left) (loop .inv .2 .2) (take-step .ensures))
 
-parser·steps-enum-known-doing : (t : ℕ) → parser·steps-lts.Need-enum-known-doing (parser·steps-callees t) (parser·steps-at t) parser·steps.Post parser·steps-Inv-loop parser·steps-μ-loop
-parser·steps-enum-known-doing t c = search needs
-
 parser·steps-descend-requires : (t : ℕ) → parser·steps-lts.Need-descend-requires (parser·steps-callees t) (parser·steps-at t) parser·steps.Post parser·steps-Inv-loop parser·steps-μ-loop
 parser·steps-descend-requires t c κs =
     let start = c .before .before .before .before .before .before .before .before .before .before .before .before .before in
@@ -891,9 +864,6 @@ parser·steps-returns-2 t c =
     let doing = c .before .before .before .before .before .before .before .before .doing in
     let descend = c .before .before .before .before .descend in
     path-child _ _ _ _ (loop .here .call) (loop .here .variant) (loop .here .step) (loop .here .remaining) _ _ _ (loop .o) _ _ _ _ (table (loop .rows)) (loop .inv .4) (sym (goes-on .ensures) ∙ if1 .taken) _ _ _ _ (doing .given .1) (descend .ensures)
-
-parser·steps-enum-known-doing-2 : (t : ℕ) → parser·steps-lts.Need-enum-known-doing-2 (parser·steps-callees t) (parser·steps-at t) parser·steps.Post parser·steps-Inv-loop parser·steps-μ-loop
-parser·steps-enum-known-doing-2 t c = search needs
 
 parser·steps-choice-requires : (t : ℕ) → parser·steps-lts.Need-choice-requires (parser·steps-callees t) (parser·steps-at t) parser·steps.Post parser·steps-Inv-loop parser·steps-μ-loop
 parser·steps-choice-requires t c κs =
@@ -922,9 +892,6 @@ parser·steps-returns-3 t c =
     let doing2 = c .before .before .before .before .before .before .before .before .doing2 in
     let choice = c .before .before .before .before .choice in
     path-optional _ _ _ _ (loop .here .call) (loop .here .variant) (loop .here .step) (loop .here .remaining) _ _ _ (loop .o) _ _ _ _ (table (loop .rows)) (loop .inv .4) (sym (goes-on .ensures) ∙ if1 .taken) _ _ _ _ (doing2 .given .1) (choice .ensures)
-
-parser·steps-enum-known-doing-3 : (t : ℕ) → parser·steps-lts.Need-enum-known-doing-3 (parser·steps-callees t) (parser·steps-at t) parser·steps.Post parser·steps-Inv-loop parser·steps-μ-loop
-parser·steps-enum-known-doing-3 t c = search needs
 
 parser·steps-choice-requires-2 : (t : ℕ) → parser·steps-lts.Need-choice-requires-2 (parser·steps-callees t) (parser·steps-at t) parser·steps.Post parser·steps-Inv-loop parser·steps-μ-loop
 parser·steps-choice-requires-2 t c κs =
@@ -967,9 +934,6 @@ parser·steps-returns-5 t c =
     let if1 = c .if1 in
     path-ended _ _ _ _ (loop .here .call) (loop .here .variant) (loop .here .step) (loop .here .remaining) _ _ _ (loop .o) _ _ _ _ (table (loop .rows)) (loop .inv .4) (sym (goes-on .ensures) ∙ if1 .left)
 
-parser·variant-variant-requires : (t : ℕ) → parser·variant-lts.Need-variant-requires (parser·variant-callees t) (parser·variant-at t) parser·variant.Post
-parser·variant-variant-requires t c κs = search needs
-
 parser·variant-returns : (t : ℕ) → parser·variant-lts.Need-returns (parser·variant-callees t) (parser·variant-at t) parser·variant.Post
 parser·variant-returns t c =
     let start = c .before .before .before .before .before .before .before .before in
@@ -1005,9 +969,6 @@ parser·variant-steps-requires t c κs =
     let variant = c .before .before .before .before .before .before .before .before .before .before .before .before .before .variant in
     let begin-variant = c .before .before .before .before .before .before .before .before .begin-variant in
     (omega (arith, start .pre .0, start .pre .1 .3, steps-fit _ _ _ _ (start .pre .1 .2) (variant .ensures)), (omega (arith, start .pre .1 .0), omega (arith, start .pre .1 .1, begin-variant .kept .1 .1 .1 .1 .0), start .pre .1 .2, (start .pre .1 .0, omega (arith, steps-fit _ _ _ _ (start .pre .1 .2) (variant .ensures)), omega (arith, steps-fit _ _ _ _ (start .pre .1 .2) (variant .ensures)))))
-
-parser·variant-counted-requires : (t : ℕ) → parser·variant-lts.Need-counted-requires (parser·variant-callees t) (parser·variant-at t) parser·variant.Post
-parser·variant-counted-requires t c κs = search needs
 
 parser·variant-same-length : (t : ℕ) → parser·variant-lts.Need-same-length (parser·variant-callees t) (parser·variant-at t) parser·variant.Post
 parser·variant-same-length t c =
@@ -1112,11 +1073,11 @@ pub +left-recursion·enter+left-recursion·rounds+left-recursion·run-call+parse
     parser·follow.Post
     parser·follow-Inv-loop
     parser·follow-μ-loop
-    (parser·follow-goes-on-requires t)
+    (λ c κs. search needs)
     (parser·follow-returns t)
     (parser·follow-found-requires t)
     (parser·follow-loop-holds t)
-    (parser·follow-at-limit-requires t)
+    (λ c κs. search needs)
     (parser·follow-same-length t)
     (parser·follow-same-length-2 t)
     (parser·follow-returns-2 t)
@@ -1124,7 +1085,7 @@ pub +left-recursion·enter+left-recursion·rounds+left-recursion·run-call+parse
     (parser·follow-next-of-requires t)
     (parser·follow-sub-inner t)
     (parser·follow-steps-requires t)
-    (parser·follow-joined-requires t)
+    (λ c κs. search needs)
     (parser·follow-same-length-3 t)
     (parser·follow-same-length-4 t)
     (parser·follow-returns-3 t)
@@ -1141,9 +1102,9 @@ pub +left-recursion·enter+left-recursion·rounds+left-recursion·run-call+parse
     parser·one-run-μ-loop
     (parser·one-run-nonterminal-of-requires t)
     (parser·one-run-clear-run-requires t)
-    (parser·one-run-cast-nonterminal t)
-    (parser·one-run-nonterminal-requires t)
-    (parser·one-run-done-requires t)
+    (λ c. search needs)
+    (λ c κs. search needs)
+    (λ c κs. search needs)
     (parser·one-run-loop-holds t)
     (parser·one-run-add-j t)
     (parser·one-run-cast-j t)
@@ -1163,8 +1124,8 @@ pub +left-recursion·enter+left-recursion·rounds+left-recursion·run-call+parse
     parser·steps-Inv-loop
     parser·steps-μ-loop
     (parser·steps-loop-holds t)
-    (parser·steps-goes-on-requires t)
-    (parser·steps-enum-told t)
+    (λ c κs. search needs)
+    (λ c. search needs)
     (parser·steps-finish-requires t)
     (parser·steps-same-length t)
     (parser·steps-same-length-2 t)
@@ -1174,17 +1135,17 @@ pub +left-recursion·enter+left-recursion·rounds+left-recursion·run-call+parse
     (parser·steps-sub-fewer t)
     (parser·steps-loop-less t)
     (parser·steps-loop-again t)
-    (parser·steps-enum-known-doing t)
+    (λ c. search needs)
     (parser·steps-descend-requires t)
     (parser·steps-same-length-3 t)
     (parser·steps-same-length-4 t)
     (parser·steps-returns-2 t)
-    (parser·steps-enum-known-doing-2 t)
+    (λ c. search needs)
     (parser·steps-choice-requires t)
     (parser·steps-same-length-5 t)
     (parser·steps-same-length-6 t)
     (parser·steps-returns-3 t)
-    (parser·steps-enum-known-doing-3 t)
+    (λ c. search needs)
     (parser·steps-choice-requires-2 t)
     (parser·steps-same-length-7 t)
     (parser·steps-same-length-8 t)
@@ -1195,14 +1156,14 @@ pub +left-recursion·enter+left-recursion·rounds+left-recursion·run-call+parse
     λ t. parser·variant-lts.spec (parser·variant-callees t)
     (parser·variant-at t)
     parser·variant.Post
-    (parser·variant-variant-requires t)
+    (λ c κs. search needs)
     (parser·variant-returns t)
     (parser·variant-begin-variant-requires t)
     (parser·variant-cast-first t)
     (parser·variant-cast-count t)
     (parser·variant-sub-steps t)
     (parser·variant-steps-requires t)
-    (parser·variant-counted-requires t)
+    (λ c κs. search needs)
     (parser·variant-same-length t)
     (parser·variant-same-length-2 t)
     (parser·variant-returns-2 t)

@@ -8,12 +8,6 @@ use Rattle.sets.specs.PlaceLaws.{size-le, set-item}
 use Rattle.sets.proofs.item.Statement.{statement}
 use Rattle.sets.proofs.item.Tie as tie
 
-size-requires : tie.Need-size-requires
-size-requires c κs = search needs
-
-add-parse-at : tie.Need-add-parse-at
-add-parse-at c = search needs
-
 mul-parse-at : tie.Need-mul-parse-at
 mul-parse-at c =
     let args = c .before .before .before .args in
@@ -43,8 +37,8 @@ pub item-spec : {M : Type 1} → statement M
 item-spec =
     tie.close
     (tie.spec
-    size-requires
-    add-parse-at
+    (λ c κs. search needs)
+    (λ c. search needs)
     mul-parse-at
     add-parse-at-2
     parse-at-requires

@@ -4,15 +4,6 @@ use Rattle.sets.specs.SetLaws.{keep-yes, keep-no}
 use Rattle.sets.proofs.keep.Statement.{statement}
 use Rattle.sets.proofs.keep.Tie as tie
 
-keeps-level-requires : tie.Need-keeps-level-requires
-keeps-level-requires c κs = search needs
-
-append-requires : tie.Need-append-requires
-append-requires c κs = search needs
-
-same-length : tie.Need-same-length
-same-length c = search needs
-
 returns : tie.Need-returns
 returns c =
     let keeps-level = c .before .before .before .before .before .keeps-level in
@@ -24,4 +15,4 @@ returns-2 : tie.Need-returns-2
 returns-2 c = keep-no _ _ _ _ _ (c .before .keeps-level .ensures) (c .if1 .left)
 
 pub keep-spec : {M : Type 1} → statement M
-keep-spec = tie.close (tie.spec keeps-level-requires append-requires same-length returns returns-2)
+keep-spec = tie.close (tie.spec (λ c κs. search needs) (λ c κs. search needs) (λ c. search needs) returns returns-2)

@@ -15,12 +15,6 @@ returns-2 c =
     let if1 = c .before .before .before .if1 in
     rw (eq-eqb _ _ (if1 .left), ne-eqb _ _ (c .if2 .taken))
 
-associativity-number-requires : tie.Need-associativity-number-requires
-associativity-number-requires c κs = search needs
-
-associativity-number-requires-2 : tie.Need-associativity-number-requires-2
-associativity-number-requires-2 c κs = search needs
-
 returns-3 : tie.Need-returns-3
 unfolding sameParse
 returns-3 c =
@@ -46,7 +40,7 @@ same-parse-spec =
     (tie.spec
     returns
     returns-2
-    associativity-number-requires
-    associativity-number-requires-2
+    (λ c κs. search needs)
+    (λ c κs. search needs)
     returns-3
     returns-4)

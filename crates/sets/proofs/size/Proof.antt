@@ -6,12 +6,6 @@ use Rattle.sets.specs.PlaceLaws.{set-length}
 use Rattle.sets.proofs.size.Statement.{statement}
 use Rattle.sets.proofs.size.Tie as tie
 
-mul-count : tie.Need-mul-count
-mul-count c = search needs
-
-shared-slice-read-count : tie.Need-shared-slice-read-count
-shared-slice-read-count c = search needs
-
 cast-count : tie.Need-cast-count
 cast-count c = omega (arith, c .shared-slice-known .given (c .before .args .place))
 
@@ -22,4 +16,4 @@ returns-2 : tie.Need-returns-2
 returns-2 c = rw (set-length, le-ltb _ 64 (c .if1 .left))
 
 pub size-spec : {M : Type 1} → statement M
-size-spec = tie.close (tie.spec mul-count shared-slice-read-count cast-count returns returns-2)
+size-spec = tie.close (tie.spec (λ c. search needs) (λ c. search needs) cast-count returns returns-2)

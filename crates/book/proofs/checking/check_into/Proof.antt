@@ -13,9 +13,6 @@ returns c =
 checked-requires : tie.Need-checked-requires
 checked-requires c κs = omega (arith, c .before .if1 .left)
 
-same-length : tie.Need-same-length
-same-length c = search needs
-
 returns-2 : tie.Need-returns-2
 returns-2 c =
     let if1 = c .before .before .before .before .if1 in
@@ -23,4 +20,4 @@ returns-2 c =
     into-long _ _ _ _ (if1 .left) (checked .ensures)
 
 pub check-into-spec : {M : Type 1} → statement M
-check-into-spec = tie.close (tie.spec returns checked-requires same-length returns-2)
+check-into-spec = tie.close (tie.spec returns checked-requires (λ c. search needs) returns-2)

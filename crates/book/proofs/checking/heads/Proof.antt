@@ -4,34 +4,10 @@ use Rattle.book.specs.WholeLaws.{heads-words, heads-names, heads-all}
 use Rattle.book.proofs.checking.heads.Statement.{statement}
 use Rattle.book.proofs.checking.heads.Tie as tie
 
-section-requires : tie.Need-section-requires
-section-requires c κs = search needs
-
-enum-known-words : tie.Need-enum-known-words
-enum-known-words c = search needs
-
-enum-told : tie.Need-enum-told
-enum-told c = search needs
-
-same-length : tie.Need-same-length
-same-length c = search needs
-
 returns : tie.Need-returns
 returns c =
     let section = c .before .before .before .before .section in
     heads-words _ _ _ _ (section .ensures) (c .enum-told .given .1)
-
-section-requires-2 : tie.Need-section-requires-2
-section-requires-2 c κs = search needs
-
-enum-known-names : tie.Need-enum-known-names
-enum-known-names c = search needs
-
-enum-told-2 : tie.Need-enum-told-2
-enum-told-2 c = search needs
-
-same-length-2 : tie.Need-same-length-2
-same-length-2 c = search needs
 
 returns-2 : tie.Need-returns-2
 returns-2 c =
@@ -39,12 +15,6 @@ returns-2 c =
     let words = c .before .before .before .before .before .before .before .words in
     let section2 = c .before .before .before .before .section2 in
     heads-names _ _ _ _ (section .ensures) _ _ (words .given .1) _ _ (section2 .ensures) (c .enum-told2 .given .1)
-
-section-requires-3 : tie.Need-section-requires-3
-section-requires-3 c κs = search needs
-
-same-length-3 : tie.Need-same-length-3
-same-length-3 c = search needs
 
 returns-3 : tie.Need-returns-3
 returns-3 c =
@@ -59,16 +29,16 @@ pub heads-spec : {M : Type 1} → statement M
 heads-spec =
     tie.close
     (tie.spec
-    section-requires
-    enum-known-words
-    enum-told
-    same-length
+    (λ c κs. search needs)
+    (λ c. search needs)
+    (λ c. search needs)
+    (λ c. search needs)
     returns
-    section-requires-2
-    enum-known-names
-    enum-told-2
-    same-length-2
+    (λ c κs. search needs)
+    (λ c. search needs)
+    (λ c. search needs)
+    (λ c. search needs)
     returns-2
-    section-requires-3
-    same-length-3
+    (λ c κs. search needs)
+    (λ c. search needs)
     returns-3)

@@ -5,15 +5,6 @@ use Rattle.book.specs.Index.{bookIn}
 use Rattle.book.proofs.checking.passes.Statement.{statement}
 use Rattle.book.proofs.checking.passes.Tie as tie
 
-variant-requires : tie.Need-variant-requires
-variant-requires c κs = search needs
-
-step-requires : tie.Need-step-requires
-step-requires c κs = search needs
-
-step-number-requires : tie.Need-step-number-requires
-step-number-requires c κs = search needs
-
 returns : tie.Need-returns
 returns c =
     let args = c .before .before .before .before .before .before .before .before .args in
@@ -37,4 +28,4 @@ returns-3 c =
 pub passes-spec : {M : Type 1} → statement M
 passes-spec =
     tie.close
-    (tie.spec variant-requires step-requires step-number-requires returns returns-2 returns-3)
+    (tie.spec (λ c κs. search needs) (λ c κs. search needs) (λ c κs. search needs) returns returns-2 returns-3)

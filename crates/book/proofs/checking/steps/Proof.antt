@@ -7,21 +7,6 @@ use Rattle.characters.specs.Classes.{between}
 use Rattle.book.proofs.checking.steps.Statement.{statement}
 use Rattle.book.proofs.checking.steps.Tie as tie
 
-count-requires : tie.Need-count-requires
-count-requires c κs = search needs
-
-count-requires-2 : tie.Need-count-requires-2
-count-requires-2 c κs = search needs
-
-section-requires : tie.Need-section-requires
-section-requires c κs = search needs
-
-section-requires-2 : tie.Need-section-requires-2
-section-requires-2 c κs = search needs
-
-same-length : tie.Need-same-length
-same-length c = search needs
-
 returns : tie.Need-returns
 returns c =
     let args = c .before .before .before .before .before .before .before .before .before .before .before .args in
@@ -31,9 +16,6 @@ returns c =
     let section = c .before .before .section in
     let total = args .total in
     retest _ (between total total) (eqb total) _ _ total 255 580 _ _ _ (steps-fit total _) (if1 .taken) (rw (count .ensures, count2 .ensures) at (section .ensures))
-
-same-length-2 : tie.Need-same-length-2
-same-length-2 c = search needs
 
 returns-2 : tie.Need-returns-2
 returns-2 c =
@@ -50,11 +32,11 @@ pub steps-spec : {M : Type 1} → statement M
 steps-spec =
     tie.close
     (tie.spec
-    count-requires
-    count-requires-2
-    section-requires
-    section-requires-2
-    same-length
+    (λ c κs. search needs)
+    (λ c κs. search needs)
+    (λ c κs. search needs)
+    (λ c κs. search needs)
+    (λ c. search needs)
     returns
-    same-length-2
+    (λ c. search needs)
     returns-2)

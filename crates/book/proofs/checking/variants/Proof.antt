@@ -9,15 +9,6 @@ use Rattle.characters.specs.Classes.{between}
 use Rattle.book.proofs.checking.variants.Statement.{statement}
 use Rattle.book.proofs.checking.variants.Tie as tie
 
-section-requires : tie.Need-section-requires
-section-requires c κs = search needs
-
-section-requires-2 : tie.Need-section-requires-2
-section-requires-2 c κs = search needs
-
-same-length : tie.Need-same-length
-same-length c = search needs
-
 returns : tie.Need-returns
 returns c =
     let args = c .before .before .before .before .before .before .before .args in
@@ -25,9 +16,6 @@ returns c =
     let section = c .before .before .section in
     let total = args .total in
     retest Sort.Variant (between total total) (variantsFit total) _ _ total 128 323 _ _ _ (variants-fit total _ (if1 .taken)) (if1 .taken) (section .ensures)
-
-same-length-2 : tie.Need-same-length-2
-same-length-2 c = search needs
 
 returns-2 : tie.Need-returns-2
 returns-2 c =
@@ -40,4 +28,4 @@ returns-2 c =
 pub variants-spec : {M : Type 1} → statement M
 variants-spec =
     tie.close
-    (tie.spec section-requires section-requires-2 same-length returns same-length-2 returns-2)
+    (tie.spec (λ c κs. search needs) (λ c κs. search needs) (λ c. search needs) returns (λ c. search needs) returns-2)

@@ -5,20 +5,8 @@ use borrow.Author.Needs.{needs}
 use Rattle.book.proofs.index.put.Statement.{statement}
 use Rattle.book.proofs.index.put.Tie as tie
 
-mul-index : tie.Need-mul-index
-mul-index c = search needs
-
-slice-write-index : tie.Need-slice-write-index
-slice-write-index c = search needs
-
-same-length : tie.Need-same-length
-same-length c = search needs
-
-returns : tie.Need-returns
-returns c = search needs
-
 returns-2 : tie.Need-returns-2
 returns-2 c = sym (set-out (c .before .args .index .now) (c .before .args .i) (c .before .args .number) (c .if1 .left))
 
 pub put-spec : {M : Type 1} → statement M
-put-spec = tie.close (tie.spec mul-index slice-write-index same-length returns returns-2)
+put-spec = tie.close (tie.spec (λ c. search needs) (λ c. search needs) (λ c. search needs) (λ c. search needs) returns-2)

@@ -7,15 +7,6 @@ use Rattle.book.specs.ReadingLaws.{entry-in, entry-out}
 use Rattle.book.proofs.names.label.Statement.{statement}
 use Rattle.book.proofs.names.label.Tie as tie
 
-count-requires : tie.Need-count-requires
-count-requires c κs = search needs
-
-place-requires : tie.Need-place-requires
-place-requires c κs = search needs
-
-number-after-requires : tie.Need-number-after-requires
-number-after-requires c κs = search needs
-
 returns : tie.Need-returns
 returns c =
     let args = c .before .before .before .before .before .before .args in
@@ -30,4 +21,4 @@ returns-2 c =
 
 pub label-spec : {M : Type 1} → statement M
 label-spec =
-    tie.close (tie.spec count-requires place-requires number-after-requires returns returns-2)
+    tie.close (tie.spec (λ c κs. search needs) (λ c κs. search needs) (λ c κs. search needs) returns returns-2)

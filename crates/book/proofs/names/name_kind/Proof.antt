@@ -4,12 +4,9 @@ use Rattle.book.specs.Index.{bookIn}
 use Rattle.book.proofs.names.name_kind.Statement.{statement}
 use Rattle.book.proofs.names.name_kind.Tie as tie
 
-label-requires : tie.Need-label-requires
-label-requires c κs = search needs
-
 returns : tie.Need-returns
 unfolding bookIn
 returns c = c .label .ensures
 
 pub name-kind-spec : {M : Type 1} → statement M
-name-kind-spec = tie.close (tie.spec label-requires returns)
+name-kind-spec = tie.close (tie.spec (λ c κs. search needs) returns)

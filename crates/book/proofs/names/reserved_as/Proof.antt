@@ -6,12 +6,6 @@ use Rattle.book.specs.Index.{bookIn}
 use Rattle.book.proofs.names.reserved_as.Statement.{statement}
 use Rattle.book.proofs.names.reserved_as.Tie as tie
 
-label-requires : tie.Need-label-requires
-label-requires c κs = search needs
-
-spelled-requires : tie.Need-spelled-requires
-spelled-requires c κs = search needs
-
 returns : tie.Need-returns
 unfolding bookIn
 returns c =
@@ -23,4 +17,4 @@ unfolding bookIn
 returns-2 c = rw (ne-eqb _ 1 (λ e. c .if1 .left (c .before .label .ensures ∙ e)))
 
 pub reserved-as-spec : {M : Type 1} → statement M
-reserved-as-spec = tie.close (tie.spec label-requires spelled-requires returns returns-2)
+reserved-as-spec = tie.close (tie.spec (λ c κs. search needs) (λ c κs. search needs) returns returns-2)

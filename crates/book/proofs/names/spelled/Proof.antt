@@ -4,14 +4,8 @@ use borrow.Author.Needs.{needs}
 use Rattle.book.proofs.names.spelled.Statement.{statement}
 use Rattle.book.proofs.names.spelled.Tie as tie
 
-spelling-requires : tie.Need-spelling-requires
-spelling-requires c κs = search needs
-
-same-bytes-requires : tie.Need-same-bytes-requires
-same-bytes-requires c κs = search needs
-
 returns : tie.Need-returns
 returns c = c .same-bytes .ensures ∙ rw (c .before .spelling .ensures)
 
 pub spelled-spec : {M : Type 1} → statement M
-spelled-spec = tie.close (tie.spec spelling-requires same-bytes-requires returns)
+spelled-spec = tie.close (tie.spec (λ c κs. search needs) (λ c κs. search needs) returns)

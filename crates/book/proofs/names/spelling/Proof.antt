@@ -6,18 +6,6 @@ use Rattle.book.specs.ReadingLaws.{entry-in, entry-out}
 use Rattle.book.proofs.names.spelling.Statement.{statement}
 use Rattle.book.proofs.names.spelling.Tie as tie
 
-count-requires : tie.Need-count-requires
-count-requires c κs = search needs
-
-place-requires : tie.Need-place-requires
-place-requires c κs = search needs
-
-spelling-from-requires : tie.Need-spelling-from-requires
-spelling-from-requires c κs = search needs
-
-part-requires : tie.Need-part-requires
-part-requires c κs = search needs
-
 returns : tie.Need-returns
 returns c =
     let args = c .before .before .before .before .before .before .args in
@@ -34,4 +22,4 @@ returns-2 c =
 pub spelling-spec : {M : Type 1} → statement M
 spelling-spec =
     tie.close
-    (tie.spec count-requires place-requires spelling-from-requires part-requires returns returns-2)
+    (tie.spec (λ c κs. search needs) (λ c κs. search needs) (λ c κs. search needs) (λ c κs. search needs) returns returns-2)

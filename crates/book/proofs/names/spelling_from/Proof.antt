@@ -8,18 +8,6 @@ use Rattle.characters.specs.SpellingLaws.{part-out}
 use Rattle.book.proofs.names.spelling_from.Statement.{statement}
 use Rattle.book.proofs.names.spelling_from.Tie as tie
 
-add-part : tie.Need-add-part
-add-part c = search needs
-
-number-after-requires : tie.Need-number-after-requires
-number-after-requires c κs = search needs
-
-part-requires : tie.Need-part-requires
-part-requires c κs = search needs
-
-part-requires-2 : tie.Need-part-requires-2
-part-requires-2 c κs = search needs
-
 returns : tie.Need-returns
 returns c = c .part .ensures ∙ rw (c .before .number-after .ensures)
 
@@ -33,4 +21,4 @@ returns-2 c =
 pub spelling-from-spec : {M : Type 1} → statement M
 spelling-from-spec =
     tie.close
-    (tie.spec add-part number-after-requires part-requires part-requires-2 returns returns-2)
+    (tie.spec (λ c. search needs) (λ c κs. search needs) (λ c κs. search needs) (λ c κs. search needs) returns returns-2)

@@ -4,12 +4,9 @@ use Rattle.book.specs.Index.{bookIn}
 use Rattle.book.proofs.names.word_label.Statement.{statement}
 use Rattle.book.proofs.names.word_label.Tie as tie
 
-label-requires : tie.Need-label-requires
-label-requires c κs = search needs
-
 returns : tie.Need-returns
 unfolding bookIn
 returns c = c .label .ensures
 
 pub word-label-spec : {M : Type 1} → statement M
-word-label-spec = tie.close (tie.spec label-requires returns)
+word-label-spec = tie.close (tie.spec (λ c κs. search needs) returns)

@@ -7,12 +7,6 @@ use Rattle.book.proofs.parts.field.Tie as tie
 returns : tie.Need-returns
 returns c = checked-short _ _ _ _ _ (c .if1 .taken)
 
-byte-at-requires : tie.Need-byte-at-requires
-byte-at-requires c κs = search needs
-
-cast-value : tie.Need-cast-value
-cast-value c = search needs
-
 returns-2 : tie.Need-returns-2
 returns-2 c =
     let if1 = c .before .before .if1 in
@@ -24,9 +18,6 @@ returns-3 c =
     let byte-at = c .before .before .byte-at in
     field-high _ _ _ _ _ _ _ (if1 .left) (byte-at .ensures) (c .if3 .taken)
 
-add-t7 : tie.Need-add-t7
-add-t7 c = search needs
-
 returns-4 : tie.Need-returns-4
 returns-4 c =
     let if1 = c .before .before .before .if1 in
@@ -35,4 +26,4 @@ returns-4 c =
 
 pub field-spec : {M : Type 1} → statement M
 field-spec =
-    tie.close (tie.spec returns byte-at-requires cast-value returns-2 returns-3 add-t7 returns-4)
+    tie.close (tie.spec returns (λ c κs. search needs) (λ c. search needs) returns-2 returns-3 (λ c. search needs) returns-4)

@@ -6,19 +6,10 @@ use borrow.Author.Needs.{needs}
 use Rattle.book.proofs.reading.byte_after.Statement.{statement}
 use Rattle.book.proofs.reading.byte_after.Tie as tie
 
-add-byte-at : tie.Need-add-byte-at
-add-byte-at c = search needs
-
-byte-at-requires : tie.Need-byte-at-requires
-byte-at-requires c κs = search needs
-
-returns : tie.Need-returns
-returns c = search needs
-
 returns-2 : tie.Need-returns-2
 returns-2 c =
     let args = c .before .before .args in
     sym (List·getD-eq-default (args .book .now) 0 (omega (arith, c .if1 .left)))
 
 pub byte-after-spec : {M : Type 1} → statement M
-byte-after-spec = tie.close (tie.spec add-byte-at byte-at-requires returns returns-2)
+byte-after-spec = tie.close (tie.spec (λ c. search needs) (λ c κs. search needs) (λ c. search needs) returns-2)

@@ -4,24 +4,6 @@ use Rattle.book.specs.ReadingLaws.{nonterminal-in, nonterminal-out}
 use Rattle.book.proofs.reading.nonterminal.Statement.{statement}
 use Rattle.book.proofs.reading.nonterminal.Tie as tie
 
-count-requires : tie.Need-count-requires
-count-requires c κs = search needs
-
-place-requires : tie.Need-place-requires
-place-requires c κs = search needs
-
-byte-after-requires : tie.Need-byte-after-requires
-byte-after-requires c κs = search needs
-
-mark-of-requires : tie.Need-mark-of-requires
-mark-of-requires c κs = search needs
-
-first-requires : tie.Need-first-requires
-first-requires c κs = search needs
-
-number-after-requires : tie.Need-number-after-requires
-number-after-requires c κs = search needs
-
 returns : tie.Need-returns
 returns c =
     let count = c .before .before .before .before .before .before .count in
@@ -38,11 +20,11 @@ pub nonterminal-spec : {M : Type 1} → statement M
 nonterminal-spec =
     tie.close
     (tie.spec
-    count-requires
-    place-requires
-    byte-after-requires
-    mark-of-requires
-    first-requires
-    number-after-requires
+    (λ c κs. search needs)
+    (λ c κs. search needs)
+    (λ c κs. search needs)
+    (λ c κs. search needs)
+    (λ c κs. search needs)
+    (λ c κs. search needs)
     returns
     returns-2)

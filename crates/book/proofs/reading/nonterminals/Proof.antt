@@ -5,11 +5,8 @@ use Rattle.book.specs.ReadingLaws.{nonterminals-length}
 use Rattle.book.proofs.reading.nonterminals.Statement.{statement}
 use Rattle.book.proofs.reading.nonterminals.Tie as tie
 
-count-requires : tie.Need-count-requires
-count-requires c κs = search needs
-
 returns : tie.Need-returns
 returns c = λ book. c .count .ensures ∙ sym (nonterminals-length book _)
 
 pub nonterminals-spec : {M : Type 1} → statement M
-nonterminals-spec = tie.close (tie.spec count-requires returns)
+nonterminals-spec = tie.close (tie.spec (λ c κs. search needs) returns)

@@ -4,27 +4,6 @@ use Rattle.book.specs.ReadingLaws.{step-in, step-out}
 use Rattle.book.proofs.reading.step.Statement.{statement}
 use Rattle.book.proofs.reading.step.Tie as tie
 
-count-requires : tie.Need-count-requires
-count-requires c κs = search needs
-
-place-requires : tie.Need-place-requires
-place-requires c κs = search needs
-
-byte-after-requires : tie.Need-byte-after-requires
-byte-after-requires c κs = search needs
-
-argument-after-requires : tie.Need-argument-after-requires
-argument-after-requires c κs = search needs
-
-argument-after-requires-2 : tie.Need-argument-after-requires-2
-argument-after-requires-2 c κs = search needs
-
-argument-after-requires-3 : tie.Need-argument-after-requires-3
-argument-after-requires-3 c κs = search needs
-
-step-of-requires : tie.Need-step-of-requires
-step-of-requires c κs = search needs
-
 returns : tie.Need-returns
 returns c =
     let count = c .before .before .before .before .before .before .before .count in
@@ -42,12 +21,12 @@ pub step-spec : {M : Type 1} → statement M
 step-spec =
     tie.close
     (tie.spec
-    count-requires
-    place-requires
-    byte-after-requires
-    argument-after-requires
-    argument-after-requires-2
-    argument-after-requires-3
-    step-of-requires
+    (λ c κs. search needs)
+    (λ c κs. search needs)
+    (λ c κs. search needs)
+    (λ c κs. search needs)
+    (λ c κs. search needs)
+    (λ c κs. search needs)
+    (λ c κs. search needs)
     returns
     returns-2)

@@ -4,30 +4,6 @@ use Rattle.book.specs.ReadingLaws.{variant-in, variant-out}
 use Rattle.book.proofs.reading.variant.Statement.{statement}
 use Rattle.book.proofs.reading.variant.Tie as tie
 
-count-requires : tie.Need-count-requires
-count-requires c κs = search needs
-
-place-requires : tie.Need-place-requires
-place-requires c κs = search needs
-
-byte-after-requires : tie.Need-byte-after-requires
-byte-after-requires c κs = search needs
-
-number-after-requires : tie.Need-number-after-requires
-number-after-requires c κs = search needs
-
-byte-after-requires-2 : tie.Need-byte-after-requires-2
-byte-after-requires-2 c κs = search needs
-
-associativity-of-requires : tie.Need-associativity-of-requires
-associativity-of-requires c κs = search needs
-
-first-requires : tie.Need-first-requires
-first-requires c κs = search needs
-
-number-after-requires-2 : tie.Need-number-after-requires-2
-number-after-requires-2 c κs = search needs
-
 returns : tie.Need-returns
 returns c =
     let count = c .before .before .before .before .before .before .before .before .count in
@@ -46,13 +22,13 @@ pub variant-spec : {M : Type 1} → statement M
 variant-spec =
     tie.close
     (tie.spec
-    count-requires
-    place-requires
-    byte-after-requires
-    number-after-requires
-    byte-after-requires-2
-    associativity-of-requires
-    first-requires
-    number-after-requires-2
+    (λ c κs. search needs)
+    (λ c κs. search needs)
+    (λ c κs. search needs)
+    (λ c κs. search needs)
+    (λ c κs. search needs)
+    (λ c κs. search needs)
+    (λ c κs. search needs)
+    (λ c κs. search needs)
     returns
     returns-2)

@@ -5,12 +5,6 @@ use Rattle.book.specs.RecordLaws.{past}
 use Rattle.book.proofs.sections.arguments.Statement.{statement}
 use Rattle.book.proofs.sections.arguments.Tie as tie
 
-below-requires : tie.Need-below-requires
-below-requires c κs = search needs
-
-below-requires-2 : tie.Need-below-requires-2
-below-requires-2 c κs = search needs
-
 returns : tie.Need-returns
 returns c = rw (c .match .keys1)
 
@@ -65,8 +59,8 @@ pub arguments-spec : {M : Type 1} → statement M
 arguments-spec =
     tie.close
     (tie.spec
-    below-requires
-    below-requires-2
+    (λ c κs. search needs)
+    (λ c κs. search needs)
     returns
     returns-2
     returns-3

@@ -4,9 +4,6 @@ use borrow.Author.Tests.{eq-eqb, ne-eqb}
 use Rattle.book.proofs.sections.below.Statement.{statement}
 use Rattle.book.proofs.sections.below.Tie as tie
 
-sub-t4 : tie.Need-sub-t4
-sub-t4 c = search needs
-
 returns : tie.Need-returns
 returns c = rw (eq-eqb _ 0 (c .if1 .taken))
 
@@ -14,4 +11,4 @@ returns-2 : tie.Need-returns-2
 returns-2 c = rw (ne-eqb _ 0 (c .if1 .left))
 
 pub below-spec : {M : Type 1} → statement M
-below-spec = tie.close (tie.spec sub-t4 returns returns-2)
+below-spec = tie.close (tie.spec (λ c. search needs) returns returns-2)

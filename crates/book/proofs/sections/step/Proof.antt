@@ -7,30 +7,12 @@ use Rattle.book.specs.declared.sections.Sort.{Sort}
 use Rattle.book.proofs.sections.step.Statement.{statement}
 use Rattle.book.proofs.sections.step.Tie as tie
 
-field-requires : tie.Need-field-requires
-field-requires c κs = search needs
-
-enum-known-kind : tie.Need-enum-known-kind
-enum-known-kind c = search needs
-
-enum-told : tie.Need-enum-told
-enum-told c = search needs
-
 returns : tie.Need-returns
 returns c =
     let args = c .before .before .before .before .args in
     let field = c .before .before .field in
     let told = c .enum-told .given .1 in
     one-refused (Sort.Step (args .words) (args .nonterminals)) _ _ _ told (step-stop-kind _ _ _ _ (stopped _ _ _ (field .ensures) told))
-
-arguments-requires : tie.Need-arguments-requires
-arguments-requires c κs = search needs
-
-enum-known-a : tie.Need-enum-known-a
-enum-known-a c = search needs
-
-enum-told-2 : tie.Need-enum-told-2
-enum-told-2 c = search needs
 
 returns-2 : tie.Need-returns-2
 returns-2 c =
@@ -40,15 +22,6 @@ returns-2 c =
     let arguments = c .before .before .arguments in
     let kind-read = read _ _ _ (field .ensures) (kind .given .1) in
     one-refused (Sort.Step (args .words) (args .nonterminals)) _ _ _ refl (step-unknown _ _ _ _ _ _ kind-read (allowed-refused (args .words) (args .nonterminals) (kind .given .0 .0) (sym (c .enum-told2 .given .1) ∙ arguments .ensures)))
-
-field-requires-2 : tie.Need-field-requires-2
-field-requires-2 c κs = search needs
-
-enum-known-first : tie.Need-enum-known-first
-enum-known-first c = search needs
-
-enum-told-3 : tie.Need-enum-told-3
-enum-told-3 c = search needs
 
 returns-3 : tie.Need-returns-3
 returns-3 c =
@@ -62,15 +35,6 @@ returns-3 c =
     let kind-read = read _ _ _ (field .ensures) (kind .given .1) in
     let known = allowed-known _ _ _ _ _ (sym (a .given .1) ∙ arguments .ensures) in
     one-refused (Sort.Step (args .words) (args .nonterminals)) _ _ _ told (step-stop-a _ _ _ _ _ _ kind-read _ _ known (stopped _ _ _ (field2 .ensures) told))
-
-field-requires-3 : tie.Need-field-requires-3
-field-requires-3 c κs = search needs
-
-enum-known-second : tie.Need-enum-known-second
-enum-known-second c = search needs
-
-enum-told-4 : tie.Need-enum-told-4
-enum-told-4 c = search needs
 
 returns-4 : tie.Need-returns-4
 returns-4 c =
@@ -87,15 +51,6 @@ returns-4 c =
     let known = allowed-known _ _ _ _ _ (sym (a .given .1) ∙ arguments .ensures) in
     let first-read = read _ _ _ (field2 .ensures) (first .given .1) in
     one-refused (Sort.Step (args .words) (args .nonterminals)) _ _ _ told (step-stop-b _ _ _ _ _ _ kind-read _ _ known _ _ first-read (stopped _ _ _ (field3 .ensures) told))
-
-field-requires-4 : tie.Need-field-requires-4
-field-requires-4 c κs = search needs
-
-enum-known-third : tie.Need-enum-known-third
-enum-known-third c = search needs
-
-enum-told-5 : tie.Need-enum-told-5
-enum-told-5 c = search needs
 
 returns-5 : tie.Need-returns-5
 returns-5 c =
@@ -137,24 +92,24 @@ pub step-spec : {M : Type 1} → statement M
 step-spec =
     tie.close
     (tie.spec
-    field-requires
-    enum-known-kind
-    enum-told
+    (λ c κs. search needs)
+    (λ c. search needs)
+    (λ c. search needs)
     returns
-    arguments-requires
-    enum-known-a
-    enum-told-2
+    (λ c κs. search needs)
+    (λ c. search needs)
+    (λ c. search needs)
     returns-2
-    field-requires-2
-    enum-known-first
-    enum-told-3
+    (λ c κs. search needs)
+    (λ c. search needs)
+    (λ c. search needs)
     returns-3
-    field-requires-3
-    enum-known-second
-    enum-told-4
+    (λ c κs. search needs)
+    (λ c. search needs)
+    (λ c. search needs)
     returns-4
-    field-requires-4
-    enum-known-third
-    enum-told-5
+    (λ c κs. search needs)
+    (λ c. search needs)
+    (λ c. search needs)
     returns-5
     returns-6)

@@ -6,31 +6,10 @@ use Rattle.book.specs.declared.sections.Sort.{Sort}
 use Rattle.book.proofs.sections.variant.Statement.{statement}
 use Rattle.book.proofs.sections.variant.Tie as tie
 
-field-requires : tie.Need-field-requires
-field-requires c κs = search needs
-
-enum-known-level : tie.Need-enum-known-level
-enum-known-level c = search needs
-
-enum-told : tie.Need-enum-told
-enum-told c = search needs
-
 returns : tie.Need-returns
 returns c =
     let field = c .before .before .field in
     one-refused Sort.Variant _ _ _ (c .enum-told .given .1) (variant-stop-level _ _ (stopped _ _ _ (field .ensures) (c .enum-told .given .1)))
-
-least-associativity-requires : tie.Need-least-associativity-requires
-least-associativity-requires c κs = search needs
-
-field-requires-2 : tie.Need-field-requires-2
-field-requires-2 c κs = search needs
-
-enum-known-associativity : tie.Need-enum-known-associativity
-enum-known-associativity c = search needs
-
-enum-told-2 : tie.Need-enum-told-2
-enum-told-2 c = search needs
 
 returns-2 : tie.Need-returns-2
 returns-2 c =
@@ -39,15 +18,6 @@ returns-2 c =
     let least-associativity = c .before .before .before .least-associativity in
     let field2 = c .before .before .field2 in
     one-refused Sort.Variant _ _ _ (c .enum-told2 .given .1) (variant-stop-associativity _ _ _ _ _ (read _ _ _ (field .ensures) (level .given .1)) (least-associativity .ensures) (stopped _ _ _ (field2 .ensures) (c .enum-told2 .given .1)))
-
-field-requires-3 : tie.Need-field-requires-3
-field-requires-3 c κs = search needs
-
-enum-known-flags : tie.Need-enum-known-flags
-enum-known-flags c = search needs
-
-enum-told-3 : tie.Need-enum-told-3
-enum-told-3 c = search needs
 
 returns-3 : tie.Need-returns-3
 returns-3 c =
@@ -58,9 +28,6 @@ returns-3 c =
     let associativity = c .before .before .before .before .associativity in
     let field3 = c .before .before .field3 in
     one-refused Sort.Variant _ _ _ (c .enum-told3 .given .1) (variant-stop-flags _ _ _ _ _ (read _ _ _ (field .ensures) (level .given .1)) (least-associativity .ensures) _ _ (read _ _ _ (field2 .ensures) (associativity .given .1)) (stopped _ _ _ (field3 .ensures) (c .enum-told3 .given .1)))
-
-field-requires-4 : tie.Need-field-requires-4
-field-requires-4 c κs = search needs
 
 returns-4 : tie.Need-returns-4
 returns-4 c =
@@ -77,18 +44,18 @@ pub variant-spec : {M : Type 1} → statement M
 variant-spec =
     tie.close
     (tie.spec
-    field-requires
-    enum-known-level
-    enum-told
+    (λ c κs. search needs)
+    (λ c. search needs)
+    (λ c. search needs)
     returns
-    least-associativity-requires
-    field-requires-2
-    enum-known-associativity
-    enum-told-2
+    (λ c κs. search needs)
+    (λ c κs. search needs)
+    (λ c. search needs)
+    (λ c. search needs)
     returns-2
-    field-requires-3
-    enum-known-flags
-    enum-told-3
+    (λ c κs. search needs)
+    (λ c. search needs)
+    (λ c. search needs)
     returns-3
-    field-requires-4
+    (λ c κs. search needs)
     returns-4)

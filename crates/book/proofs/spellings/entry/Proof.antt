@@ -7,24 +7,12 @@ use Rattle.book.specs.declared.sections.Sort.{Sort}
 use Rattle.book.proofs.spellings.entry.Statement.{statement}
 use Rattle.book.proofs.spellings.entry.Tie as tie
 
-field-requires : tie.Need-field-requires
-field-requires c κs = search needs
-
-enum-known-label : tie.Need-enum-known-label
-enum-known-label c = search needs
-
-enum-told : tie.Need-enum-told
-enum-told c = search needs
-
 returns : tie.Need-returns
 returns c =
     let args = c .before .before .before .before .args in
     let field = c .before .before .field in
     let told = c .enum-told .given .1 in
     one-refused (Sort.Entry (args .greatest)) _ _ _ told (entry-stop _ _ _ (stopped _ _ _ (field .ensures) told))
-
-spelling-requires : tie.Need-spelling-requires
-spelling-requires c κs = search needs
 
 returns-2 : tie.Need-returns-2
 returns-2 c =
@@ -35,4 +23,4 @@ returns-2 c =
 pub entry-spec : {M : Type 1} → statement M
 entry-spec =
     tie.close
-    (tie.spec field-requires enum-known-label enum-told returns spelling-requires returns-2)
+    (tie.spec (λ c κs. search needs) (λ c. search needs) (λ c. search needs) returns (λ c κs. search needs) returns-2)

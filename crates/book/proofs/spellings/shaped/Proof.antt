@@ -6,9 +6,6 @@ use borrow.Author.Tests.{lt-ltb, le-ltb}
 use Rattle.book.proofs.spellings.shaped.Statement.{statement}
 use Rattle.book.proofs.spellings.shaped.Tie as tie
 
-is-of-requires : tie.Need-is-of-requires
-is-of-requires c κs = search needs
-
 returns : tie.Need-returns
 returns c = rw (sym (c .before .is-of .ensures) ∙ c .if1 .taken)
 
@@ -18,9 +15,6 @@ returns-2 c =
     let args = c .before .before .before .args in
     rw (sym (is-of .ensures) ∙ c .before .if1 .left, le-ltb 0 (args .i) (omega (arith, c .if2 .taken)))
 
-is-of-requires-2 : tie.Need-is-of-requires-2
-is-of-requires-2 c κs = search needs
-
 returns-3 : tie.Need-returns-3
 returns-3 c =
     let is-of = c .before .before .before .is-of in
@@ -29,4 +23,4 @@ returns-3 c =
     rw (sym (is-of .ensures) ∙ if1 .left, lt-ltb 0 (args .i) (omega (arith, c .before .if2 .left))) (c .is-of2 .ensures)
 
 pub shaped-spec : {M : Type 1} → statement M
-shaped-spec = tie.close (tie.spec is-of-requires returns returns-2 is-of-requires-2 returns-3)
+shaped-spec = tie.close (tie.spec (λ c κs. search needs) returns returns-2 (λ c κs. search needs) returns-3)

@@ -5,23 +5,11 @@ use Rattle.book.specs.ReaderLaws.{read, stopped, handed, no-value}
 use Rattle.book.proofs.spellings.spelling.Statement.{statement}
 use Rattle.book.proofs.spellings.spelling.Tie as tie
 
-field-requires : tie.Need-field-requires
-field-requires c κs = search needs
-
-enum-known-size : tie.Need-enum-known-size
-enum-known-size c = search needs
-
-enum-told : tie.Need-enum-told
-enum-told c = search needs
-
 returns : tie.Need-returns
 returns c =
     let field = c .before .before .field in
     let told = c .enum-told .given .1 in
     (handed _ (spelling-stop _ _ (stopped _ _ _ (field .ensures) told)) told, no-value told 0)
-
-spelling-bytes-requires : tie.Need-spelling-bytes-requires
-spelling-bytes-requires c κs = search needs
 
 returns-2 : tie.Need-returns-2
 returns-2 c =
@@ -32,4 +20,4 @@ returns-2 c =
 pub spelling-spec : {M : Type 1} → statement M
 spelling-spec =
     tie.close
-    (tie.spec field-requires enum-known-size enum-told returns spelling-bytes-requires returns-2)
+    (tie.spec (λ c κs. search needs) (λ c. search needs) (λ c. search needs) returns (λ c κs. search needs) returns-2)

@@ -12,21 +12,12 @@ returns c =
     let args = c .before .before .args in
     checked-short _ _ _ (args .book .now) (args .place) (omega (arith, c .if1 .taken))
 
-byte-at-requires : tie.Need-byte-at-requires
-byte-at-requires c κs = search needs
-
-shaped-requires : tie.Need-shaped-requires
-shaped-requires c κs = search needs
-
 returns-2 : tie.Need-returns-2
 returns-2 c =
     let args = c .before .before .before .before .before .args in
     let if1 = c .before .before .before .if1 in
     let byte-at = c .before .before .byte-at in
     checked-bad _ _ _ (args .book .now) (args .place) (omega (arith, if1 .left)) (rw (byte-at .ensures) at (sym (c .before .shaped .ensures) ∙ not-true _ (c .if2 .taken)))
-
-add-t5 : tie.Need-add-t5
-add-t5 c = search needs
 
 returns-3 : tie.Need-returns-3
 returns-3 c =
@@ -37,4 +28,4 @@ returns-3 c =
 
 pub spelling-byte-spec : {M : Type 1} → statement M
 spelling-byte-spec =
-    tie.close (tie.spec returns byte-at-requires shaped-requires returns-2 add-t5 returns-3)
+    tie.close (tie.spec returns (λ c κs. search needs) (λ c κs. search needs) returns-2 (λ c. search needs) returns-3)

@@ -10,21 +10,6 @@ returns c =
     let args = c .before .before .before .before .args in
     sym (same-forms _ (args .c) (args .d) (c .if1 .taken))
 
-cast-same-spelling : tie.Need-cast-same-spelling
-cast-same-spelling c = search needs
-
-cast-same-spelling-2 : tie.Need-cast-same-spelling-2
-cast-same-spelling-2 c = search needs
-
-cast-same-spelling-3 : tie.Need-cast-same-spelling-3
-cast-same-spelling-3 c = search needs
-
-cast-same-spelling-4 : tie.Need-cast-same-spelling-4
-cast-same-spelling-4 c = search needs
-
-same-spelling-requires : tie.Need-same-spelling-requires
-same-spelling-requires c κs = search needs
-
 returns-2 : tie.Need-returns-2
 returns-2 c =
     let args = c .before .before .before .before .before .before .before .before .before .before .before .args in
@@ -52,11 +37,11 @@ same-cell-spec =
     tie.close
     (tie.spec
     returns
-    cast-same-spelling
-    cast-same-spelling-2
-    cast-same-spelling-3
-    cast-same-spelling-4
-    same-spelling-requires
+    (λ c. search needs)
+    (λ c. search needs)
+    (λ c. search needs)
+    (λ c. search needs)
+    (λ c κs. search needs)
     returns-2
     returns-3
     returns-4)

@@ -3,27 +3,6 @@ use borrow.Author.Needs.{needs}
 use Rattle.cells.proofs.store.cell_at.Statement.{statement}
 use Rattle.cells.proofs.store.cell_at.Tie as tie
 
-mul-at : tie.Need-mul-at
-mul-at c = search needs
-
-sub-at : tie.Need-sub-at
-sub-at c = search needs
-
-get-requires : tie.Need-get-requires
-get-requires c κs = search needs
-
-add-get : tie.Need-add-get
-add-get c = search needs
-
-get-requires-2 : tie.Need-get-requires-2
-get-requires-2 c κs = search needs
-
-add-get-2 : tie.Need-add-get-2
-add-get-2 c = search needs
-
-get-requires-3 : tie.Need-get-requires-3
-get-requires-3 c κs = search needs
-
 returns : tie.Need-returns
 returns c =
     let get = c .before .before .get in
@@ -33,4 +12,4 @@ returns c =
 pub cell-at-spec : {M : Type 1} → statement M
 cell-at-spec =
     tie.close
-    (tie.spec mul-at sub-at get-requires add-get get-requires-2 add-get-2 get-requires-3 returns)
+    (tie.spec (λ c. search needs) (λ c. search needs) (λ c κs. search needs) (λ c. search needs) (λ c κs. search needs) (λ c. search needs) (λ c κs. search needs) returns)

@@ -4,36 +4,12 @@ use borrow.Author.Needs.{needs}
 use Rattle.cells.proofs.store.make.Statement.{statement}
 use Rattle.cells.proofs.store.make.Tie as tie
 
-hash-requires : tie.Need-hash-requires
-hash-requires c κs = search needs
-
-add-get : tie.Need-add-get
-add-get c = search needs
-
-get-requires : tie.Need-get-requires
-get-requires c κs = search needs
-
-find-requires : tie.Need-find-requires
-find-requires c κs = search needs
-
-same-length : tie.Need-same-length
-same-length c = search needs
-
 returns : tie.Need-returns
 returns c =
     let hash = c .before .before .before .before .before .hash in
     let get = c .before .before .before .get in
     let find = c .before .find in
     makes-found _ _ _ _ _ _ _ (hash .ensures .0) (get .ensures) (find .ensures) (c .if1 .taken)
-
-add-more : tie.Need-add-more
-add-more c = search needs
-
-push-requires : tie.Need-push-requires
-push-requires c κs = search needs
-
-same-length-2 : tie.Need-same-length-2
-same-length-2 c = search needs
 
 returns-2 : tie.Need-returns-2
 returns-2 c =
@@ -44,9 +20,6 @@ returns-2 c =
     let if2 = c .before .before .before .before .if2 in
     let push = c .before .before .push in
     makes-new _ _ _ _ _ _ _ (hash .ensures .0) (get .ensures) (find .ensures) (if1 .left) (if2 .taken) _ (push .ensures)
-
-same-length-3 : tie.Need-same-length-3
-same-length-3 c = search needs
 
 returns-3 : tie.Need-returns-3
 returns-3 c =
@@ -60,15 +33,15 @@ pub make-spec : {M : Type 1} → statement M
 make-spec =
     tie.close
     (tie.spec
-    hash-requires
-    add-get
-    get-requires
-    find-requires
-    same-length
+    (λ c κs. search needs)
+    (λ c. search needs)
+    (λ c κs. search needs)
+    (λ c κs. search needs)
+    (λ c. search needs)
     returns
-    add-more
-    push-requires
-    same-length-2
+    (λ c. search needs)
+    (λ c κs. search needs)
+    (λ c. search needs)
     returns-2
-    same-length-3
+    (λ c. search needs)
     returns-3)

@@ -5,15 +5,6 @@ use Rattle.characters.specs.ClassLaws.{class-told, class-at-rest}
 use Rattle.characters.proofs.classes.class_of.Statement.{statement}
 use Rattle.characters.proofs.classes.class_of.Tie as tie
 
-class-table-requires : tie.Need-class-table-requires
-class-table-requires c κs = search needs
-
-slice-aggregate-number-in : tie.Need-slice-aggregate-number-in
-slice-aggregate-number-in c = search needs
-
-number-in-requires : tie.Need-number-in-requires
-number-in-requires c κs = search needs
-
 returns : tie.Need-returns
 returns c = class-told (c .match .keys1) (c .before .number-in .ensures)
 
@@ -35,9 +26,9 @@ pub class-of-spec : {M : Type 1} → statement M
 class-of-spec =
     tie.close
     (tie.spec
-    class-table-requires
-    slice-aggregate-number-in
-    number-in-requires
+    (λ c κs. search needs)
+    (λ c. search needs)
+    (λ c κs. search needs)
     returns
     returns-2
     returns-3

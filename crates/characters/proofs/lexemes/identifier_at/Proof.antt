@@ -6,18 +6,6 @@ use Rattle.characters.specs.declared.lexemes.Identifier.{Identifier}
 use Rattle.characters.proofs.lexemes.identifier_at.Statement.{statement}
 use Rattle.characters.proofs.lexemes.identifier_at.Tie as tie
 
-byte-at-requires : tie.Need-byte-at-requires
-byte-at-requires c κs = search needs
-
-is-of-requires : tie.Need-is-of-requires
-is-of-requires c κs = search needs
-
-add-span-end : tie.Need-add-span-end
-add-span-end c = search needs
-
-span-end-requires : tie.Need-span-end-requires
-span-end-requires c κs = search needs
-
 returns : tie.Need-returns
 returns c =
     let byte-at = c .before .before .before .byte-at in
@@ -36,10 +24,10 @@ pub identifier-at-spec : {M : Type 1} → statement M
 identifier-at-spec =
     tie.close
     (tie.spec
-    byte-at-requires
-    is-of-requires
-    add-span-end
-    span-end-requires
+    (λ c κs. search needs)
+    (λ c κs. search needs)
+    (λ c. search needs)
+    (λ c κs. search needs)
     returns
     returns-2
     returns-3)

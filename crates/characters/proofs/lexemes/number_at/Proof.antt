@@ -8,9 +8,6 @@ use Rattle.characters.specs.declared.skipping.Span.the-variants.{Digits}
 use Rattle.characters.proofs.lexemes.number_at.Statement.{statement}
 use Rattle.characters.proofs.lexemes.number_at.Tie as tie
 
-span-end-requires : tie.Need-span-end-requires
-span-end-requires c κs = search needs
-
 returns : tie.Need-returns
 returns c = sym (number-none _ _ (sym (c .before .span-end .ensures) ∙ c .if1 .taken))
 
@@ -18,12 +15,6 @@ sub-part : tie.Need-sub-part
 sub-part c =
     let args = c .before .before .before .args in
     omega (arith, c .before .span-end .ensures, span-forward Digits (args .text .now) (args .place))
-
-part-requires : tie.Need-part-requires
-part-requires c κs = search needs
-
-number-of-requires : tie.Need-number-of-requires
-number-of-requires c κs = search needs
 
 returns-2 : tie.Need-returns-2
 returns-2 c =
@@ -35,4 +26,4 @@ returns-2 c =
 pub number-at-spec : {M : Type 1} → statement M
 number-at-spec =
     tie.close
-    (tie.spec span-end-requires returns sub-part part-requires number-of-requires returns-2)
+    (tie.spec (λ c κs. search needs) returns sub-part (λ c κs. search needs) (λ c κs. search needs) returns-2)

@@ -7,15 +7,6 @@ use Rattle.characters.specs.Skipping.{commentAt}
 use Rattle.characters.proofs.skipping.comment_at.Statement.{statement}
 use Rattle.characters.proofs.skipping.comment_at.Tie as tie
 
-byte-at-requires : tie.Need-byte-at-requires
-byte-at-requires c κs = search needs
-
-add-byte-at : tie.Need-add-byte-at
-add-byte-at c = search needs
-
-byte-at-requires-2 : tie.Need-byte-at-requires-2
-byte-at-requires-2 c κs = search needs
-
 returns : tie.Need-returns
 unfolding commentAt
 returns c =
@@ -35,4 +26,4 @@ returns-3 c =
 pub comment-at-spec : {M : Type 1} → statement M
 comment-at-spec =
     tie.close
-    (tie.spec byte-at-requires add-byte-at byte-at-requires-2 returns returns-2 returns-3)
+    (tie.spec (λ c κs. search needs) (λ c. search needs) (λ c κs. search needs) returns returns-2 returns-3)

@@ -5,12 +5,6 @@ use Rattle.characters.specs.Skipping.{commentEnd}
 use Rattle.characters.proofs.skipping.comment_end.Statement.{statement}
 use Rattle.characters.proofs.skipping.comment_end.Tie as tie
 
-span-end-requires : tie.Need-span-end-requires
-span-end-requires c κs = search needs
-
-add-result : tie.Need-add-result
-add-result c = search needs
-
 returns : tie.Need-returns
 unfolding commentEnd
 returns c = rw (← c .before .span-end .ensures, lt-ltb _ _ (c .if1 .taken))
@@ -20,4 +14,4 @@ unfolding commentEnd
 returns-2 c = rw (← c .before .span-end .ensures, le-ltb _ _ (c .if1 .left))
 
 pub comment-end-spec : {M : Type 1} → statement M
-comment-end-spec = tie.close (tie.spec span-end-requires add-result returns returns-2)
+comment-end-spec = tie.close (tie.spec (λ c κs. search needs) (λ c. search needs) returns returns-2)

@@ -4,30 +4,6 @@ use borrow.Author.Needs.{needs}
 use Rattle.characters.proofs.skipping.in_span.Statement.{statement}
 use Rattle.characters.proofs.skipping.in_span.Tie as tie
 
-enum-told : tie.Need-enum-told
-enum-told c = search needs
-
-is-in-requires : tie.Need-is-in-requires
-is-in-requires c κs = search needs
-
-enum-told-2 : tie.Need-enum-told-2
-enum-told-2 c = search needs
-
-enum-told-3 : tie.Need-enum-told-3
-enum-told-3 c = search needs
-
-is-in-requires-2 : tie.Need-is-in-requires-2
-is-in-requires-2 c κs = search needs
-
-is-in-requires-3 : tie.Need-is-in-requires-3
-is-in-requires-3 c κs = search needs
-
-enum-told-4 : tie.Need-enum-told-4
-enum-told-4 c = search needs
-
-is-in-requires-4 : tie.Need-is-in-requires-4
-is-in-requires-4 c κs = search needs
-
 returns : tie.Need-returns
 returns c = rw (c .before .enum-told .given .1) (c .is-in .ensures)
 
@@ -52,14 +28,14 @@ pub in-span-spec : {M : Type 1} → statement M
 in-span-spec =
     tie.close
     (tie.spec
-    enum-told
-    is-in-requires
-    enum-told-2
-    enum-told-3
-    is-in-requires-2
-    is-in-requires-3
-    enum-told-4
-    is-in-requires-4
+    (λ c. search needs)
+    (λ c κs. search needs)
+    (λ c. search needs)
+    (λ c. search needs)
+    (λ c κs. search needs)
+    (λ c κs. search needs)
+    (λ c. search needs)
+    (λ c κs. search needs)
     returns
     returns-2
     returns-3

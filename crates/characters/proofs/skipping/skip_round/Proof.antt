@@ -6,15 +6,6 @@ use Rattle.characters.specs.SkippingLaws.{round-comment, round-plain}
 use Rattle.characters.proofs.skipping.skip_round.Statement.{statement}
 use Rattle.characters.proofs.skipping.skip_round.Tie as tie
 
-spaces-end-requires : tie.Need-spaces-end-requires
-spaces-end-requires c κs = search needs
-
-comment-at-requires : tie.Need-comment-at-requires
-comment-at-requires c κs = search needs
-
-comment-end-requires : tie.Need-comment-end-requires
-comment-end-requires c κs = search needs
-
 returns : tie.Need-returns
 returns c =
     let args = c .before .before .before .before .before .args in
@@ -35,4 +26,4 @@ returns-2 c =
 pub skip-round-spec : {M : Type 1} → statement M
 skip-round-spec =
     tie.close
-    (tie.spec spaces-end-requires comment-at-requires comment-end-requires returns returns-2)
+    (tie.spec (λ c κs. search needs) (λ c κs. search needs) (λ c κs. search needs) returns returns-2)

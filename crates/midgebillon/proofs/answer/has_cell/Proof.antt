@@ -5,12 +5,6 @@ use Rattle.characters.specs.Classes.{between}
 use Rattle.midgebillon.proofs.answer.has_cell.Statement.{statement}
 use Rattle.midgebillon.proofs.answer.has_cell.Tie as tie
 
-is-between-requires : tie.Need-is-between-requires
-is-between-requires c κs = search needs
-
-mul-result : tie.Need-mul-result
-mul-result c = search needs
-
 returns : tie.Need-returns
 returns c =
     let n = c .before .before .before .args .n in
@@ -24,4 +18,4 @@ returns-2 c =
     rw (sym numbered ∙ c .if1 .left) (search needs)
 
 pub has-cell-spec : {M : Type 1} → statement M
-has-cell-spec = tie.close (tie.spec is-between-requires mul-result returns returns-2)
+has-cell-spec = tie.close (tie.spec (λ c κs. search needs) (λ c. search needs) returns returns-2)

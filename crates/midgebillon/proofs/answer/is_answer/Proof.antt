@@ -4,20 +4,8 @@ use borrow.Author.Needs.{needs}
 use Rattle.midgebillon.proofs.answer.is_answer.Statement.{statement}
 use Rattle.midgebillon.proofs.answer.is_answer.Tie as tie
 
-is-refusal-requires : tie.Need-is-refusal-requires
-is-refusal-requires c κs = search needs
-
 returns : tie.Need-returns
 returns c = rw (ne-eqb _ _ (c .before .if1 .taken)) (search needs)
-
-enum-told : tie.Need-enum-told
-enum-told c = search needs
-
-has-cell-requires : tie.Need-has-cell-requires
-has-cell-requires c κs = search needs
-
-enum-told-2 : tie.Need-enum-told-2
-enum-told-2 c = search needs
 
 returns-2 : tie.Need-returns-2
 returns-2 c = rw (eq-eqb _ _ (c .before .before .before .if1 .left), c .before .enum-told .given .1) (search needs)
@@ -29,10 +17,10 @@ pub is-answer-spec : {M : Type 1} → statement M
 is-answer-spec =
     tie.close
     (tie.spec
-    is-refusal-requires
+    (λ c κs. search needs)
     returns
-    enum-told
-    has-cell-requires
-    enum-told-2
+    (λ c. search needs)
+    (λ c κs. search needs)
+    (λ c. search needs)
     returns-2
     returns-3)

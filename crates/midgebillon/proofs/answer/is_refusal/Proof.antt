@@ -5,17 +5,11 @@ use Rattle.characters.specs.Classes.{between}
 use Rattle.midgebillon.proofs.answer.is_refusal.Statement.{statement}
 use Rattle.midgebillon.proofs.answer.is_refusal.Tie as tie
 
-is-between-requires : tie.Need-is-between-requires
-is-between-requires c κs = search needs
-
 returns : tie.Need-returns
 returns c =
     let n = c .before .before .args .n in
     let first : c .before .is-between .result ≡ between 1 11 n = search needs in
     rw (sym first ∙ c .if1 .taken)
-
-is-between-requires-2 : tie.Need-is-between-requires-2
-is-between-requires-2 c κs = search needs
 
 returns-2 : tie.Need-returns-2
 returns-2 c =
@@ -24,9 +18,6 @@ returns-2 c =
     let first : c .before .before .before .is-between .result ≡ between 1 11 n = search needs in
     let second : c .before .is-between2 .result ≡ between 20 23 n = search needs in
     rw (sym first ∙ if1 .left, sym second ∙ c .if2 .taken)
-
-is-between-requires-3 : tie.Need-is-between-requires-3
-is-between-requires-3 c κs = search needs
 
 returns-3 : tie.Need-returns-3
 returns-3 c =
@@ -41,9 +32,9 @@ pub is-refusal-spec : {M : Type 1} → statement M
 is-refusal-spec =
     tie.close
     (tie.spec
-    is-between-requires
+    (λ c κs. search needs)
     returns
-    is-between-requires-2
+    (λ c κs. search needs)
     returns-2
-    is-between-requires-3
+    (λ c κs. search needs)
     returns-3)

@@ -5,9 +5,6 @@ use borrow.Author.Needs.{needs}
 use Rattle.midgebillon.proofs.answer.put_answer.Statement.{statement}
 use Rattle.midgebillon.proofs.answer.put_answer.Tie as tie
 
-slice-write-numbers : tie.Need-slice-write-numbers
-slice-write-numbers c = search needs
-
 slice-write-numbers-2 : tie.Need-slice-write-numbers-2
 slice-write-numbers-2 c = simp length-set (omega arith)
 
@@ -26,22 +23,16 @@ slice-write-numbers-6 c = simp length-set (omega arith)
 slice-write-numbers-7 : tie.Need-slice-write-numbers-7
 slice-write-numbers-7 c = simp length-set (omega arith)
 
-same-length : tie.Need-same-length
-same-length c = search needs
-
-returns : tie.Need-returns
-returns c = search needs
-
 pub put-answer-spec : {M : Type 1} → statement M
 put-answer-spec =
     tie.close
     (tie.spec
-    slice-write-numbers
+    (λ c. search needs)
     slice-write-numbers-2
     slice-write-numbers-3
     slice-write-numbers-4
     slice-write-numbers-5
     slice-write-numbers-6
     slice-write-numbers-7
-    same-length
-    returns)
+    (λ c. search needs)
+    (λ c. search needs))

@@ -6,26 +6,11 @@ use Rattle.printing.specs.CellLaws.{read-none, read-some}
 use Rattle.printing.proofs.cell.cell_at.Statement.{statement}
 use Rattle.printing.proofs.cell.cell_at.Tie as tie
 
-absent-requires : tie.Need-absent-requires
-absent-requires c κs = search needs
-
 returns : tie.Need-returns
 returns c =
     let args = c .before .before .before .args in
     let if1 = c .before .if1 in
     read-none (args .cells .now) (args .n) _ (c .absent .ensures) (inl (if1 .taken))
-
-mul-at : tie.Need-mul-at
-mul-at c = search needs
-
-sub-at : tie.Need-sub-at
-sub-at c = search needs
-
-add-if2 : tie.Need-add-if2
-add-if2 c = search needs
-
-absent-requires-2 : tie.Need-absent-requires-2
-absent-requires-2 c κs = search needs
 
 returns-2 : tie.Need-returns-2
 returns-2 c =
@@ -35,30 +20,6 @@ returns-2 c =
     let positive = if1 .left in
     let few = if2 .taken in
     read-none (args .cells .now) (args .n) _ (c .absent2 .ensures) (inr (omega (arith, positive, few)))
-
-mul-t5 : tie.Need-mul-t5
-mul-t5 c = search needs
-
-shared-slice-read-t8 : tie.Need-shared-slice-read-t8
-shared-slice-read-t8 c = search needs
-
-add-t6 : tie.Need-add-t6
-add-t6 c = search needs
-
-mul-t9 : tie.Need-mul-t9
-mul-t9 c = search needs
-
-shared-slice-read-t11 : tie.Need-shared-slice-read-t11
-shared-slice-read-t11 c = search needs
-
-add-t12 : tie.Need-add-t12
-add-t12 c = search needs
-
-mul-t13 : tie.Need-mul-t13
-mul-t13 c = search needs
-
-shared-slice-read-t15 : tie.Need-shared-slice-read-t15
-shared-slice-read-t15 c = search needs
 
 returns-3 : tie.Need-returns-3
 returns-3 c =
@@ -73,19 +34,19 @@ pub cell-at-spec : {M : Type 1} → statement M
 cell-at-spec =
     tie.close
     (tie.spec
-    absent-requires
+    (λ c κs. search needs)
     returns
-    mul-at
-    sub-at
-    add-if2
-    absent-requires-2
+    (λ c. search needs)
+    (λ c. search needs)
+    (λ c. search needs)
+    (λ c κs. search needs)
     returns-2
-    mul-t5
-    shared-slice-read-t8
-    add-t6
-    mul-t9
-    shared-slice-read-t11
-    add-t12
-    mul-t13
-    shared-slice-read-t15
+    (λ c. search needs)
+    (λ c. search needs)
+    (λ c. search needs)
+    (λ c. search needs)
+    (λ c. search needs)
+    (λ c. search needs)
+    (λ c. search needs)
+    (λ c. search needs)
     returns-3)

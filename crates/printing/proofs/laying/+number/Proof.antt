@@ -37,12 +37,6 @@ number-add-last t c = omega arith
 number-cast-last : (t : ℕ) → number-lts.Need-cast-last (number-claims t) (number-at t) number.Post
 number-cast-last t c = omega arith
 
-number-byte-requires : (t : ℕ) → number-lts.Need-byte-requires (number-claims t) (number-at t) number.Post
-number-byte-requires t c κs = search needs
-
-number-same-length : (t : ℕ) → number-lts.Need-same-length (number-claims t) (number-at t) number.Post
-number-same-length t c = search needs
-
 number-returns : (t : ℕ) → number-lts.Need-returns (number-claims t) (number-at t) number.Post
 number-returns t c =
     let args = c .before .before .before .before .before .before .args in
@@ -55,12 +49,6 @@ number-number-requires t c κs =
     let pre = c .before .before .before .pre in
     let if1 = c .before .if1 in
     omega (arith, pre .0, if1 .left)
-
-number-byte-requires-2 : (t : ℕ) → number-lts.Need-byte-requires-2 (number-claims t) (number-at t) number.Post
-number-byte-requires-2 t c κs = search needs
-
-number-same-length-2 : (t : ℕ) → number-lts.Need-same-length-2 (number-claims t) (number-at t) number.Post
-number-same-length-2 t c = search needs
 
 number-returns-2 : (t : ℕ) → number-lts.Need-returns-2 (number-claims t) (number-at t) number.Post
 number-returns-2 t c =
@@ -76,10 +64,10 @@ pub +number-spec : {M : Type 1} → statement M
     number.Post
     (number-add-last t)
     (number-cast-last t)
-    (number-byte-requires t)
-    (number-same-length t)
+    (λ c κs. search needs)
+    (λ c. search needs)
     (number-returns t)
     (number-number-requires t)
-    (number-byte-requires-2 t)
-    (number-same-length-2 t)
+    (λ c κs. search needs)
+    (λ c. search needs)
     (number-returns-2 t)

@@ -5,23 +5,11 @@ use Rattle.printing.specs.LayingLaws.{byte-skipped, byte-stored, byte-dr
 use Rattle.printing.proofs.laying.byte.Statement.{statement}
 use Rattle.printing.proofs.laying.byte.Tie as tie
 
-sub-t6 : tie.Need-sub-t6
-sub-t6 c = search needs
-
 returns : tie.Need-returns
 returns c =
     let args = c .before .before .before .args in
     let if1 = c .before .if1 in
     byte-skipped (args .at) (args .out .now) (args .byte) (if1 .taken)
-
-slice-write-out : tie.Need-slice-write-out
-slice-write-out c = search needs
-
-add-t9 : tie.Need-add-t9
-add-t9 c = search needs
-
-same-length : tie.Need-same-length
-same-length c = search needs
 
 returns-2 : tie.Need-returns-2
 returns-2 c =
@@ -37,4 +25,4 @@ returns-3 c =
 
 pub byte-spec : {M : Type 1} → statement M
 byte-spec =
-    tie.close (tie.spec sub-t6 returns slice-write-out add-t9 same-length returns-2 returns-3)
+    tie.close (tie.spec (λ c. search needs) returns (λ c. search needs) (λ c. search needs) (λ c. search needs) returns-2 returns-3)

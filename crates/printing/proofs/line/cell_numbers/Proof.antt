@@ -17,8 +17,5 @@ returns c =
     let args = c .before .args in
     sym (take-all 12288 (args .cells .now) (omega (arith, c .if1 .taken)))
 
-returns-2 : tie.Need-returns-2
-returns-2 c = search needs
-
 pub cell-numbers-spec : {M : Type 1} → statement M
-cell-numbers-spec = tie.close (tie.spec slice-aggregate-result returns returns-2)
+cell-numbers-spec = tie.close (tie.spec slice-aggregate-result returns (λ c. search needs))

@@ -4,12 +4,6 @@ use borrow.Author.Needs.{needs}
 use Rattle.printing.proofs.line.column_of.Statement.{statement}
 use Rattle.printing.proofs.line.column_of.Tie as tie
 
-in-text-requires : tie.Need-in-text-requires
-in-text-requires c κs = search needs
-
-column-requires : tie.Need-column-requires
-column-requires c κs = search needs
-
 returns : tie.Need-returns
 returns c =
     let in-text = c .before .before .in-text in
@@ -22,4 +16,4 @@ returns-2 c =
     rw (sym (in-text .ensures) ∙ c .if1 .left)
 
 pub column-of-spec : {M : Type 1} → statement M
-column-of-spec = tie.close (tie.spec in-text-requires column-requires returns returns-2)
+column-of-spec = tie.close (tie.spec (λ c κs. search needs) (λ c κs. search needs) returns returns-2)

@@ -7,12 +7,6 @@ use Rattle.run.specs.Promise.{answerIn}
 use Rattle.printing.proofs.line.line.Statement.{statement}
 use Rattle.printing.proofs.line.line.Tie as tie
 
-refused-requires : tie.Need-refused-requires
-refused-requires c κs = search needs
-
-same-length : tie.Need-same-length
-same-length c = search needs
-
 returns : tie.Need-returns
 returns c =
     let args = c .before .before .before .before .before .before .before .before .before .before .before .args in
@@ -20,24 +14,6 @@ returns c =
     let refused = c .before .before .refused in
     let names = bookIn (args .book .now) (args .index .now) .names in
     lays-as (refused .ensures) (line-refused names (args .text .now) (args .cells .now) (answerIn (args .answer)) (if1 .taken))
-
-slice-aggregate-bytes : tie.Need-slice-aggregate-bytes
-slice-aggregate-bytes c = search needs
-
-bytes-requires : tie.Need-bytes-requires
-bytes-requires c κs = search needs
-
-cell-numbers-requires : tie.Need-cell-numbers-requires
-cell-numbers-requires c κs = search needs
-
-item-requires : tie.Need-item-requires
-item-requires c κs = search needs
-
-byte-requires : tie.Need-byte-requires
-byte-requires c κs = search needs
-
-same-length-2 : tie.Need-same-length-2
-same-length-2 c = search needs
 
 returns-2 : tie.Need-returns-2
 returns-2 c =
@@ -56,13 +32,13 @@ pub line-spec : {M : Type 1} → statement M
 line-spec =
     tie.close
     (tie.spec
-    refused-requires
-    same-length
+    (λ c κs. search needs)
+    (λ c. search needs)
     returns
-    slice-aggregate-bytes
-    bytes-requires
-    cell-numbers-requires
-    item-requires
-    byte-requires
-    same-length-2
+    (λ c. search needs)
+    (λ c κs. search needs)
+    (λ c κs. search needs)
+    (λ c κs. search needs)
+    (λ c κs. search needs)
+    (λ c. search needs)
     returns-2)

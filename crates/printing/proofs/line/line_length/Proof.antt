@@ -10,12 +10,6 @@ use Rattle.printing.specs.LayingLaws.{skip-is, within-limit, beyond-limi
 use Rattle.printing.proofs.line.line_length.Statement.{statement}
 use Rattle.printing.proofs.line.line_length.Tie as tie
 
-slice-aggregate-line : tie.Need-slice-aggregate-line
-slice-aggregate-line c = search needs
-
-line-requires : tie.Need-line-requires
-line-requires c κs = search needs
-
 sub-t14 : tie.Need-sub-t14
 sub-t14 c =
     let line = c .before .before .before .before .line in
@@ -42,4 +36,4 @@ returns-2 c =
 
 pub line-length-spec : {M : Type 1} → statement M
 line-length-spec =
-    tie.close (tie.spec slice-aggregate-line line-requires sub-t14 returns returns-2)
+    tie.close (tie.spec (λ c. search needs) (λ c κs. search needs) sub-t14 returns returns-2)

@@ -7,63 +7,6 @@ use Rattle.run.specs.Promise.{answerIn}
 use Rattle.printing.proofs.line.refused.Statement.{statement}
 use Rattle.printing.proofs.line.refused.Tie as tie
 
-line-of-requires : tie.Need-line-of-requires
-line-of-requires c κs = search needs
-
-column-of-requires : tie.Need-column-of-requires
-column-of-requires c κs = search needs
-
-slice-aggregate-field : tie.Need-slice-aggregate-field
-slice-aggregate-field c = search needs
-
-cast-field : tie.Need-cast-field
-cast-field c = search needs
-
-field-requires : tie.Need-field-requires
-field-requires c κs = search needs
-
-slice-aggregate-field-2 : tie.Need-slice-aggregate-field-2
-slice-aggregate-field-2 c = search needs
-
-cast-field-2 : tie.Need-cast-field-2
-cast-field-2 c = search needs
-
-field-requires-2 : tie.Need-field-requires-2
-field-requires-2 c κs = search needs
-
-slice-aggregate-field-3 : tie.Need-slice-aggregate-field-3
-slice-aggregate-field-3 c = search needs
-
-cast-field-3 : tie.Need-cast-field-3
-cast-field-3 c = search needs
-
-field-requires-3 : tie.Need-field-requires-3
-field-requires-3 c κs = search needs
-
-slice-aggregate-field-4 : tie.Need-slice-aggregate-field-4
-slice-aggregate-field-4 c = search needs
-
-cast-field-4 : tie.Need-cast-field-4
-cast-field-4 c = search needs
-
-field-requires-4 : tie.Need-field-requires-4
-field-requires-4 c κs = search needs
-
-slice-aggregate-field-5 : tie.Need-slice-aggregate-field-5
-slice-aggregate-field-5 c = search needs
-
-field-requires-5 : tie.Need-field-requires-5
-field-requires-5 c κs = search needs
-
-slice-aggregate-field-6 : tie.Need-slice-aggregate-field-6
-slice-aggregate-field-6 c = search needs
-
-field-requires-6 : tie.Need-field-requires-6
-field-requires-6 c κs = search needs
-
-byte-requires : tie.Need-byte-requires
-byte-requires c κs = search needs
-
 same-length : tie.Need-same-length
 same-length c =
     let byte = c .before .before .byte in
@@ -101,24 +44,24 @@ pub refused-spec : {M : Type 1} → statement M
 refused-spec =
     tie.close
     (tie.spec
-    line-of-requires
-    column-of-requires
-    slice-aggregate-field
-    cast-field
-    field-requires
-    slice-aggregate-field-2
-    cast-field-2
-    field-requires-2
-    slice-aggregate-field-3
-    cast-field-3
-    field-requires-3
-    slice-aggregate-field-4
-    cast-field-4
-    field-requires-4
-    slice-aggregate-field-5
-    field-requires-5
-    slice-aggregate-field-6
-    field-requires-6
-    byte-requires
+    (λ c κs. search needs)
+    (λ c κs. search needs)
+    (λ c. search needs)
+    (λ c. search needs)
+    (λ c κs. search needs)
+    (λ c. search needs)
+    (λ c. search needs)
+    (λ c κs. search needs)
+    (λ c. search needs)
+    (λ c. search needs)
+    (λ c κs. search needs)
+    (λ c. search needs)
+    (λ c. search needs)
+    (λ c κs. search needs)
+    (λ c. search needs)
+    (λ c κs. search needs)
+    (λ c. search needs)
+    (λ c κs. search needs)
+    (λ c κs. search needs)
     same-length
     returns)

@@ -7,19 +7,10 @@ use Rattle.printing.specs.Printing.{sinceLineFeed}
 use Rattle.printing.proofs.place.column.Statement.{statement}
 use Rattle.printing.proofs.place.column.Tie as tie
 
-part-requires : tie.Need-part-requires
-part-requires c κs = search needs
-
-since-line-feed-requires : tie.Need-since-line-feed-requires
-since-line-feed-requires c κs = search needs
-
-add-result : tie.Need-add-result
-add-result c = search needs
-
 returns : tie.Need-returns
 returns c =
     let part = c .before .part in
     add-one _ ∙ ap suc (c .since-line-feed .ensures .0 ∙ ap (sinceLineFeed 0) (part .ensures))
 
 pub column-spec : {M : Type 1} → statement M
-column-spec = tie.close (tie.spec part-requires since-line-feed-requires add-result returns)
+column-spec = tie.close (tie.spec (λ c κs. search needs) (λ c κs. search needs) (λ c. search needs) returns)

@@ -7,19 +7,10 @@ use Rattle.printing.specs.Printing.{lineFeeds}
 use Rattle.printing.proofs.place.line.Statement.{statement}
 use Rattle.printing.proofs.place.line.Tie as tie
 
-part-requires : tie.Need-part-requires
-part-requires c κs = search needs
-
-line-feeds-requires : tie.Need-line-feeds-requires
-line-feeds-requires c κs = search needs
-
-add-result : tie.Need-add-result
-add-result c = search needs
-
 returns : tie.Need-returns
 returns c =
     let part = c .before .part in
     add-one _ ∙ ap suc (c .line-feeds .ensures .0 ∙ ap lineFeeds (part .ensures))
 
 pub line-spec : {M : Type 1} → statement M
-line-spec = tie.close (tie.spec part-requires line-feeds-requires add-result returns)
+line-spec = tie.close (tie.spec (λ c κs. search needs) (λ c κs. search needs) (λ c. search needs) returns)

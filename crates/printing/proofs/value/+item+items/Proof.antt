@@ -61,31 +61,10 @@ item-claims t = (
   plain-reads.Learnt,
 )
 
-item-is-full-requires : (t : ℕ) → item-lts.Need-is-full-requires (item-claims t) (item-at t) item.Post
-item-is-full-requires t c κs = search needs
-
-item-same-length : (t : ℕ) → item-lts.Need-same-length (item-claims t) (item-at t) item.Post
-item-same-length t c = search needs
-
 item-returns : (t : ℕ) → item-lts.Need-returns (item-claims t) (item-at t) item.Post
 item-returns t c =
     let is-full = c .before .is-full in
     lays-full (sym (is-full .ensures) ∙ c .if1 .taken) _
-
-item-cell-at-requires : (t : ℕ) → item-lts.Need-cell-at-requires (item-claims t) (item-at t) item.Post
-item-cell-at-requires t c κs = search needs
-
-item-byte-requires : (t : ℕ) → item-lts.Need-byte-requires (item-claims t) (item-at t) item.Post
-item-byte-requires t c κs = search needs
-
-item-cast-number : (t : ℕ) → item-lts.Need-cast-number (item-claims t) (item-at t) item.Post
-item-cast-number t c = search needs
-
-item-number-requires : (t : ℕ) → item-lts.Need-number-requires (item-claims t) (item-at t) item.Post
-item-number-requires t c κs = search needs
-
-item-older-requires : (t : ℕ) → item-lts.Need-older-requires (item-claims t) (item-at t) item.Post
-item-older-requires t c κs = search needs
 
 item-items-requires : (t : ℕ) → item-lts.Need-items-requires (item-claims t) (item-at t) item.Post
 item-items-requires t c κs =
@@ -100,12 +79,6 @@ item-items-requires t c κs =
     let form = if2 .taken in
     let placed = cell-at .ensures .placed (λ z. omega (arith, form, z)) in
     omega (arith, older-less (args .n) (cell-at .result .b) placed, older .ensures, pre .0)
-
-item-byte-requires-2 : (t : ℕ) → item-lts.Need-byte-requires-2 (item-claims t) (item-at t) item.Post
-item-byte-requires-2 t c κs = search needs
-
-item-same-length-2 : (t : ℕ) → item-lts.Need-same-length-2 (item-claims t) (item-at t) item.Post
-item-same-length-2 t c = search needs
 
 item-returns-2 : (t : ℕ) → item-lts.Need-returns-2 (item-claims t) (item-at t) item.Post
 item-returns-2 t c =
@@ -123,12 +96,6 @@ item-returns-2 t c =
     let parts = lays-then (byte .ensures) (lays-then (number .ensures) (lays-then (items .ensures) (byte2 .ensures))) in
     lays-as parts (item-variant names (args .text .now) (args .cells .now) (args .n) _ _ _ (cell-at .ensures .is) _ (older .ensures) (if2 .taken))
 
-item-byte-requires-3 : (t : ℕ) → item-lts.Need-byte-requires-3 (item-claims t) (item-at t) item.Post
-item-byte-requires-3 t c κs = search needs
-
-item-older-requires-2 : (t : ℕ) → item-lts.Need-older-requires-2 (item-claims t) (item-at t) item.Post
-item-older-requires-2 t c κs = search needs
-
 item-items-requires-2 : (t : ℕ) → item-lts.Need-items-requires-2 (item-claims t) (item-at t) item.Post
 item-items-requires-2 t c κs =
     let older2 = c .before .older2 in
@@ -142,12 +109,6 @@ item-items-requires-2 t c κs =
     let form = if3 .taken in
     let placed = cell-at .ensures .placed (λ z. omega (arith, form, z)) in
     omega (arith, older-less (args .n) (cell-at .result .a) placed, older2 .ensures, pre .0)
-
-item-byte-requires-4 : (t : ℕ) → item-lts.Need-byte-requires-4 (item-claims t) (item-at t) item.Post
-item-byte-requires-4 t c κs = search needs
-
-item-same-length-3 : (t : ℕ) → item-lts.Need-same-length-3 (item-claims t) (item-at t) item.Post
-item-same-length-3 t c = search needs
 
 item-returns-3 : (t : ℕ) → item-lts.Need-returns-3 (item-claims t) (item-at t) item.Post
 item-returns-3 t c =
@@ -163,12 +124,6 @@ item-returns-3 t c =
     let names = bookIn (args .book .now) (args .index .now) .names in
     let parts = lays-then (byte3 .ensures) (lays-then (items2 .ensures) (byte4 .ensures)) in
     lays-as parts (item-list names (args .text .now) (args .cells .now) (args .n) _ _ _ (cell-at .ensures .is) _ (older2 .ensures) (if3 .taken))
-
-item-plain-requires : (t : ℕ) → item-lts.Need-plain-requires (item-claims t) (item-at t) item.Post
-item-plain-requires t c κs = search needs
-
-item-same-length-4 : (t : ℕ) → item-lts.Need-same-length-4 (item-claims t) (item-at t) item.Post
-item-same-length-4 t c = search needs
 
 item-returns-4 : (t : ℕ) → item-lts.Need-returns-4 (item-claims t) (item-at t) item.Post
 item-returns-4 t c =
@@ -197,22 +152,10 @@ items-claims t = (
   item.Post,
 )
 
-items-is-full-requires : (t : ℕ) → items-lts.Need-is-full-requires (items-claims t) (items-at t) items.Post
-items-is-full-requires t c κs = search needs
-
-items-same-length : (t : ℕ) → items-lts.Need-same-length (items-claims t) (items-at t) items.Post
-items-same-length t c = search needs
-
 items-returns : (t : ℕ) → items-lts.Need-returns (items-claims t) (items-at t) items.Post
 items-returns t c =
     let is-full = c .before .is-full in
     lays-full (sym (is-full .ensures) ∙ c .if1 .taken) _
-
-items-cell-at-requires : (t : ℕ) → items-lts.Need-cell-at-requires (items-claims t) (items-at t) items.Post
-items-cell-at-requires t c κs = search needs
-
-items-same-length-2 : (t : ℕ) → items-lts.Need-same-length-2 (items-claims t) (items-at t) items.Post
-items-same-length-2 t c = search needs
 
 items-returns-2 : (t : ℕ) → items-lts.Need-returns-2 (items-claims t) (items-at t) items.Post
 items-returns-2 t c =
@@ -220,9 +163,6 @@ items-returns-2 t c =
     let cell-at = c .before .before .cell-at in
     let names = bookIn (args .book .now) (args .index .now) .names in
     lays-as lays-none (items-none names (args .text .now) (args .cells .now) (args .n) _ _ _ (cell-at .ensures .is) (args .in-list) (c .if2 .taken))
-
-items-older-requires : (t : ℕ) → items-lts.Need-older-requires (items-claims t) (items-at t) items.Post
-items-older-requires t c κs = search needs
 
 items-items-requires : (t : ℕ) → items-lts.Need-items-requires (items-claims t) (items-at t) items.Post
 items-items-requires t c κs =
@@ -237,12 +177,6 @@ items-items-requires t c κs =
     let placed = cell-at .ensures .placed (λ z. omega (arith, form, z)) in
     omega (arith, older-less (args .n) (cell-at .result .a) placed, older .ensures, pre .0)
 
-items-gap-requires : (t : ℕ) → items-lts.Need-gap-requires (items-claims t) (items-at t) items.Post
-items-gap-requires t c κs = search needs
-
-items-older-requires-2 : (t : ℕ) → items-lts.Need-older-requires-2 (items-claims t) (items-at t) items.Post
-items-older-requires-2 t c κs = search needs
-
 items-item-requires : (t : ℕ) → items-lts.Need-item-requires (items-claims t) (items-at t) items.Post
 items-item-requires t c κs =
     let older2 = c .before .older2 in
@@ -256,9 +190,6 @@ items-item-requires t c κs =
     let form = if2 .left in
     let placed = cell-at .ensures .placed (λ z. omega (arith, form, z)) in
     omega (arith, older-less (args .n) (cell-at .result .b) placed, older2 .ensures, pre .0)
-
-items-same-length-3 : (t : ℕ) → items-lts.Need-same-length-3 (items-claims t) (items-at t) items.Post
-items-same-length-3 t c = search needs
 
 items-returns-3 : (t : ℕ) → items-lts.Need-returns-3 (items-claims t) (items-at t) items.Post
 items-returns-3 t c =
@@ -281,40 +212,40 @@ pub +item+items-spec : {M : Type 1} → statement M
 +item+items-spec = close μ-item μ-items (λ t. item-lts.spec (item-claims t)
     (item-at t)
     item.Post
-    (item-is-full-requires t)
-    (item-same-length t)
+    (λ c κs. search needs)
+    (λ c. search needs)
     (item-returns t)
-    (item-cell-at-requires t)
-    (item-byte-requires t)
-    (item-cast-number t)
-    (item-number-requires t)
-    (item-older-requires t)
+    (λ c κs. search needs)
+    (λ c κs. search needs)
+    (λ c. search needs)
+    (λ c κs. search needs)
+    (λ c κs. search needs)
     (item-items-requires t)
-    (item-byte-requires-2 t)
-    (item-same-length-2 t)
+    (λ c κs. search needs)
+    (λ c. search needs)
     (item-returns-2 t)
-    (item-byte-requires-3 t)
-    (item-older-requires-2 t)
+    (λ c κs. search needs)
+    (λ c κs. search needs)
     (item-items-requires-2 t)
-    (item-byte-requires-4 t)
-    (item-same-length-3 t)
+    (λ c κs. search needs)
+    (λ c. search needs)
     (item-returns-3 t)
-    (item-plain-requires t)
-    (item-same-length-4 t)
+    (λ c κs. search needs)
+    (λ c. search needs)
     (item-returns-4 t))
     λ t. items-lts.spec (items-claims t)
     (items-at t)
     items.Post
-    (items-is-full-requires t)
-    (items-same-length t)
+    (λ c κs. search needs)
+    (λ c. search needs)
     (items-returns t)
-    (items-cell-at-requires t)
-    (items-same-length-2 t)
+    (λ c κs. search needs)
+    (λ c. search needs)
     (items-returns-2 t)
-    (items-older-requires t)
+    (λ c κs. search needs)
     (items-items-requires t)
-    (items-gap-requires t)
-    (items-older-requires-2 t)
+    (λ c κs. search needs)
+    (λ c κs. search needs)
     (items-item-requires t)
-    (items-same-length-3 t)
+    (λ c. search needs)
     (items-returns-3 t)

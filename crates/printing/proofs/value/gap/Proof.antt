@@ -7,9 +7,6 @@ use Rattle.printing.specs.LayingLaws.{lays-none, lays-as}
 use Rattle.printing.proofs.value.gap.Statement.{statement}
 use Rattle.printing.proofs.value.gap.Tie as tie
 
-cell-at-requires : tie.Need-cell-at-requires
-cell-at-requires c κs = search needs
-
 returns : tie.Need-returns
 returns c =
     let args = c .before .before .before .before .before .before .args in
@@ -17,12 +14,6 @@ returns c =
     let cell-at = c .before .before .cell-at in
     let first = gap-first (args .cells .now) (args .chain) _ _ _ (cell-at .ensures .is) (c .if2 .taken) in
     lays-as (lays-none) (sym (rw (if1 .taken) first))
-
-byte-requires : tie.Need-byte-requires
-byte-requires c κs = search needs
-
-same-length : tie.Need-same-length
-same-length c = search needs
 
 returns-2 : tie.Need-returns-2
 returns-2 c =
@@ -35,4 +26,4 @@ returns-2 c =
     (if1 .came)
 
 pub gap-spec : {M : Type 1} → statement M
-gap-spec = tie.close (tie.spec cell-at-requires returns byte-requires same-length returns-2)
+gap-spec = tie.close (tie.spec (λ c κs. search needs) returns (λ c κs. search needs) (λ c. search needs) returns-2)

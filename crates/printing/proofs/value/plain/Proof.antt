@@ -9,24 +9,6 @@ use Rattle.printing.specs.CellLaws.{plain-number, plain-name, plain-vari
 use Rattle.printing.proofs.value.plain.Statement.{statement}
 use Rattle.printing.proofs.value.plain.Tie as tie
 
-cast-number : tie.Need-cast-number
-cast-number c = search needs
-
-mul-number : tie.Need-mul-number
-mul-number c = search needs
-
-cast-number-2 : tie.Need-cast-number-2
-cast-number-2 c = search needs
-
-add-number : tie.Need-add-number
-add-number c = search needs
-
-number-requires : tie.Need-number-requires
-number-requires c κs = search needs
-
-same-length : tie.Need-same-length
-same-length c = search needs
-
 returns : tie.Need-returns
 returns c =
     let args = c .before .before .before .before .before .before .before .before .before .before .before .before .args in
@@ -35,15 +17,6 @@ returns c =
     let cell = args .cell in
     let names = bookIn (args .book .now) (args .index .now) .names in
     lays-as (number .ensures) (sym (plain-number names (args .text .now) (cell .form) (cell .a) (cell .b) (if1 .taken)))
-
-spelling-requires : tie.Need-spelling-requires
-spelling-requires c κs = search needs
-
-bytes-requires : tie.Need-bytes-requires
-bytes-requires c κs = search needs
-
-same-length-2 : tie.Need-same-length-2
-same-length-2 c = search needs
 
 returns-2 : tie.Need-returns-2
 returns-2 c =
@@ -55,18 +28,6 @@ returns-2 c =
     let cell = args .cell in
     let names = bookIn (args .book .now) (args .index .now) .names in
     lays-as (bytes .ensures) (spelling .ensures ∙ sym (plain-name names (args .text .now) (cell .form) (cell .a) (cell .b) (if2 .taken)))
-
-byte-requires : tie.Need-byte-requires
-byte-requires c κs = search needs
-
-spelling-requires-2 : tie.Need-spelling-requires-2
-spelling-requires-2 c κs = search needs
-
-bytes-requires-2 : tie.Need-bytes-requires-2
-bytes-requires-2 c κs = search needs
-
-same-length-3 : tie.Need-same-length-3
-same-length-3 c = search needs
 
 returns-3 : tie.Need-returns-3
 returns-3 c =
@@ -80,12 +41,6 @@ returns-3 c =
     let names = bookIn (args .book .now) (args .index .now) .names in
     let is = ap (λ (l : List ℕ). 36 ∷ l) (spelling2 .ensures) ∙ sym (plain-variable names (args .text .now) (cell .form) (cell .a) (cell .b) (if3 .taken)) in
     lays-as (lays-then (byte .ensures) (bytes2 .ensures)) is
-
-byte-requires-2 : tie.Need-byte-requires-2
-byte-requires-2 c κs = search needs
-
-same-length-4 : tie.Need-same-length-4
-same-length-4 c = search needs
 
 returns-4 : tie.Need-returns-4
 returns-4 c =
@@ -103,22 +58,22 @@ pub plain-spec : {M : Type 1} → statement M
 plain-spec =
     tie.close
     (tie.spec
-    cast-number
-    mul-number
-    cast-number-2
-    add-number
-    number-requires
-    same-length
+    (λ c. search needs)
+    (λ c. search needs)
+    (λ c. search needs)
+    (λ c. search needs)
+    (λ c κs. search needs)
+    (λ c. search needs)
     returns
-    spelling-requires
-    bytes-requires
-    same-length-2
+    (λ c κs. search needs)
+    (λ c κs. search needs)
+    (λ c. search needs)
     returns-2
-    byte-requires
-    spelling-requires-2
-    bytes-requires-2
-    same-length-3
+    (λ c κs. search needs)
+    (λ c κs. search needs)
+    (λ c κs. search needs)
+    (λ c. search needs)
     returns-3
-    byte-requires-2
-    same-length-4
+    (λ c κs. search needs)
+    (λ c. search needs)
     returns-4)

@@ -3,24 +3,6 @@ use borrow.Author.Needs.{needs}
 use Rattle.run.proofs.reader.by_values.Statement.{statement}
 use Rattle.run.proofs.reader.by_values.Tie as tie
 
-enum-told : tie.Need-enum-told
-enum-told c = search needs
-
-at-end-requires : tie.Need-at-end-requires
-at-end-requires c κs = search needs
-
-enum-known-values : tie.Need-enum-known-values
-enum-known-values c = search needs
-
-at-end-requires-2 : tie.Need-at-end-requires-2
-at-end-requires-2 c κs = search needs
-
-enum-told-2 : tie.Need-enum-told-2
-enum-told-2 c = search needs
-
-at-end-requires-3 : tie.Need-at-end-requires-3
-at-end-requires-3 c κs = search needs
-
 returns : tie.Need-returns
 returns c =
     let enum-told = c .before .enum-told in
@@ -40,12 +22,12 @@ pub by-values-spec : {M : Type 1} → statement M
 by-values-spec =
     tie.close
     (tie.spec
-    enum-told
-    at-end-requires
-    enum-known-values
-    at-end-requires-2
-    enum-told-2
-    at-end-requires-3
+    (λ c. search needs)
+    (λ c κs. search needs)
+    (λ c. search needs)
+    (λ c κs. search needs)
+    (λ c. search needs)
+    (λ c κs. search needs)
     returns
     returns-2
     returns-3)

@@ -7,26 +7,11 @@ use Rattle.run.specs.ReadingLaws.{run-is}
 use Rattle.run.proofs.reader.run.Statement.{statement}
 use Rattle.run.proofs.reader.run.Tie as tie
 
-clear-requires : tie.Need-clear-requires
-clear-requires c κs = search needs
-
-skip-requires : tie.Need-skip-requires
-skip-requires c κs = search needs
-
 cast-first : tie.Need-cast-first
 cast-first c =
     let args = c .before .before .before .before .before .before .before .before .before .before .args in
     let pre = c .before .before .before .before .before .before .before .before .before .before .pre in
     omega (arith, c .skip .ensures, skip-fits (args .text .now) 0 (pre .2 .short) (omega arith))
-
-enter-requires : tie.Need-enter-requires
-enter-requires c κs = search needs
-
-same-length : tie.Need-same-length
-same-length c = search needs
-
-same-length-2 : tie.Need-same-length-2
-same-length-2 c = search needs
 
 returns : tie.Need-returns
 returns c =
@@ -41,10 +26,10 @@ pub run-spec : {M : Type 1} → statement M
 run-spec =
     tie.close
     (tie.spec
-    clear-requires
-    skip-requires
+    (λ c κs. search needs)
+    (λ c κs. search needs)
     cast-first
-    enter-requires
-    same-length
-    same-length-2
+    (λ c κs. search needs)
+    (λ c. search needs)
+    (λ c. search needs)
     returns)

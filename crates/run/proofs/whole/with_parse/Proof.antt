@@ -4,12 +4,6 @@ use borrow.Author.Needs.{needs}
 use Rattle.run.proofs.whole.with_parse.Statement.{statement}
 use Rattle.run.proofs.whole.with_parse.Tie as tie
 
-whole-requires : tie.Need-whole-requires
-whole-requires c κs = search needs
-
-with-value-requires : tie.Need-with-value-requires
-with-value-requires c κs = search needs
-
 returns : tie.Need-returns
 returns c =
     let whole = c .before .before .whole in
@@ -22,4 +16,4 @@ returns-2 c =
     rw (sym (whole .ensures) ∙ c .if1 .left)
 
 pub with-parse-spec : {M : Type 1} → statement M
-with-parse-spec = tie.close (tie.spec whole-requires with-value-requires returns returns-2)
+with-parse-spec = tie.close (tie.spec (λ c κs. search needs) (λ c κs. search needs) returns returns-2)

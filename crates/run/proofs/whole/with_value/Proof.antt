@@ -5,15 +5,6 @@ use Rattle.run.specs.Reading.{withValue}
 use Rattle.run.proofs.whole.with_value.Statement.{statement}
 use Rattle.run.proofs.whole.with_value.Tie as tie
 
-enum-told : tie.Need-enum-told
-enum-told c = search needs
-
-enum-known-values : tie.Need-enum-known-values
-enum-known-values c = search needs
-
-enum-told-2 : tie.Need-enum-told-2
-enum-told-2 c = search needs
-
 returns : tie.Need-returns
 unfolding withValue
 returns c = rw (c .enum-told .given .1)
@@ -37,4 +28,4 @@ returns-4 c = rw (c .enum-told2 .given .1)
 pub with-value-spec : {M : Type 1} → statement M
 with-value-spec =
     tie.close
-    (tie.spec enum-told enum-known-values enum-told-2 returns returns-2 returns-3 returns-4)
+    (tie.spec (λ c. search needs) (λ c. search needs) (λ c. search needs) returns returns-2 returns-3 returns-4)

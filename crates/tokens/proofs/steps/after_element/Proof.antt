@@ -13,18 +13,6 @@ returns c =
     let args = c .before .before .args in
     rw (not-true (args .comma) (c .if1 .taken))
 
-character-end-requires : tie.Need-character-end-requires
-character-end-requires c κs = search needs
-
-enum-known-end : tie.Need-enum-known-end
-enum-known-end c = search needs
-
-enum-told : tie.Need-enum-told
-enum-told c = search needs
-
-skip-requires : tie.Need-skip-requires
-skip-requires c κs = search needs
-
 returns-2 : tie.Need-returns-2
 unfolding afterElement
 returns-2 c =
@@ -46,9 +34,9 @@ after-element-spec =
     tie.close
     (tie.spec
     returns
-    character-end-requires
-    enum-known-end
-    enum-told
-    skip-requires
+    (λ c κs. search needs)
+    (λ c. search needs)
+    (λ c. search needs)
+    (λ c κs. search needs)
     returns-2
     returns-3)

@@ -6,23 +6,11 @@ use Rattle.tokens.specs.Maps.{endOf}
 use Rattle.tokens.proofs.steps.character.Statement.{statement}
 use Rattle.tokens.proofs.steps.character.Tie as tie
 
-character-end-requires : tie.Need-character-end-requires
-character-end-requires c κs = search needs
-
-enum-known-end : tie.Need-enum-known-end
-enum-known-end c = search needs
-
-enum-told : tie.Need-enum-told
-enum-told c = search needs
-
 returns : tie.Need-returns
 unfolding stepAt
 returns c =
     let character-end = c .before .before .character-end in
     λ book. rw (sym (character-end .ensures) ∙ ap endOf (c .enum-told .given .1), stepAt)
-
-bare-requires : tie.Need-bare-requires
-bare-requires c κs = search needs
 
 returns-2 : tie.Need-returns-2
 unfolding stepAt
@@ -34,4 +22,4 @@ returns-2 c =
 pub character-spec : {M : Type 1} → statement M
 character-spec =
     tie.close
-    (tie.spec character-end-requires enum-known-end enum-told returns bare-requires returns-2)
+    (tie.spec (λ c κs. search needs) (λ c. search needs) (λ c. search needs) returns (λ c κs. search needs) returns-2)

@@ -4,18 +4,6 @@ use Rattle.semantics.specs.Run.{closingOf}
 use Rattle.tokens.proofs.steps.closing_error.Statement.{statement}
 use Rattle.tokens.proofs.steps.closing_error.Tie as tie
 
-enum-known-closing : tie.Need-enum-known-closing
-enum-known-closing c = search needs
-
-error-at-requires : tie.Need-error-at-requires
-error-at-requires c κs = search needs
-
-enum-told : tie.Need-enum-told
-enum-told c = search needs
-
-error-at-requires-2 : tie.Need-error-at-requires-2
-error-at-requires-2 c κs = search needs
-
 returns : tie.Need-returns
 unfolding closingOf
 returns c = rw (c .before .before .closing .given .1) (c .error-at .ensures)
@@ -26,4 +14,4 @@ returns-2 c = rw (c .before .enum-told .given .1) (c .error-at2 .ensures)
 
 pub closing-error-spec : {M : Type 1} → statement M
 closing-error-spec =
-    tie.close (tie.spec enum-known-closing error-at-requires enum-told error-at-requires-2 returns returns-2)
+    tie.close (tie.spec (λ c. search needs) (λ c κs. search needs) (λ c. search needs) (λ c κs. search needs) returns returns-2)

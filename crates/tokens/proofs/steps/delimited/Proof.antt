@@ -6,15 +6,6 @@ use Rattle.tokens.specs.Maps.{endOf}
 use Rattle.tokens.proofs.steps.delimited.Statement.{statement}
 use Rattle.tokens.proofs.steps.delimited.Tie as tie
 
-character-end-requires : tie.Need-character-end-requires
-character-end-requires c κs = search needs
-
-enum-known-place : tie.Need-enum-known-place
-enum-known-place c = search needs
-
-enum-told : tie.Need-enum-told
-enum-told c = search needs
-
 returns : tie.Need-returns
 unfolding stepAt
 returns c =
@@ -29,4 +20,4 @@ returns-2 c =
 
 pub delimited-spec : {M : Type 1} → statement M
 delimited-spec =
-    tie.close (tie.spec character-end-requires enum-known-place enum-told returns returns-2)
+    tie.close (tie.spec (λ c κs. search needs) (λ c. search needs) (λ c. search needs) returns returns-2)

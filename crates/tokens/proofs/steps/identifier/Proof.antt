@@ -6,27 +6,12 @@ use Rattle.tokens.specs.Maps.{endOf}
 use Rattle.tokens.proofs.steps.identifier.Statement.{statement}
 use Rattle.tokens.proofs.steps.identifier.Tie as tie
 
-skip-requires : tie.Need-skip-requires
-skip-requires c κs = search needs
-
-free-end-requires : tie.Need-free-end-requires
-free-end-requires c κs = search needs
-
-enum-known-end : tie.Need-enum-known-end
-enum-known-end c = search needs
-
-enum-told : tie.Need-enum-told
-enum-told c = search needs
-
 returns : tie.Need-returns
 unfolding stepAt
 returns c =
     let skip = c .before .before .before .skip in
     let free-end = c .before .before .free-end in
     rw (sym (skip .ensures), sym (free-end .ensures) ∙ ap endOf (c .enum-told .given .1), stepAt)
-
-length-requires : tie.Need-length-requires
-length-requires c κs = search needs
 
 returns-2 : tie.Need-returns-2
 unfolding stepAt
@@ -40,10 +25,10 @@ pub identifier-spec : {M : Type 1} → statement M
 identifier-spec =
     tie.close
     (tie.spec
-    skip-requires
-    free-end-requires
-    enum-known-end
-    enum-told
+    (λ c κs. search needs)
+    (λ c κs. search needs)
+    (λ c. search needs)
+    (λ c. search needs)
     returns
-    length-requires
+    (λ c κs. search needs)
     returns-2)

@@ -7,18 +7,9 @@ use Rattle.tokens.specs.Maps.{endOf}
 use Rattle.tokens.proofs.steps.identifier_error.Statement.{statement}
 use Rattle.tokens.proofs.steps.identifier_error.Tie as tie
 
-error-at-requires : tie.Need-error-at-requires
-error-at-requires c κs = search needs
-
 returns : tie.Need-returns
 unfolding identifierError
 returns c = rw (eq-eqb _ _ (c .before .if1 .taken)) (c .error-at .ensures)
-
-reserved-at-requires : tie.Need-reserved-at-requires
-reserved-at-requires c κs = search needs
-
-error-at-requires-2 : tie.Need-error-at-requires-2
-error-at-requires-2 c κs = search needs
 
 returns-2 : tie.Need-returns-2
 unfolding identifierError
@@ -26,18 +17,6 @@ returns-2 c =
     let if1 = c .before .before .before .if1 in
     let reserved-at = c .before .before .reserved-at in
     rw (ne-eqb _ _ (if1 .left), sym (reserved-at .ensures) ∙ c .before .if2 .taken) (c .error-at2 .ensures)
-
-identifier-end-requires : tie.Need-identifier-end-requires
-identifier-end-requires c κs = search needs
-
-enum-told : tie.Need-enum-told
-enum-told c = search needs
-
-enum-told-2 : tie.Need-enum-told-2
-enum-told-2 c = search needs
-
-error-at-requires-3 : tie.Need-error-at-requires-3
-error-at-requires-3 c κs = search needs
 
 returns-3 : tie.Need-returns-3
 unfolding identifierError
@@ -63,14 +42,14 @@ pub identifier-error-spec : {M : Type 1} → statement M
 identifier-error-spec =
     tie.close
     (tie.spec
-    error-at-requires
+    (λ c κs. search needs)
     returns
-    reserved-at-requires
-    error-at-requires-2
+    (λ c κs. search needs)
+    (λ c κs. search needs)
     returns-2
-    identifier-end-requires
-    enum-told
-    enum-told-2
-    error-at-requires-3
+    (λ c κs. search needs)
+    (λ c. search needs)
+    (λ c. search needs)
+    (λ c κs. search needs)
     returns-3
     returns-4)

@@ -6,21 +6,6 @@ use Rattle.tokens.specs.Maps.{variableOf}
 use Rattle.tokens.proofs.steps.kind_error.Statement.{statement}
 use Rattle.tokens.proofs.steps.kind_error.Tie as tie
 
-variable-at-requires : tie.Need-variable-at-requires
-variable-at-requires c κs = search needs
-
-enum-told : tie.Need-enum-told
-enum-told c = search needs
-
-error-at-requires : tie.Need-error-at-requires
-error-at-requires c κs = search needs
-
-enum-told-2 : tie.Need-enum-told-2
-enum-told-2 c = search needs
-
-error-at-requires-2 : tie.Need-error-at-requires-2
-error-at-requires-2 c κs = search needs
-
 returns : tie.Need-returns
 unfolding isSome
 returns c =
@@ -37,10 +22,10 @@ pub kind-error-spec : {M : Type 1} → statement M
 kind-error-spec =
     tie.close
     (tie.spec
-    variable-at-requires
-    enum-told
-    error-at-requires
-    enum-told-2
-    error-at-requires-2
+    (λ c κs. search needs)
+    (λ c. search needs)
+    (λ c κs. search needs)
+    (λ c. search needs)
+    (λ c κs. search needs)
     returns
     returns-2)

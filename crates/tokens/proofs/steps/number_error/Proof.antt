@@ -6,33 +6,9 @@ use Rattle.semantics.specs.Errors.{stepError}
 use Rattle.tokens.proofs.steps.number_error.Statement.{statement}
 use Rattle.tokens.proofs.steps.number_error.Tie as tie
 
-error-at-requires : tie.Need-error-at-requires
-error-at-requires c κs = search needs
-
 returns : tie.Need-returns
 unfolding stepError
 returns c = λ book. rw (eq-eqb _ _ (c .before .if1 .taken)) (c .error-at .ensures)
-
-number-at-requires : tie.Need-number-at-requires
-number-at-requires c κs = search needs
-
-enum-told : tie.Need-enum-told
-enum-told c = search needs
-
-error-at-requires-2 : tie.Need-error-at-requires-2
-error-at-requires-2 c κs = search needs
-
-enum-told-2 : tie.Need-enum-told-2
-enum-told-2 c = search needs
-
-error-at-requires-3 : tie.Need-error-at-requires-3
-error-at-requires-3 c κs = search needs
-
-enum-told-3 : tie.Need-enum-told-3
-enum-told-3 c = search needs
-
-error-at-requires-4 : tie.Need-error-at-requires-4
-error-at-requires-4 c κs = search needs
 
 returns-2 : tie.Need-returns-2
 unfolding stepError
@@ -59,15 +35,15 @@ pub number-error-spec : {M : Type 1} → statement M
 number-error-spec =
     tie.close
     (tie.spec
-    error-at-requires
+    (λ c κs. search needs)
     returns
-    number-at-requires
-    enum-told
-    error-at-requires-2
-    enum-told-2
-    error-at-requires-3
-    enum-told-3
-    error-at-requires-4
+    (λ c κs. search needs)
+    (λ c. search needs)
+    (λ c κs. search needs)
+    (λ c. search needs)
+    (λ c κs. search needs)
+    (λ c. search needs)
+    (λ c κs. search needs)
     returns-2
     returns-3
     returns-4)

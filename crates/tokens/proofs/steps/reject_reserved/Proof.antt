@@ -5,15 +5,6 @@ use Rattle.semantics.specs.Steps.{stepAt}
 use Rattle.tokens.proofs.steps.reject_reserved.Statement.{statement}
 use Rattle.tokens.proofs.steps.reject_reserved.Tie as tie
 
-skip-requires : tie.Need-skip-requires
-skip-requires c κs = search needs
-
-reserved-at-requires : tie.Need-reserved-at-requires
-reserved-at-requires c κs = search needs
-
-bare-requires : tie.Need-bare-requires
-bare-requires c κs = search needs
-
 returns : tie.Need-returns
 unfolding stepAt
 returns c =
@@ -29,4 +20,4 @@ returns-2 c =
 
 pub reject-reserved-spec : {M : Type 1} → statement M
 reject-reserved-spec =
-    tie.close (tie.spec skip-requires reserved-at-requires bare-requires returns returns-2)
+    tie.close (tie.spec (λ c κs. search needs) (λ c κs. search needs) (λ c κs. search needs) returns returns-2)

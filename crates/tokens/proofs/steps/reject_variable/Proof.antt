@@ -6,21 +6,6 @@ use Rattle.tokens.specs.Maps.{variableOf}
 use Rattle.tokens.proofs.steps.reject_variable.Statement.{statement}
 use Rattle.tokens.proofs.steps.reject_variable.Tie as tie
 
-skip-requires : tie.Need-skip-requires
-skip-requires c κs = search needs
-
-variable-at-requires : tie.Need-variable-at-requires
-variable-at-requires c κs = search needs
-
-enum-told : tie.Need-enum-told
-enum-told c = search needs
-
-enum-told-2 : tie.Need-enum-told-2
-enum-told-2 c = search needs
-
-bare-requires : tie.Need-bare-requires
-bare-requires c κs = search needs
-
 returns : tie.Need-returns
 unfolding stepAt
 returns c =
@@ -39,10 +24,10 @@ pub reject-variable-spec : {M : Type 1} → statement M
 reject-variable-spec =
     tie.close
     (tie.spec
-    skip-requires
-    variable-at-requires
-    enum-told
-    enum-told-2
-    bare-requires
+    (λ c κs. search needs)
+    (λ c κs. search needs)
+    (λ c. search needs)
+    (λ c. search needs)
+    (λ c κs. search needs)
     returns
     returns-2)

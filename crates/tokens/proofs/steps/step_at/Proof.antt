@@ -4,78 +4,6 @@ use Rattle.semantics.specs.Steps.{stepAt}
 use Rattle.tokens.proofs.steps.step_at.Statement.{statement}
 use Rattle.tokens.proofs.steps.step_at.Tie as tie
 
-enum-known-step : tie.Need-enum-known-step
-enum-known-step c = search needs
-
-character-requires : tie.Need-character-requires
-character-requires c κs = search needs
-
-enum-known-step-2 : tie.Need-enum-known-step-2
-enum-known-step-2 c = search needs
-
-word-at-requires : tie.Need-word-at-requires
-word-at-requires c κs = search needs
-
-enum-told : tie.Need-enum-told
-enum-told c = search needs
-
-identifier-requires : tie.Need-identifier-requires
-identifier-requires c κs = search needs
-
-enum-told-2 : tie.Need-enum-told-2
-enum-told-2 c = search needs
-
-number-requires : tie.Need-number-requires
-number-requires c κs = search needs
-
-enum-told-3 : tie.Need-enum-told-3
-enum-told-3 c = search needs
-
-variable-requires : tie.Need-variable-requires
-variable-requires c κs = search needs
-
-enum-known-step-3 : tie.Need-enum-known-step-3
-enum-known-step-3 c = search needs
-
-variable-of-kind-requires : tie.Need-variable-of-kind-requires
-variable-of-kind-requires c κs = search needs
-
-enum-told-4 : tie.Need-enum-told-4
-enum-told-4 c = search needs
-
-reject-variable-requires : tie.Need-reject-variable-requires
-reject-variable-requires c κs = search needs
-
-enum-told-5 : tie.Need-enum-told-5
-enum-told-5 c = search needs
-
-reject-reserved-requires : tie.Need-reject-reserved-requires
-reject-reserved-requires c κs = search needs
-
-enum-known-step-4 : tie.Need-enum-known-step-4
-enum-known-step-4 c = search needs
-
-enum-known-step-5 : tie.Need-enum-known-step-5
-enum-known-step-5 c = search needs
-
-enum-known-step-6 : tie.Need-enum-known-step-6
-enum-known-step-6 c = search needs
-
-enum-known-step-7 : tie.Need-enum-known-step-7
-enum-known-step-7 c = search needs
-
-enum-known-step-8 : tie.Need-enum-known-step-8
-enum-known-step-8 c = search needs
-
-delimited-requires : tie.Need-delimited-requires
-delimited-requires c κs = search needs
-
-enum-known-step-9 : tie.Need-enum-known-step-9
-enum-known-step-9 c = search needs
-
-optional-delimited-requires : tie.Need-optional-delimited-requires
-optional-delimited-requires c κs = search needs
-
 returns : tie.Need-returns
 returns c =
     let step = c .before .before .step in
@@ -136,30 +64,30 @@ pub step-at-spec : {M : Type 1} → statement M
 step-at-spec =
     tie.close
     (tie.spec
-    enum-known-step
-    character-requires
-    enum-known-step-2
-    word-at-requires
-    enum-told
-    identifier-requires
-    enum-told-2
-    number-requires
-    enum-told-3
-    variable-requires
-    enum-known-step-3
-    variable-of-kind-requires
-    enum-told-4
-    reject-variable-requires
-    enum-told-5
-    reject-reserved-requires
-    enum-known-step-4
-    enum-known-step-5
-    enum-known-step-6
-    enum-known-step-7
-    enum-known-step-8
-    delimited-requires
-    enum-known-step-9
-    optional-delimited-requires
+    (λ c. search needs)
+    (λ c κs. search needs)
+    (λ c. search needs)
+    (λ c κs. search needs)
+    (λ c. search needs)
+    (λ c κs. search needs)
+    (λ c. search needs)
+    (λ c κs. search needs)
+    (λ c. search needs)
+    (λ c κs. search needs)
+    (λ c. search needs)
+    (λ c κs. search needs)
+    (λ c. search needs)
+    (λ c κs. search needs)
+    (λ c. search needs)
+    (λ c κs. search needs)
+    (λ c. search needs)
+    (λ c. search needs)
+    (λ c. search needs)
+    (λ c. search needs)
+    (λ c. search needs)
+    (λ c κs. search needs)
+    (λ c. search needs)
+    (λ c κs. search needs)
     returns
     returns-2
     returns-3

@@ -5,99 +5,6 @@ use Rattle.semantics.specs.Errors.{identifierError, stepError}
 use Rattle.tokens.proofs.steps.step_error.Statement.{statement}
 use Rattle.tokens.proofs.steps.step_error.Tie as tie
 
-enum-known-step : tie.Need-enum-known-step
-enum-known-step c = search needs
-
-error-at-requires : tie.Need-error-at-requires
-error-at-requires c κs = search needs
-
-enum-known-step-2 : tie.Need-enum-known-step-2
-enum-known-step-2 c = search needs
-
-error-at-requires-2 : tie.Need-error-at-requires-2
-error-at-requires-2 c κs = search needs
-
-enum-told : tie.Need-enum-told
-enum-told c = search needs
-
-error-at-requires-3 : tie.Need-error-at-requires-3
-error-at-requires-3 c κs = search needs
-
-identifier-error-requires : tie.Need-identifier-error-requires
-identifier-error-requires c κs = search needs
-
-enum-told-2 : tie.Need-enum-told-2
-enum-told-2 c = search needs
-
-number-error-requires : tie.Need-number-error-requires
-number-error-requires c κs = search needs
-
-enum-told-3 : tie.Need-enum-told-3
-enum-told-3 c = search needs
-
-error-at-requires-4 : tie.Need-error-at-requires-4
-error-at-requires-4 c κs = search needs
-
-identifier-error-requires-2 : tie.Need-identifier-error-requires-2
-identifier-error-requires-2 c κs = search needs
-
-enum-known-step-3 : tie.Need-enum-known-step-3
-enum-known-step-3 c = search needs
-
-kind-error-requires : tie.Need-kind-error-requires
-kind-error-requires c κs = search needs
-
-identifier-error-requires-3 : tie.Need-identifier-error-requires-3
-identifier-error-requires-3 c κs = search needs
-
-enum-told-4 : tie.Need-enum-told-4
-enum-told-4 c = search needs
-
-error-at-requires-5 : tie.Need-error-at-requires-5
-error-at-requires-5 c κs = search needs
-
-enum-told-5 : tie.Need-enum-told-5
-enum-told-5 c = search needs
-
-error-at-requires-6 : tie.Need-error-at-requires-6
-error-at-requires-6 c κs = search needs
-
-enum-known-step-4 : tie.Need-enum-known-step-4
-enum-known-step-4 c = search needs
-
-error-at-requires-7 : tie.Need-error-at-requires-7
-error-at-requires-7 c κs = search needs
-
-enum-known-step-5 : tie.Need-enum-known-step-5
-enum-known-step-5 c = search needs
-
-error-at-requires-8 : tie.Need-error-at-requires-8
-error-at-requires-8 c κs = search needs
-
-enum-known-step-6 : tie.Need-enum-known-step-6
-enum-known-step-6 c = search needs
-
-error-at-requires-9 : tie.Need-error-at-requires-9
-error-at-requires-9 c κs = search needs
-
-enum-known-step-7 : tie.Need-enum-known-step-7
-enum-known-step-7 c = search needs
-
-error-at-requires-10 : tie.Need-error-at-requires-10
-error-at-requires-10 c κs = search needs
-
-enum-known-step-8 : tie.Need-enum-known-step-8
-enum-known-step-8 c = search needs
-
-error-at-requires-11 : tie.Need-error-at-requires-11
-error-at-requires-11 c κs = search needs
-
-enum-known-step-9 : tie.Need-enum-known-step-9
-enum-known-step-9 c = search needs
-
-error-at-requires-12 : tie.Need-error-at-requires-12
-error-at-requires-12 c κs = search needs
-
 returns : tie.Need-returns
 unfolding stepError
 returns c =
@@ -179,37 +86,37 @@ pub step-error-spec : {M : Type 1} → statement M
 step-error-spec =
     tie.close
     (tie.spec
-    enum-known-step
-    error-at-requires
-    enum-known-step-2
-    error-at-requires-2
-    enum-told
-    error-at-requires-3
-    identifier-error-requires
-    enum-told-2
-    number-error-requires
-    enum-told-3
-    error-at-requires-4
-    identifier-error-requires-2
-    enum-known-step-3
-    kind-error-requires
-    identifier-error-requires-3
-    enum-told-4
-    error-at-requires-5
-    enum-told-5
-    error-at-requires-6
-    enum-known-step-4
-    error-at-requires-7
-    enum-known-step-5
-    error-at-requires-8
-    enum-known-step-6
-    error-at-requires-9
-    enum-known-step-7
-    error-at-requires-10
-    enum-known-step-8
-    error-at-requires-11
-    enum-known-step-9
-    error-at-requires-12
+    (λ c. search needs)
+    (λ c κs. search needs)
+    (λ c. search needs)
+    (λ c κs. search needs)
+    (λ c. search needs)
+    (λ c κs. search needs)
+    (λ c κs. search needs)
+    (λ c. search needs)
+    (λ c κs. search needs)
+    (λ c. search needs)
+    (λ c κs. search needs)
+    (λ c κs. search needs)
+    (λ c. search needs)
+    (λ c κs. search needs)
+    (λ c κs. search needs)
+    (λ c. search needs)
+    (λ c κs. search needs)
+    (λ c. search needs)
+    (λ c κs. search needs)
+    (λ c. search needs)
+    (λ c κs. search needs)
+    (λ c. search needs)
+    (λ c κs. search needs)
+    (λ c. search needs)
+    (λ c κs. search needs)
+    (λ c. search needs)
+    (λ c κs. search needs)
+    (λ c. search needs)
+    (λ c κs. search needs)
+    (λ c. search needs)
+    (λ c κs. search needs)
     returns
     returns-2
     returns-3

@@ -6,18 +6,6 @@ use Rattle.tokens.specs.Maps.{variableOf}
 use Rattle.tokens.proofs.steps.variable.Statement.{statement}
 use Rattle.tokens.proofs.steps.variable.Tie as tie
 
-skip-requires : tie.Need-skip-requires
-skip-requires c κs = search needs
-
-variable-at-requires : tie.Need-variable-at-requires
-variable-at-requires c κs = search needs
-
-enum-known-end : tie.Need-enum-known-end
-enum-known-end c = search needs
-
-enum-told : tie.Need-enum-told
-enum-told c = search needs
-
 returns : tie.Need-returns
 unfolding stepAt
 returns c =
@@ -35,4 +23,4 @@ returns-2 c =
 pub variable-spec : {M : Type 1} → statement M
 variable-spec =
     tie.close
-    (tie.spec skip-requires variable-at-requires enum-known-end enum-told returns returns-2)
+    (tie.spec (λ c κs. search needs) (λ c κs. search needs) (λ c. search needs) (λ c. search needs) returns returns-2)

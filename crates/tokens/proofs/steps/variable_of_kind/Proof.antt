@@ -7,18 +7,6 @@ use Rattle.tokens.specs.Maps.{variableOf}
 use Rattle.tokens.proofs.steps.variable_of_kind.Statement.{statement}
 use Rattle.tokens.proofs.steps.variable_of_kind.Tie as tie
 
-skip-requires : tie.Need-skip-requires
-skip-requires c κs = search needs
-
-variable-at-requires : tie.Need-variable-at-requires
-variable-at-requires c κs = search needs
-
-enum-known-end : tie.Need-enum-known-end
-enum-known-end c = search needs
-
-enum-told : tie.Need-enum-told
-enum-told c = search needs
-
 returns : tie.Need-returns
 unfolding stepAt
 returns c =
@@ -48,10 +36,10 @@ pub variable-of-kind-spec : {M : Type 1} → statement M
 variable-of-kind-spec =
     tie.close
     (tie.spec
-    skip-requires
-    variable-at-requires
-    enum-known-end
-    enum-told
+    (λ c κs. search needs)
+    (λ c κs. search needs)
+    (λ c. search needs)
+    (λ c. search needs)
     returns
     returns-2
     returns-3)

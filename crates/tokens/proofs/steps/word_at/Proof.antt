@@ -6,39 +6,12 @@ use Rattle.tokens.specs.Maps.{endOf}
 use Rattle.tokens.proofs.steps.word_at.Statement.{statement}
 use Rattle.tokens.proofs.steps.word_at.Tie as tie
 
-skip-requires : tie.Need-skip-requires
-skip-requires c κs = search needs
-
-identifier-end-requires : tie.Need-identifier-end-requires
-identifier-end-requires c κs = search needs
-
-enum-known-end : tie.Need-enum-known-end
-enum-known-end c = search needs
-
-enum-told : tie.Need-enum-told
-enum-told c = search needs
-
 returns : tie.Need-returns
 unfolding stepAt
 returns c =
     let skip = c .before .before .before .skip in
     let identifier-end = c .before .before .identifier-end in
     rw (sym (skip .ensures), sym (identifier-end .ensures) ∙ ap endOf (c .enum-told .given .1), stepAt)
-
-length-requires : tie.Need-length-requires
-length-requires c κs = search needs
-
-part-requires : tie.Need-part-requires
-part-requires c κs = search needs
-
-word-requires : tie.Need-word-requires
-word-requires c κs = search needs
-
-same-bytes-requires : tie.Need-same-bytes-requires
-same-bytes-requires c κs = search needs
-
-bare-requires : tie.Need-bare-requires
-bare-requires c κs = search needs
 
 returns-2 : tie.Need-returns-2
 unfolding stepAt
@@ -71,15 +44,15 @@ pub word-at-spec : {M : Type 1} → statement M
 word-at-spec =
     tie.close
     (tie.spec
-    skip-requires
-    identifier-end-requires
-    enum-known-end
-    enum-told
+    (λ c κs. search needs)
+    (λ c κs. search needs)
+    (λ c. search needs)
+    (λ c. search needs)
     returns
-    length-requires
-    part-requires
-    word-requires
-    same-bytes-requires
-    bare-requires
+    (λ c κs. search needs)
+    (λ c κs. search needs)
+    (λ c κs. search needs)
+    (λ c κs. search needs)
+    (λ c κs. search needs)
     returns-2
     returns-3)

@@ -6,18 +6,6 @@ use Rattle.semantics.specs.Tokens.{characterEnd}
 use Rattle.tokens.proofs.tokens.character_end.Statement.{statement}
 use Rattle.tokens.proofs.tokens.character_end.Tie as tie
 
-skip-requires : tie.Need-skip-requires
-skip-requires c κs = search needs
-
-byte-at-requires : tie.Need-byte-at-requires
-byte-at-requires c κs = search needs
-
-cast-if2 : tie.Need-cast-if2
-cast-if2 c = search needs
-
-add-t10 : tie.Need-add-t10
-add-t10 c = search needs
-
 returns : tie.Need-returns
 unfolding characterEnd
 returns c =
@@ -39,4 +27,4 @@ returns-3 c = rw (sym (c .before .skip .ensures), le-ltb _ _ (c .if1 .left))
 pub character-end-spec : {M : Type 1} → statement M
 character-end-spec =
     tie.close
-    (tie.spec skip-requires byte-at-requires cast-if2 add-t10 returns returns-2 returns-3)
+    (tie.spec (λ c κs. search needs) (λ c κs. search needs) (λ c. search needs) (λ c. search needs) returns returns-2 returns-3)

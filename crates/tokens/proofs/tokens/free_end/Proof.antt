@@ -5,12 +5,6 @@ use Rattle.semantics.specs.Tokens.{freeEnd}
 use Rattle.tokens.proofs.tokens.free_end.Statement.{statement}
 use Rattle.tokens.proofs.tokens.free_end.Tie as tie
 
-reserved-at-requires : tie.Need-reserved-at-requires
-reserved-at-requires c κs = search needs
-
-identifier-end-requires : tie.Need-identifier-end-requires
-identifier-end-requires c κs = search needs
-
 returns : tie.Need-returns
 unfolding freeEnd
 returns c = rw (sym (c .before .reserved-at .ensures) ∙ c .if1 .taken)
@@ -22,4 +16,4 @@ returns-2 c =
     rw (sym (reserved-at .ensures) ∙ c .before .if1 .left) (c .identifier-end .ensures)
 
 pub free-end-spec : {M : Type 1} → statement M
-free-end-spec = tie.close (tie.spec reserved-at-requires identifier-end-requires returns returns-2)
+free-end-spec = tie.close (tie.spec (λ c κs. search needs) (λ c κs. search needs) returns returns-2)

@@ -5,15 +5,6 @@ use Rattle.semantics.specs.Tokens.{identifierEnd}
 use Rattle.tokens.proofs.tokens.identifier_end.Statement.{statement}
 use Rattle.tokens.proofs.tokens.identifier_end.Tie as tie
 
-identifier-at-requires : tie.Need-identifier-at-requires
-identifier-at-requires c κs = search needs
-
-enum-known-end : tie.Need-enum-known-end
-enum-known-end c = search needs
-
-enum-told : tie.Need-enum-told
-enum-told c = search needs
-
 returns : tie.Need-returns
 unfolding identifierEnd
 returns c =
@@ -28,4 +19,4 @@ returns-2 c =
 
 pub identifier-end-spec : {M : Type 1} → statement M
 identifier-end-spec =
-    tie.close (tie.spec identifier-at-requires enum-known-end enum-told returns returns-2)
+    tie.close (tie.spec (λ c κs. search needs) (λ c. search needs) (λ c. search needs) returns returns-2)

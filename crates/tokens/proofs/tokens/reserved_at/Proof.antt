@@ -6,26 +6,11 @@ use Rattle.tokens.specs.Maps.{endOf}
 use Rattle.tokens.proofs.tokens.reserved_at.Statement.{statement}
 use Rattle.tokens.proofs.tokens.reserved_at.Tie as tie
 
-identifier-end-requires : tie.Need-identifier-end-requires
-identifier-end-requires c κs = search needs
-
-enum-known-end : tie.Need-enum-known-end
-enum-known-end c = search needs
-
-enum-told : tie.Need-enum-told
-enum-told c = search needs
-
 returns : tie.Need-returns
 unfolding reservedAt
 returns c =
     let identifier-end = c .before .before .identifier-end in
     rw (sym (identifier-end .ensures) ∙ ap endOf (c .enum-told .given .1), reservedAt)
-
-length-requires : tie.Need-length-requires
-length-requires c κs = search needs
-
-is-reserved-requires : tie.Need-is-reserved-requires
-is-reserved-requires c κs = search needs
 
 returns-2 : tie.Need-returns-2
 unfolding reservedAt
@@ -38,10 +23,10 @@ pub reserved-at-spec : {M : Type 1} → statement M
 reserved-at-spec =
     tie.close
     (tie.spec
-    identifier-end-requires
-    enum-known-end
-    enum-told
+    (λ c κs. search needs)
+    (λ c. search needs)
+    (λ c. search needs)
     returns
-    length-requires
-    is-reserved-requires
+    (λ c κs. search needs)
+    (λ c κs. search needs)
     returns-2)

@@ -6,32 +6,11 @@ use Rattle.tokens.specs.Maps.{endOf}
 use Rattle.tokens.proofs.tokens.variable_at.Statement.{statement}
 use Rattle.tokens.proofs.tokens.variable_at.Tie as tie
 
-free-end-requires : tie.Need-free-end-requires
-free-end-requires c κs = search needs
-
-enum-known-end : tie.Need-enum-known-end
-enum-known-end c = search needs
-
-enum-told : tie.Need-enum-told
-enum-told c = search needs
-
 returns : tie.Need-returns
 unfolding variableAt
 returns c =
     let free-end = c .before .before .free-end in
     rw (sym (free-end .ensures) ∙ ap endOf (c .enum-told .given .1), variableAt)
-
-length-requires : tie.Need-length-requires
-length-requires c κs = search needs
-
-lookup-requires : tie.Need-lookup-requires
-lookup-requires c κs = search needs
-
-enum-known-number : tie.Need-enum-known-number
-enum-known-number c = search needs
-
-enum-told-2 : tie.Need-enum-told-2
-enum-told-2 c = search needs
 
 returns-2 : tie.Need-returns-2
 unfolding variableAt
@@ -55,13 +34,13 @@ pub variable-at-spec : {M : Type 1} → statement M
 variable-at-spec =
     tie.close
     (tie.spec
-    free-end-requires
-    enum-known-end
-    enum-told
+    (λ c κs. search needs)
+    (λ c. search needs)
+    (λ c. search needs)
     returns
-    length-requires
-    lookup-requires
-    enum-known-number
-    enum-told-2
+    (λ c κs. search needs)
+    (λ c κs. search needs)
+    (λ c. search needs)
+    (λ c. search needs)
     returns-2
     returns-3)

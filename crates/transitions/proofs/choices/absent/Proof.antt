@@ -6,18 +6,6 @@ use Rattle.transitions.specs.NextLaws.{absent-limit, absent-goes}
 use Rattle.transitions.proofs.choices.absent.Statement.{statement}
 use Rattle.transitions.proofs.choices.absent.Tie as tie
 
-absent-requires : tie.Need-absent-requires
-absent-requires c κs = search needs
-
-make-requires : tie.Need-make-requires
-make-requires c κs = search needs
-
-reached-with-requires : tie.Need-reached-with-requires
-reached-with-requires c κs = search needs
-
-same-length : tie.Need-same-length
-same-length c = search needs
-
 returns : tie.Need-returns
 returns c =
     let args = c .before .before .before .before .before .before .before .before .before .before .before .before .args in
@@ -30,15 +18,6 @@ returns c =
     let if1 = c .before .if1 in
     absent-limit book text store _ (here .variant) (here .at) (here .items) (args .state) _
     (make .ensures Cell.absent (absent .ensures)) _ (if1 .taken) (c .reached-with .ensures)
-
-with-cell-requires : tie.Need-with-cell-requires
-with-cell-requires c κs = search needs
-
-reached-with-requires-2 : tie.Need-reached-with-requires-2
-reached-with-requires-2 c κs = search needs
-
-same-length-2 : tie.Need-same-length-2
-same-length-2 c = search needs
 
 returns-2 : tie.Need-returns-2
 returns-2 c =
@@ -58,12 +37,12 @@ pub absent-spec : {M : Type 1} → statement M
 absent-spec =
     tie.close
     (tie.spec
-    absent-requires
-    make-requires
-    reached-with-requires
-    same-length
+    (λ c κs. search needs)
+    (λ c κs. search needs)
+    (λ c κs. search needs)
+    (λ c. search needs)
     returns
-    with-cell-requires
-    reached-with-requires-2
-    same-length-2
+    (λ c κs. search needs)
+    (λ c κs. search needs)
+    (λ c. search needs)
     returns-2)

@@ -11,24 +11,6 @@ returns c =
     let args = start .args in
     both-limit (args .text .now) (table (args .rows .now)) (args .here .call) (args .here .at) (args .a) (args .b) (c .if1 .taken)
 
-failure-of-requires : tie.Need-failure-of-requires
-failure-of-requires c κs = search needs
-
-failure-of-requires-2 : tie.Need-failure-of-requires-2
-failure-of-requires-2 c κs = search needs
-
-skipped-requires : tie.Need-skipped-requires
-skipped-requires c κs = search needs
-
-nonterminal-of-requires : tie.Need-nonterminal-of-requires
-nonterminal-of-requires c κs = search needs
-
-chosen-requires : tie.Need-chosen-requires
-chosen-requires c κs = search needs
-
-done-requires : tie.Need-done-requires
-done-requires c κs = search needs
-
 returns-2 : tie.Need-returns-2
 returns-2 c =
     let start = c .before .before .before .before .before .before .before .before .before .before in
@@ -48,10 +30,10 @@ both-spec =
     tie.close
     (tie.spec
     returns
-    failure-of-requires
-    failure-of-requires-2
-    skipped-requires
-    nonterminal-of-requires
-    chosen-requires
-    done-requires
+    (λ c κs. search needs)
+    (λ c κs. search needs)
+    (λ c κs. search needs)
+    (λ c κs. search needs)
+    (λ c κs. search needs)
+    (λ c κs. search needs)
     returns-2)

@@ -5,20 +5,8 @@ use Rattle.transitions.specs.NextLaws.{first-next}
 use Rattle.transitions.proofs.choices.first_side.Statement.{statement}
 use Rattle.transitions.proofs.choices.first_side.Tie as tie
 
-enum-told : tie.Need-enum-told
-enum-told c = search needs
-
-absent-requires : tie.Need-absent-requires
-absent-requires c κs = search needs
-
-enum-known-next : tie.Need-enum-known-next
-enum-known-next c = search needs
-
 first-stop-requires : tie.Need-first-stop-requires
 first-stop-requires c κs = c .before .before .before .before .before .before .before .before .pre
-
-same-length : tie.Need-same-length
-same-length c = search needs
 
 returns : tie.Need-returns
 returns c =
@@ -31,9 +19,6 @@ returns c =
     let absent = c .before .before .absent in
     first-next book text store _ (here .variant) (here .at) (here .items) (args .next) _ (args .state) _
     (enum-told .given .1) (absent .ensures)
-
-same-length-2 : tie.Need-same-length-2
-same-length-2 c = search needs
 
 returns-2 : tie.Need-returns-2
 returns-2 c =
@@ -51,11 +36,11 @@ pub first-side-spec : {M : Type 1} → statement M
 first-side-spec =
     tie.close
     (tie.spec
-    enum-told
-    absent-requires
-    enum-known-next
+    (λ c. search needs)
+    (λ c κs. search needs)
+    (λ c. search needs)
     first-stop-requires
-    same-length
+    (λ c. search needs)
     returns
-    same-length-2
+    (λ c. search needs)
     returns-2)

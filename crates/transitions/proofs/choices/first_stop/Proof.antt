@@ -5,12 +5,6 @@ use Rattle.transitions.specs.NextLaws.{side-limit, side-stops}
 use Rattle.transitions.proofs.choices.first_stop.Statement.{statement}
 use Rattle.transitions.proofs.choices.first_stop.Tie as tie
 
-spend-requires : tie.Need-spend-requires
-spend-requires c κs = search needs
-
-ended-requires : tie.Need-ended-requires
-ended-requires c κs = search needs
-
 returns : tie.Need-returns
 returns c =
     let args = c .before .before .before .before .before .before .before .before .args in
@@ -25,9 +19,6 @@ returns c =
 
 stop-requires : tie.Need-stop-requires
 stop-requires c κs = c .before .before .before .before .before .before .before .before .before .pre
-
-same-length : tie.Need-same-length
-same-length c = search needs
 
 returns-2 : tie.Need-returns-2
 returns-2 c =
@@ -44,4 +35,4 @@ returns-2 c =
 
 pub first-stop-spec : {M : Type 1} → statement M
 first-stop-spec =
-    tie.close (tie.spec spend-requires ended-requires returns stop-requires same-length returns-2)
+    tie.close (tie.spec (λ c κs. search needs) (λ c κs. search needs) returns stop-requires (λ c. search needs) returns-2)

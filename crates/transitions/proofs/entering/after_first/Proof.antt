@@ -5,26 +5,11 @@ use borrow.Author.Needs.{needs}
 use Rattle.transitions.proofs.entering.after_first.Statement.{statement}
 use Rattle.transitions.proofs.entering.after_first.Tie as tie
 
-over-requires : tie.Need-over-requires
-over-requires c κs = search needs
-
 returns : tie.Need-returns
 returns c =
     let args = c .before .before .before .before .args in
     let if1 = c .before .if1 in
     first-limit (table (args .rows .now)) (args .n) (args .o) _ (if1 .taken) (c .over .ensures)
-
-settle-first-requires : tie.Need-settle-first-requires
-settle-first-requires c κs = search needs
-
-failure-of-requires : tie.Need-failure-of-requires
-failure-of-requires c κs = search needs
-
-ended-by-requires : tie.Need-ended-by-requires
-ended-by-requires c κs = search needs
-
-same-length : tie.Need-same-length
-same-length c = search needs
 
 returns-2 : tie.Need-returns-2
 returns-2 c =
@@ -38,10 +23,10 @@ pub after-first-spec : {M : Type 1} → statement M
 after-first-spec =
     tie.close
     (tie.spec
-    over-requires
+    (λ c κs. search needs)
     returns
-    settle-first-requires
-    failure-of-requires
-    ended-by-requires
-    same-length
+    (λ c κs. search needs)
+    (λ c κs. search needs)
+    (λ c κs. search needs)
+    (λ c. search needs)
     returns-2)

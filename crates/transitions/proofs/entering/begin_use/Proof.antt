@@ -8,12 +8,6 @@ use Rattle.transitions.specs.EnteringLaws.{enters-spent, enters-stored, 
 use Rattle.transitions.proofs.entering.begin_use.Statement.{statement}
 use Rattle.transitions.proofs.entering.begin_use.Tie as tie
 
-spend-requires : tie.Need-spend-requires
-spend-requires c κs = search needs
-
-without-runs-requires : tie.Need-without-runs-requires
-without-runs-requires c κs = search needs
-
 returns : tie.Need-returns
 returns c =
     let args = c .before .before .before .before .before .before .before .before .before .args in
@@ -21,12 +15,6 @@ returns c =
     let if1 = c .before .if1 in
     enters-spent (bookIn (args .book .now) (args .index .now)) (args .text .now) (table (args .rows .now)) (args .n) (args .nonterminal) (args .u)
     (args .state) _ _ (spend .ensures) (args .store .now) (if1 .taken) (c .without-runs .ensures)
-
-governor-of-requires : tie.Need-governor-of-requires
-governor-of-requires c κs = search needs
-
-enum-known-governor : tie.Need-enum-known-governor
-enum-known-governor c = search needs
 
 stored-requires : tie.Need-stored-requires
 stored-requires c κs =
@@ -36,18 +24,6 @@ stored-requires c κs =
     let governor = c .before .before .governor in
     let above = governor-above (table (args .rows .now)) (args .n) (args .nonterminal) (args .u) _ (sym (ap governorIn (governor .given .1)) ∙ governor-of .ensures) in
     (above .0, above .1, pre .1)
-
-without-runs-requires-2 : tie.Need-without-runs-requires-2
-without-runs-requires-2 c κs = search needs
-
-enum-known-minimum : tie.Need-enum-known-minimum
-enum-known-minimum c = search needs
-
-open-requires : tie.Need-open-requires
-open-requires c κs = search needs
-
-same-length : tie.Need-same-length
-same-length c = search needs
 
 returns-2 : tie.Need-returns-2
 returns-2 c =
@@ -60,12 +36,6 @@ returns-2 c =
     enters-stored (bookIn (args .book .now) (args .index .now)) (args .text .now) (table (args .rows .now)) (args .n) (args .nonterminal) (args .u)
     (args .state) _ _ (spend .ensures) (args .store .now) _ _ _ _ (if1 .left) (governor-of .ensures) (governor .given .1) (stored .ensures)
     (c .without-runs2 .ensures)
-
-same-length-2 : tie.Need-same-length-2
-same-length-2 c = search needs
-
-same-length-3 : tie.Need-same-length-3
-same-length-3 c = search needs
 
 returns-3 : tie.Need-returns-3
 returns-3 c =
@@ -82,17 +52,17 @@ pub begin-use-spec : {M : Type 1} → statement M
 begin-use-spec =
     tie.close
     (tie.spec
-    spend-requires
-    without-runs-requires
+    (λ c κs. search needs)
+    (λ c κs. search needs)
     returns
-    governor-of-requires
-    enum-known-governor
+    (λ c κs. search needs)
+    (λ c. search needs)
     stored-requires
-    without-runs-requires-2
-    enum-known-minimum
-    open-requires
-    same-length
+    (λ c κs. search needs)
+    (λ c. search needs)
+    (λ c κs. search needs)
+    (λ c. search needs)
     returns-2
-    same-length-2
-    same-length-3
+    (λ c. search needs)
+    (λ c. search needs)
     returns-3)

@@ -9,33 +9,12 @@ use Rattle.transitions.specs.EndingLaws.{variant-begins}
 use Rattle.transitions.proofs.entering.begin_variant.Statement.{statement}
 use Rattle.transitions.proofs.entering.begin_variant.Tie as tie
 
-start-of-requires : tie.Need-start-of-requires
-start-of-requires c κs = search needs
-
-variant-requires : tie.Need-variant-requires
-variant-requires c κs = search needs
-
-begin-requires : tie.Need-begin-requires
-begin-requires c κs = search needs
-
 cast-take-variant : tie.Need-cast-take-variant
 cast-take-variant c =
     let pre = c .before .before .before .before .before .before .before .before .before .before .before .before .before .before .pre in
     let args = c .before .before .before .before .before .before .before .before .before .before .before .before .before .before .args in
     let variant = c .before .before .before .before .before .before .variant in
     omega (arith, pre .2 .levels (args .j), ap (λ (w : Variant). w .level) (variant .ensures))
-
-take-variant-requires : tie.Need-take-variant-requires
-take-variant-requires c κs = search needs
-
-reached-with-requires : tie.Need-reached-with-requires
-reached-with-requires c κs = search needs
-
-same-length : tie.Need-same-length
-same-length c = search needs
-
-same-length-2 : tie.Need-same-length-2
-same-length-2 c = search needs
 
 returns : tie.Need-returns
 returns c =
@@ -51,12 +30,12 @@ pub begin-variant-spec : {M : Type 1} → statement M
 begin-variant-spec =
     tie.close
     (tie.spec
-    start-of-requires
-    variant-requires
-    begin-requires
+    (λ c κs. search needs)
+    (λ c κs. search needs)
+    (λ c κs. search needs)
     cast-take-variant
-    take-variant-requires
-    reached-with-requires
-    same-length
-    same-length-2
+    (λ c κs. search needs)
+    (λ c κs. search needs)
+    (λ c. search needs)
+    (λ c. search needs)
     returns)

@@ -6,18 +6,6 @@ use Rattle.transitions.specs.EnteringLaws.{claimed-named, claimed-nothin
 use Rattle.transitions.proofs.entering.claimed.Statement.{statement}
 use Rattle.transitions.proofs.entering.claimed.Tie as tie
 
-variable-at-requires : tie.Need-variable-at-requires
-variable-at-requires c κs = search needs
-
-enum-told : tie.Need-enum-told
-enum-told c = search needs
-
-any-claims-requires : tie.Need-any-claims-requires
-any-claims-requires c κs = search needs
-
-enum-told-2 : tie.Need-enum-told-2
-enum-told-2 c = search needs
-
 returns : tie.Need-returns
 returns c =
     let args = c .before .before .before .before .before .before .before .before .args in
@@ -36,4 +24,4 @@ returns-2 c =
 pub claimed-spec : {M : Type 1} → statement M
 claimed-spec =
     tie.close
-    (tie.spec variable-at-requires enum-told any-claims-requires enum-told-2 returns returns-2)
+    (tie.spec (λ c κs. search needs) (λ c. search needs) (λ c κs. search needs) (λ c. search needs) returns returns-2)

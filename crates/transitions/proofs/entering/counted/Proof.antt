@@ -11,24 +11,6 @@ returns c =
     let args = c .before .before .before .before .args in
     counted-limit (bookIn (args .book .now) (args .index .now)) (args .j) (args .start) (args .before) (args .o) _ (c .if1 .taken) refl
 
-variant-requires : tie.Need-variant-requires
-variant-requires c κs = search needs
-
-failure-of-requires : tie.Need-failure-of-requires
-failure-of-requires c κs = search needs
-
-failure-of-requires-2 : tie.Need-failure-of-requires-2
-failure-of-requires-2 c κs = search needs
-
-counted-requires : tie.Need-counted-requires
-counted-requires c κs = search needs
-
-join-with-requires : tie.Need-join-with-requires
-join-with-requires c κs = search needs
-
-done-requires : tie.Need-done-requires
-done-requires c κs = search needs
-
 returns-2 : tie.Need-returns-2
 returns-2 c =
     let args = c .before .before .before .before .before .before .before .before .before .before .args in
@@ -46,10 +28,10 @@ counted-spec =
     tie.close
     (tie.spec
     returns
-    variant-requires
-    failure-of-requires
-    failure-of-requires-2
-    counted-requires
-    join-with-requires
-    done-requires
+    (λ c κs. search needs)
+    (λ c κs. search needs)
+    (λ c κs. search needs)
+    (λ c κs. search needs)
+    (λ c κs. search needs)
+    (λ c κs. search needs)
     returns-2)

@@ -6,48 +6,6 @@ use Rattle.transitions.specs.EndingLaws.{ended-failed, ended-over, ended
 use Rattle.transitions.proofs.entering.ended_by.Statement.{statement}
 use Rattle.transitions.proofs.entering.ended_by.Tie as tie
 
-enum-told : tie.Need-enum-told
-enum-told c = search needs
-
-start-of-requires : tie.Need-start-of-requires
-start-of-requires c κs = search needs
-
-nonterminal-of-requires : tie.Need-nonterminal-of-requires
-nonterminal-of-requires c κs = search needs
-
-failed-call-requires : tie.Need-failed-call-requires
-failed-call-requires c κs = search needs
-
-done-requires : tie.Need-done-requires
-done-requires c κs = search needs
-
-over-requires : tie.Need-over-requires
-over-requires c κs = search needs
-
-enum-told-2 : tie.Need-enum-told-2
-enum-told-2 c = search needs
-
-done-requires-2 : tie.Need-done-requires-2
-done-requires-2 c κs = search needs
-
-over-requires-2 : tie.Need-over-requires-2
-over-requires-2 c κs = search needs
-
-enum-told-3 : tie.Need-enum-told-3
-enum-told-3 c = search needs
-
-at-limit-requires : tie.Need-at-limit-requires
-at-limit-requires c κs = search needs
-
-over-requires-3 : tie.Need-over-requires-3
-over-requires-3 c κs = search needs
-
-enum-told-4 : tie.Need-enum-told-4
-enum-told-4 c = search needs
-
-done-requires-3 : tie.Need-done-requires-3
-done-requires-3 c κs = search needs
-
 returns : tie.Need-returns
 returns c =
     let args = c .before .before .before .before .before .before .before .before .args in
@@ -85,20 +43,20 @@ pub ended-by-spec : {M : Type 1} → statement M
 ended-by-spec =
     tie.close
     (tie.spec
-    enum-told
-    start-of-requires
-    nonterminal-of-requires
-    failed-call-requires
-    done-requires
-    over-requires
-    enum-told-2
-    done-requires-2
-    over-requires-2
-    enum-told-3
-    at-limit-requires
-    over-requires-3
-    enum-told-4
-    done-requires-3
+    (λ c. search needs)
+    (λ c κs. search needs)
+    (λ c κs. search needs)
+    (λ c κs. search needs)
+    (λ c κs. search needs)
+    (λ c κs. search needs)
+    (λ c. search needs)
+    (λ c κs. search needs)
+    (λ c κs. search needs)
+    (λ c. search needs)
+    (λ c κs. search needs)
+    (λ c κs. search needs)
+    (λ c. search needs)
+    (λ c κs. search needs)
     returns
     returns-2
     returns-3

@@ -6,18 +6,6 @@ use Rattle.transitions.specs.EnteringLaws.{is-marked}
 use Rattle.transitions.proofs.entering.is_identifier.Statement.{statement}
 use Rattle.transitions.proofs.entering.is_identifier.Tie as tie
 
-nonterminal-requires : tie.Need-nonterminal-requires
-nonterminal-requires c κs = search needs
-
-enum-told : tie.Need-enum-told
-enum-told c = search needs
-
-enum-told-2 : tie.Need-enum-told-2
-enum-told-2 c = search needs
-
-enum-told-3 : tie.Need-enum-told-3
-enum-told-3 c = search needs
-
 returns : tie.Need-returns
 returns c =
     let args = c .before .before .before .before .before .args in
@@ -39,4 +27,4 @@ returns-3 c =
 pub is-identifier-spec : {M : Type 1} → statement M
 is-identifier-spec =
     tie.close
-    (tie.spec nonterminal-requires enum-told enum-told-2 enum-told-3 returns returns-2 returns-3)
+    (tie.spec (λ c κs. search needs) (λ c. search needs) (λ c. search needs) (λ c. search needs) returns returns-2 returns-3)

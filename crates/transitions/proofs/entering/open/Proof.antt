@@ -7,12 +7,6 @@ use Rattle.transitions.specs.EnteringLaws.{opens-deep, opens-identifier,
 use Rattle.transitions.proofs.entering.open.Statement.{statement}
 use Rattle.transitions.proofs.entering.open.Tie as tie
 
-at-limit-requires : tie.Need-at-limit-requires
-at-limit-requires c κs = search needs
-
-without-runs-requires : tie.Need-without-runs-requires
-without-runs-requires c κs = search needs
-
 returns : tie.Need-returns
 returns c =
     let args = c .before .before .before .before .before .before .before .before .args in
@@ -20,21 +14,6 @@ returns c =
     let at-limit = c .before .at-limit in
     opens-deep (bookIn (args .book .now) (args .index .now)) (args .text .now) (args .n) (args .nonterminal) (args .u) (args .minimum) (args .state) _
     (args .store .now) (table (args .rows .now)) _ (if1 .taken) (at-limit .ensures) (c .without-runs .ensures)
-
-is-identifier-requires : tie.Need-is-identifier-requires
-is-identifier-requires c κs = search needs
-
-run-identifier-requires : tie.Need-run-identifier-requires
-run-identifier-requires c κs = search needs
-
-without-runs-requires-2 : tie.Need-without-runs-requires-2
-without-runs-requires-2 c κs = search needs
-
-same-length : tie.Need-same-length
-same-length c = search needs
-
-same-length-2 : tie.Need-same-length-2
-same-length-2 c = search needs
 
 returns-2 : tie.Need-returns-2
 returns-2 c =
@@ -46,9 +25,6 @@ returns-2 c =
     opens-identifier (bookIn (args .book .now) (args .index .now)) (args .text .now) (args .n) (args .nonterminal) (args .u) (args .minimum)
     (args .state) _ (args .store .now) _ (table (args .rows .now)) _ _ _ (if1 .left) (is-identifier .ensures) (if2 .taken) (run-identifier .ensures)
     (c .without-runs2 .ensures)
-
-done-requires : tie.Need-done-requires
-done-requires c κs = search needs
 
 returns-3 : tie.Need-returns-3
 returns-3 c =
@@ -63,14 +39,14 @@ pub open-spec : {M : Type 1} → statement M
 open-spec =
     tie.close
     (tie.spec
-    at-limit-requires
-    without-runs-requires
+    (λ c κs. search needs)
+    (λ c κs. search needs)
     returns
-    is-identifier-requires
-    run-identifier-requires
-    without-runs-requires-2
-    same-length
-    same-length-2
+    (λ c κs. search needs)
+    (λ c κs. search needs)
+    (λ c κs. search needs)
+    (λ c. search needs)
+    (λ c. search needs)
     returns-2
-    done-requires
+    (λ c κs. search needs)
     returns-3)

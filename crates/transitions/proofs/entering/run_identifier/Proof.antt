@@ -11,24 +11,6 @@ use Rattle.transitions.specs.TakenLaws.{free-end-fits}
 use Rattle.transitions.proofs.entering.run_identifier.Statement.{statement}
 use Rattle.transitions.proofs.entering.run_identifier.Tie as tie
 
-clear-set-requires : tie.Need-clear-set-requires
-clear-set-requires c κs = search needs
-
-end-call-requires : tie.Need-end-call-requires
-end-call-requires c κs = search needs
-
-claimed-requires : tie.Need-claimed-requires
-claimed-requires c κs = search needs
-
-no-parse-requires : tie.Need-no-parse-requires
-no-parse-requires c κs = search needs
-
-done-requires : tie.Need-done-requires
-done-requires c κs = search needs
-
-same-length : tie.Need-same-length
-same-length c = search needs
-
 returns : tie.Need-returns
 returns c =
     let args = c .before .before .before .before .before .before .before .before .before .before .before .before .before .before .before .before .before .before .args in
@@ -41,24 +23,6 @@ returns c =
     identifier-claimed (bookIn (args .book .now) (args .index .now)) (args .text .now) (args .store .now) (table (args .rows .now)) _ _ (args .n)
     (args .nonterminal) (args .u) (args .state) _ (table-below (args .rows .now) (args .n) (pre .0)) (clear-set .ensures) (end-call .ensures)
     (claimed .ensures) (no-parse .result) _ (if1 .taken) (no-parse .ensures) (c .done .ensures)
-
-free-end-requires : tie.Need-free-end-requires
-free-end-requires c κs = search needs
-
-enum-known-end : tie.Need-enum-known-end
-enum-known-end c = search needs
-
-enum-told : tie.Need-enum-told
-enum-told c = search needs
-
-no-parse-requires-2 : tie.Need-no-parse-requires-2
-no-parse-requires-2 c κs = search needs
-
-done-requires-2 : tie.Need-done-requires-2
-done-requires-2 c κs = search needs
-
-same-length-2 : tie.Need-same-length-2
-same-length-2 c = search needs
 
 returns-2 : tie.Need-returns-2
 returns-2 c =
@@ -75,9 +39,6 @@ returns-2 c =
     (args .nonterminal) (args .u) (args .state) _ (table-below (args .rows .now) (args .n) (pre .0)) (clear-set .ensures) (end-call .ensures)
     (claimed .ensures) _ (no-parse2 .result) _ (if1 .left) (free-end .ensures) (enum-told .given .1) (no-parse2 .ensures) (c .done2 .ensures)
 
-length-requires : tie.Need-length-requires
-length-requires c κs = search needs
-
 cast-name : tie.Need-cast-name
 cast-name c =
     let args = c .before .before .before .before .before .before .before .before .before .before .before .before .before .before .before .before .before .before .before .before .before .before .args in
@@ -91,18 +52,6 @@ cast-name c =
           (pre .2 .short) (sym (sym (ap endOf (end .given .1)) ∙ free-end .ensures)),
       length .ensures,
     )
-
-name-requires : tie.Need-name-requires
-name-requires c κs = search needs
-
-make-requires : tie.Need-make-requires
-make-requires c κs = search needs
-
-at-limit-requires : tie.Need-at-limit-requires
-at-limit-requires c κs = search needs
-
-same-length-3 : tie.Need-same-length-3
-same-length-3 c = search needs
 
 same-length-4 : tie.Need-same-length-4
 same-length-4 c =
@@ -148,12 +97,6 @@ put-one-requires c κs =
     let end-call = c .before .before .before .before .before .before .before .before .before .before .before .before .before .before .before .before .before .before .before .end-call in
     (pre .0, omega (arith, end-call .kept .0, clear-set .kept .0, pre .1))
 
-done-requires-3 : tie.Need-done-requires-3
-done-requires-3 c κs = search needs
-
-same-length-5 : tie.Need-same-length-5
-same-length-5 c = search needs
-
 same-length-6 : tie.Need-same-length-6
 same-length-6 c =
     let clear-set = c .before .before .before .before .before .before .before .before .before .before .before .before .before .before .before .before .before .before .before .before .before .before .before .before .before .before .before .clear-set in
@@ -185,31 +128,31 @@ pub run-identifier-spec : {M : Type 1} → statement M
 run-identifier-spec =
     tie.close
     (tie.spec
-    clear-set-requires
-    end-call-requires
-    claimed-requires
-    no-parse-requires
-    done-requires
-    same-length
+    (λ c κs. search needs)
+    (λ c κs. search needs)
+    (λ c κs. search needs)
+    (λ c κs. search needs)
+    (λ c κs. search needs)
+    (λ c. search needs)
     returns
-    free-end-requires
-    enum-known-end
-    enum-told
-    no-parse-requires-2
-    done-requires-2
-    same-length-2
+    (λ c κs. search needs)
+    (λ c. search needs)
+    (λ c. search needs)
+    (λ c κs. search needs)
+    (λ c κs. search needs)
+    (λ c. search needs)
     returns-2
-    length-requires
+    (λ c κs. search needs)
     cast-name
-    name-requires
-    make-requires
-    at-limit-requires
-    same-length-3
+    (λ c κs. search needs)
+    (λ c κs. search needs)
+    (λ c κs. search needs)
+    (λ c. search needs)
     same-length-4
     returns-3
     cast-t29
     put-one-requires
-    done-requires-3
-    same-length-5
+    (λ c κs. search needs)
+    (λ c. search needs)
     same-length-6
     returns-4)

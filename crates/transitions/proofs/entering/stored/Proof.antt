@@ -5,24 +5,6 @@ use Rattle.transitions.specs.EnteringLaws.{stored-none, stored-some}
 use Rattle.transitions.proofs.entering.stored.Statement.{statement}
 use Rattle.transitions.proofs.entering.stored.Tie as tie
 
-answer-requires : tie.Need-answer-requires
-answer-requires c κs = search needs
-
-found-requires : tie.Need-found-requires
-found-requires c κs = search needs
-
-no-parse-requires : tie.Need-no-parse-requires
-no-parse-requires c κs = search needs
-
-done-requires : tie.Need-done-requires
-done-requires c κs = search needs
-
-done-requires-2 : tie.Need-done-requires-2
-done-requires-2 c κs = search needs
-
-same-length : tie.Need-same-length
-same-length c = search needs
-
 returns : tie.Need-returns
 returns c =
     let args = c .before .before .before .before .before .before .before .before .before .before .args in
@@ -32,9 +14,6 @@ returns c =
     let no-parse = c .before .no-parse in
     stored-none (table (args .rows .now)) _ (args .governor) (args .n) (args .nonterminal) (args .u) _ _ (answer .ensures) (found .ensures)
     (no-parse .result) _ (if1 .taken) (no-parse .ensures) (c .done .ensures)
-
-same-length-2 : tie.Need-same-length-2
-same-length-2 c = search needs
 
 returns-2 : tie.Need-returns-2
 returns-2 c =
@@ -49,12 +28,12 @@ pub stored-spec : {M : Type 1} → statement M
 stored-spec =
     tie.close
     (tie.spec
-    answer-requires
-    found-requires
-    no-parse-requires
-    done-requires
-    done-requires-2
-    same-length
+    (λ c κs. search needs)
+    (λ c κs. search needs)
+    (λ c κs. search needs)
+    (λ c κs. search needs)
+    (λ c κs. search needs)
+    (λ c. search needs)
     returns
-    same-length-2
+    (λ c. search needs)
     returns-2)

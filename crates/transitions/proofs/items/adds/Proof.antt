@@ -22,9 +22,6 @@ others-add (Item.Name place size) h = refl
 others-add (Item.Number value) h = refl
 others-add (Item.Variable number kind) h = refl
 
-enum-told : tie.Need-enum-told
-enum-told c = search needs
-
 returns : tie.Need-returns
 unfolding isSome
 returns c = rw (c .enum-told .given .1)
@@ -35,4 +32,4 @@ returns-2 c =
     others-add (args .item) (c .match .keys2)
 
 pub adds-spec : {M : Type 1} → statement M
-adds-spec = tie.close (tie.spec enum-told returns returns-2)
+adds-spec = tie.close (tie.spec (λ c. search needs) returns returns-2)

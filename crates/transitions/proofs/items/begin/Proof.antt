@@ -5,18 +5,6 @@ use Rattle.transitions.specs.OutcomeLaws.{begin-passing, begin-made}
 use Rattle.transitions.proofs.items.begin.Statement.{statement}
 use Rattle.transitions.proofs.items.begin.Tie as tie
 
-passes-requires : tie.Need-passes-requires
-passes-requires c κs = search needs
-
-got-requires : tie.Need-got-requires
-got-requires c κs = search needs
-
-empty-requires : tie.Need-empty-requires
-empty-requires c κs = search needs
-
-make-requires : tie.Need-make-requires
-make-requires c κs = search needs
-
 returns : tie.Need-returns
 returns c =
     let args = c .before .before .before .before .before .before .before .args in
@@ -26,9 +14,6 @@ returns c =
     let passes = c .before .before .passes in
     let if1 = c .before .if1 in
     begin-passing book text (args .j) _ (passes .ensures) (args .state) _ store (if1 .taken) (c .got .ensures)
-
-same-length : tie.Need-same-length
-same-length c = search needs
 
 returns-2 : tie.Need-returns-2
 returns-2 c =
@@ -46,10 +31,10 @@ pub begin-spec : {M : Type 1} → statement M
 begin-spec =
     tie.close
     (tie.spec
-    passes-requires
-    got-requires
-    empty-requires
-    make-requires
+    (λ c κs. search needs)
+    (λ c κs. search needs)
+    (λ c κs. search needs)
+    (λ c κs. search needs)
     returns
-    same-length
+    (λ c. search needs)
     returns-2)

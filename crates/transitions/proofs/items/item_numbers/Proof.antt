@@ -5,15 +5,6 @@ use Rattle.transitions.specs.OutcomeLaws.{name-fit, variable-fit, item-n
 use Rattle.transitions.proofs.items.item_numbers.Statement.{statement}
 use Rattle.transitions.proofs.items.item_numbers.Tie as tie
 
-enum-told : tie.Need-enum-told
-enum-told c = search needs
-
-empty-requires : tie.Need-empty-requires
-empty-requires c κs = search needs
-
-enum-known-item : tie.Need-enum-known-item
-enum-known-item c = search needs
-
 cast-name : tie.Need-cast-name
 cast-name c =
     let args = c .before .before .before .args in
@@ -28,18 +19,6 @@ cast-name-2 c =
     let item = c .before .item in
     omega (arith, name-fit (args .item) _ _ (item .given .1) (pre))
 
-name-requires : tie.Need-name-requires
-name-requires c κs = search needs
-
-enum-known-item-2 : tie.Need-enum-known-item-2
-enum-known-item-2 c = search needs
-
-number-requires : tie.Need-number-requires
-number-requires c κs = search needs
-
-enum-known-item-3 : tie.Need-enum-known-item-3
-enum-known-item-3 c = search needs
-
 cast-variable : tie.Need-cast-variable
 cast-variable c =
     let args = c .before .before .before .args in
@@ -53,9 +32,6 @@ cast-variable-2 c =
     let pre = c .before .before .before .pre in
     let item3 = c .before .item3 in
     omega (arith, variable-fit (args .item) _ _ (item3 .given .1) (pre))
-
-variable-requires : tie.Need-variable-requires
-variable-requires c κs = search needs
 
 returns : tie.Need-returns
 returns c =
@@ -85,18 +61,18 @@ pub item-numbers-spec : {M : Type 1} → statement M
 item-numbers-spec =
     tie.close
     (tie.spec
-    enum-told
-    empty-requires
-    enum-known-item
+    (λ c. search needs)
+    (λ c κs. search needs)
+    (λ c. search needs)
     cast-name
     cast-name-2
-    name-requires
-    enum-known-item-2
-    number-requires
-    enum-known-item-3
+    (λ c κs. search needs)
+    (λ c. search needs)
+    (λ c κs. search needs)
+    (λ c. search needs)
     cast-variable
     cast-variable-2
-    variable-requires
+    (λ c κs. search needs)
     returns
     returns-2
     returns-3

@@ -5,21 +5,6 @@ use Rattle.transitions.specs.OutcomeLaws.{makes-at, makes-full}
 use Rattle.transitions.proofs.items.make.Statement.{statement}
 use Rattle.transitions.proofs.items.make.Tie as tie
 
-make-requires : tie.Need-make-requires
-make-requires c κs = search needs
-
-enum-known-cell : tie.Need-enum-known-cell
-enum-known-cell c = search needs
-
-got-requires : tie.Need-got-requires
-got-requires c κs = search needs
-
-enum-told : tie.Need-enum-told
-enum-told c = search needs
-
-same-length : tie.Need-same-length
-same-length c = search needs
-
 returns : tie.Need-returns
 returns c =
     let args = c .before .before .before .before .before .before .before .before .before .before .args in
@@ -28,9 +13,6 @@ returns c =
     let make = c .before .before .before .before .before .before .make in
     let cell = c .before .before .cell in
     makes-at text store _ (args .state) (args .c) _ _ _ _ (make .ensures) (cell .given .1) (c .got .ensures)
-
-same-length-2 : tie.Need-same-length-2
-same-length-2 c = search needs
 
 returns-2 : tie.Need-returns-2
 returns-2 c =
@@ -44,11 +26,11 @@ pub make-spec : {M : Type 1} → statement M
 make-spec =
     tie.close
     (tie.spec
-    make-requires
-    enum-known-cell
-    got-requires
-    enum-told
-    same-length
+    (λ c κs. search needs)
+    (λ c. search needs)
+    (λ c κs. search needs)
+    (λ c. search needs)
+    (λ c. search needs)
     returns
-    same-length-2
+    (λ c. search needs)
     returns-2)

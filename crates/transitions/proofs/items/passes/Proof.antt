@@ -5,11 +5,8 @@ use Rattle.book.specs.declared.records.Variant.{Variant}
 use Rattle.transitions.proofs.items.passes.Statement.{statement}
 use Rattle.transitions.proofs.items.passes.Tie as tie
 
-variant-requires : tie.Need-variant-requires
-variant-requires c κs = search needs
-
 returns : tie.Need-returns
 returns c = ap (λ (w : Variant). w .passing) (c .variant .ensures)
 
 pub passes-spec : {M : Type 1} → statement M
-passes-spec = tie.close (tie.spec variant-requires returns)
+passes-spec = tie.close (tie.spec (λ c κs. search needs) returns)

@@ -5,18 +5,6 @@ use Rattle.transitions.specs.OutcomeLaws.{with-passing, with-made}
 use Rattle.transitions.proofs.items.with_cell.Statement.{statement}
 use Rattle.transitions.proofs.items.with_cell.Tie as tie
 
-passes-requires : tie.Need-passes-requires
-passes-requires c κs = search needs
-
-got-requires : tie.Need-got-requires
-got-requires c κs = search needs
-
-chain-requires : tie.Need-chain-requires
-chain-requires c κs = search needs
-
-make-requires : tie.Need-make-requires
-make-requires c κs = search needs
-
 returns : tie.Need-returns
 returns c =
     let args = c .before .before .before .before .before .before .before .args in
@@ -26,9 +14,6 @@ returns c =
     let passes = c .before .before .passes in
     let if1 = c .before .if1 in
     with-passing book text (args .j) _ (passes .ensures) (args .state) _ store (args .items) (args .item) (if1 .taken) (c .got .ensures)
-
-same-length : tie.Need-same-length
-same-length c = search needs
 
 returns-2 : tie.Need-returns-2
 returns-2 c =
@@ -46,10 +31,10 @@ pub with-cell-spec : {M : Type 1} → statement M
 with-cell-spec =
     tie.close
     (tie.spec
-    passes-requires
-    got-requires
-    chain-requires
-    make-requires
+    (λ c κs. search needs)
+    (λ c κs. search needs)
+    (λ c κs. search needs)
+    (λ c κs. search needs)
     returns
-    same-length
+    (λ c. search needs)
     returns-2)

@@ -6,18 +6,6 @@ use Rattle.transitions.specs.OutcomeLaws.{token-nothing, token-limit, to
 use Rattle.transitions.proofs.items.with_token.Statement.{statement}
 use Rattle.transitions.proofs.items.with_token.Tie as tie
 
-adds-requires : tie.Need-adds-requires
-adds-requires c κs = search needs
-
-item-numbers-requires : tie.Need-item-numbers-requires
-item-numbers-requires c κs = search needs
-
-make-requires : tie.Need-make-requires
-make-requires c κs = search needs
-
-same-length : tie.Need-same-length
-same-length c = search needs
-
 returns : tie.Need-returns
 returns c =
     let args = c .before .before .before .before .before .before .before .before .before .before .before .before .before .args in
@@ -29,15 +17,6 @@ returns c =
     let item-numbers = c .before .before .before .before .before .item-numbers in
     let make = c .before .before .before .before .make in
     token-limit book text (args .j) (args .items) (itemOf (args .item)) (args .state) store _ _ _ _ (adds .ensures) (if1 .taken) (make .ensures) (item-numbers .ensures) (c .if2 .taken)
-
-with-cell-requires : tie.Need-with-cell-requires
-with-cell-requires c κs = search needs
-
-got-requires : tie.Need-got-requires
-got-requires c κs = search needs
-
-same-length-2 : tie.Need-same-length-2
-same-length-2 c = search needs
 
 returns-2 : tie.Need-returns-2
 returns-2 c =
@@ -67,13 +46,13 @@ pub with-token-spec : {M : Type 1} → statement M
 with-token-spec =
     tie.close
     (tie.spec
-    adds-requires
-    item-numbers-requires
-    make-requires
-    same-length
+    (λ c κs. search needs)
+    (λ c κs. search needs)
+    (λ c κs. search needs)
+    (λ c. search needs)
     returns
-    with-cell-requires
-    got-requires
-    same-length-2
+    (λ c κs. search needs)
+    (λ c κs. search needs)
+    (λ c. search needs)
     returns-2
     returns-3)

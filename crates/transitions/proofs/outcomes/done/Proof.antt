@@ -4,15 +4,6 @@ use borrow.Author.Needs.{needs}
 use Rattle.transitions.proofs.outcomes.done.Statement.{statement}
 use Rattle.transitions.proofs.outcomes.done.Tie as tie
 
-enum-known-failure : tie.Need-enum-known-failure
-enum-known-failure c = search needs
-
-enum-told : tie.Need-enum-told
-enum-told c = search needs
-
-at-limit-requires : tie.Need-at-limit-requires
-at-limit-requires c κs = search needs
-
 returns : tie.Need-returns
 returns c =
     done-nothing _ _ _ (c .before .enum-told .given .1) (c .at-limit .ensures)
@@ -22,4 +13,4 @@ returns-2 c =
     done-at _ _ _ (c .before .failure .given .1)
 
 pub done-spec : {M : Type 1} → statement M
-done-spec = tie.close (tie.spec enum-known-failure enum-told at-limit-requires returns returns-2)
+done-spec = tie.close (tie.spec (λ c. search needs) (λ c. search needs) (λ c κs. search needs) returns returns-2)

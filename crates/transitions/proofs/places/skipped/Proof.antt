@@ -5,16 +5,10 @@ use borrow.Author.Needs.{needs}
 use Rattle.transitions.proofs.places.skipped.Statement.{statement}
 use Rattle.transitions.proofs.places.skipped.Tie as tie
 
-skip-requires : tie.Need-skip-requires
-skip-requires c κs = search needs
-
 cast-result : tie.Need-cast-result
 cast-result c =
     let start = c .before .before in
     omega (arith, skip-fits (start .args .text .now) (start .args .at) (start .pre) (omega (arith, start .good)), c .skip .ensures)
 
-returns : tie.Need-returns
-returns c = search needs
-
 pub skipped-spec : {M : Type 1} → statement M
-skipped-spec = tie.close (tie.spec skip-requires cast-result returns)
+skipped-spec = tie.close (tie.spec (λ c κs. search needs) cast-result (λ c. search needs))

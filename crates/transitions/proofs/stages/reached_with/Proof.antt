@@ -3,11 +3,8 @@ use borrow.Author.Needs.{needs}
 use Rattle.transitions.proofs.stages.reached_with.Statement.{statement}
 use Rattle.transitions.proofs.stages.reached_with.Tie as tie
 
-at-limit-requires : tie.Need-at-limit-requires
-at-limit-requires c κs = search needs
-
 returns : tie.Need-returns
 returns c = rw (c .at-limit .ensures)
 
 pub reached-with-spec : {M : Type 1} → statement M
-reached-with-spec = tie.close (tie.spec at-limit-requires returns)
+reached-with-spec = tie.close (tie.spec (λ c κs. search needs) returns)

@@ -5,18 +5,6 @@ use Rattle.transitions.specs.StepsLaws.{list-begun}
 use Rattle.transitions.proofs.steps.begin_list.Statement.{statement}
 use Rattle.transitions.proofs.steps.begin_list.Tie as tie
 
-empty-requires : tie.Need-empty-requires
-empty-requires c κs = search needs
-
-make-requires : tie.Need-make-requires
-make-requires c κs = search needs
-
-at-limit-requires : tie.Need-at-limit-requires
-at-limit-requires c κs = search needs
-
-same-length : tie.Need-same-length
-same-length c = search needs
-
 returns : tie.Need-returns
 returns c =
     let args = c .before .before .before .before .before .before .before .before .args in
@@ -30,4 +18,4 @@ returns c =
 
 pub begin-list-spec : {M : Type 1} → statement M
 begin-list-spec =
-    tie.close (tie.spec empty-requires make-requires at-limit-requires same-length returns)
+    tie.close (tie.spec (λ c κs. search needs) (λ c κs. search needs) (λ c κs. search needs) (λ c. search needs) returns)

@@ -6,15 +6,6 @@ use Rattle.transitions.specs.StepsLaws.{level-fits, parse-of-variant, fi
 use Rattle.transitions.proofs.steps.finish.Statement.{statement}
 use Rattle.transitions.proofs.steps.finish.Tie as tie
 
-value-requires : tie.Need-value-requires
-value-requires c κs = search needs
-
-at-limit-requires : tie.Need-at-limit-requires
-at-limit-requires c κs = search needs
-
-same-length : tie.Need-same-length
-same-length c = search needs
-
 returns : tie.Need-returns
 returns c =
     let args = c .before .before .before .before .before .before .before .before .before .before .before .before .before .args in
@@ -27,12 +18,6 @@ returns c =
     let if1 = c .before .if1 in
     finish-limit book text store _ (here .call) (here .variant) (here .at) (here .items) (args .state) _
     (value .ensures) rows _ (if1 .taken) (c .at-limit .ensures)
-
-cast-variant : tie.Need-cast-variant
-cast-variant c = search needs
-
-variant-requires : tie.Need-variant-requires
-variant-requires c κs = search needs
 
 parse-of-requires : tie.Need-parse-of-requires
 parse-of-requires c κs =
@@ -48,18 +33,6 @@ add-run-requires : tie.Need-add-run-requires
 add-run-requires c κs =
     let pre = c .before .before .before .before .before .before .before .before .before .before .before .before .before .before .before .before .pre in
     (pre .0, pre .1)
-
-done-requires : tie.Need-done-requires
-done-requires c κs = search needs
-
-at-limit-requires-2 : tie.Need-at-limit-requires-2
-at-limit-requires-2 c κs = search needs
-
-same-length-2 : tie.Need-same-length-2
-same-length-2 c = search needs
-
-same-length-3 : tie.Need-same-length-3
-same-length-3 c = search needs
 
 returns-2 : tie.Need-returns-2
 returns-2 c =
@@ -79,12 +52,6 @@ returns-2 c =
     (value .ensures) rows _ _ _
     (parse-of-variant book text (here .variant) (here .at) _ _ _ (variant .ensures) (parse-of .ensures))
     (add-run .ensures) (if1 .left) _ (if2 .taken) (c .done .ensures)
-
-same-length-4 : tie.Need-same-length-4
-same-length-4 c = search needs
-
-same-length-5 : tie.Need-same-length-5
-same-length-5 c = search needs
 
 returns-3 : tie.Need-returns-3
 returns-3 c =
@@ -109,19 +76,19 @@ pub finish-spec : {M : Type 1} → statement M
 finish-spec =
     tie.close
     (tie.spec
-    value-requires
-    at-limit-requires
-    same-length
+    (λ c κs. search needs)
+    (λ c κs. search needs)
+    (λ c. search needs)
     returns
-    cast-variant
-    variant-requires
+    (λ c. search needs)
+    (λ c κs. search needs)
     parse-of-requires
     add-run-requires
-    done-requires
-    at-limit-requires-2
-    same-length-2
-    same-length-3
+    (λ c κs. search needs)
+    (λ c κs. search needs)
+    (λ c. search needs)
+    (λ c. search needs)
     returns-2
-    same-length-4
-    same-length-5
+    (λ c. search needs)
+    (λ c. search needs)
     returns-3)

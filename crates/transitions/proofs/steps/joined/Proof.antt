@@ -15,18 +15,6 @@ returns-2 c =
     let if1 = c .before .if1 in
     joined-first (args .i) (args .before) (args .o) (if1 .left) (c .if2 .taken)
 
-failure-of-requires : tie.Need-failure-of-requires
-failure-of-requires c κs = search needs
-
-failure-of-requires-2 : tie.Need-failure-of-requires-2
-failure-of-requires-2 c κs = search needs
-
-either-requires : tie.Need-either-requires
-either-requires c κs = search needs
-
-done-requires : tie.Need-done-requires
-done-requires c κs = search needs
-
 returns-3 : tie.Need-returns-3
 returns-3 c =
     let args = c .before .before .before .before .before .before .before .args in
@@ -44,8 +32,8 @@ joined-spec =
     (tie.spec
     returns
     returns-2
-    failure-of-requires
-    failure-of-requires-2
-    either-requires
-    done-requires
+    (λ c κs. search needs)
+    (λ c κs. search needs)
+    (λ c κs. search needs)
+    (λ c κs. search needs)
     returns-3)

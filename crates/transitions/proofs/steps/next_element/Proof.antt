@@ -11,21 +11,6 @@ use Rattle.transitions.specs.NextLaws.{element-limit, element-on, elemen
 use Rattle.transitions.proofs.steps.next_element.Statement.{statement}
 use Rattle.transitions.proofs.steps.next_element.Tie as tie
 
-chain-requires : tie.Need-chain-requires
-chain-requires c κs = search needs
-
-make-requires : tie.Need-make-requires
-make-requires c κs = search needs
-
-reached-with-requires : tie.Need-reached-with-requires
-reached-with-requires c κs = search needs
-
-then-steps-requires : tie.Need-then-steps-requires
-then-steps-requires c κs = search needs
-
-same-length : tie.Need-same-length
-same-length c = search needs
-
 returns : tie.Need-returns
 returns c =
     let args = c .before .before .before .before .before .before .before .before .before .before .before .before .before .args in
@@ -40,18 +25,6 @@ returns c =
     element-limit book text store _ (here .variant) (here .items) (args .list) (parseOf (args .q)) (args .state) _
     (make .ensures (Cell.chain (args .list .values) (args .q .value)) (chain .ensures)) _ _ (if1 .taken) (reached-with .ensures) (c .then-steps .ensures)
 
-cast-after-element : tie.Need-cast-after-element
-cast-after-element c = search needs
-
-after-element-requires : tie.Need-after-element-requires
-after-element-requires c κs = search needs
-
-enum-known-y : tie.Need-enum-known-y
-enum-known-y c = search needs
-
-done-requires : tie.Need-done-requires
-done-requires c κs = search needs
-
 cast-t25 : tie.Need-cast-t25
 cast-t25 c =
     let args = c .before .before .before .before .before .before .before .before .before .before .before .before .before .before .before .before .before .before .args in
@@ -61,9 +34,6 @@ cast-t25 c =
     let after-element = c .before .before .before .before .after-element in
     let y = c .before .before .y in
     omega (arith, goes-fits text (args .list .comma) (args .q .rest) _ (pre .short) (omega (arith, good)) (sym (ap afterOf (y .given .1)) ∙ after-element .ensures))
-
-enum-known-y-2 : tie.Need-enum-known-y-2
-enum-known-y-2 c = search needs
 
 cast-stop : tie.Need-cast-stop
 cast-stop c =
@@ -77,12 +47,6 @@ cast-stop c =
 
 stop-requires : tie.Need-stop-requires
 stop-requires c κs = c .before .before .before .before .before .before .before .before .before .before .before .before .before .before .before .before .before .before .pre
-
-then-steps-requires-2 : tie.Need-then-steps-requires-2
-then-steps-requires-2 c κs = search needs
-
-same-length-2 : tie.Need-same-length-2
-same-length-2 c = search needs
 
 returns-2 : tie.Need-returns-2
 returns-2 c =
@@ -126,22 +90,22 @@ pub next-element-spec : {M : Type 1} → statement M
 next-element-spec =
     tie.close
     (tie.spec
-    chain-requires
-    make-requires
-    reached-with-requires
-    then-steps-requires
-    same-length
+    (λ c κs. search needs)
+    (λ c κs. search needs)
+    (λ c κs. search needs)
+    (λ c κs. search needs)
+    (λ c. search needs)
     returns
-    cast-after-element
-    after-element-requires
-    enum-known-y
-    done-requires
+    (λ c. search needs)
+    (λ c κs. search needs)
+    (λ c. search needs)
+    (λ c κs. search needs)
     cast-t25
-    enum-known-y-2
+    (λ c. search needs)
     cast-stop
     stop-requires
-    then-steps-requires-2
-    same-length-2
+    (λ c κs. search needs)
+    (λ c. search needs)
     returns-2
     same-length-3
     returns-3)

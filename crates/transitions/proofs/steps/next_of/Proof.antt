@@ -6,26 +6,8 @@ use Rattle.transitions.specs.NextLaws.{plain-next, list-next}
 use Rattle.transitions.proofs.steps.next_of.Statement.{statement}
 use Rattle.transitions.proofs.steps.next_of.Tie as tie
 
-enum-told : tie.Need-enum-told
-enum-told c = search needs
-
-with-cell-requires : tie.Need-with-cell-requires
-with-cell-requires c κs = search needs
-
-reached-with-requires : tie.Need-reached-with-requires
-reached-with-requires c κs = search needs
-
-then-steps-requires : tie.Need-then-steps-requires
-then-steps-requires c κs = search needs
-
-enum-known-next : tie.Need-enum-known-next
-enum-known-next c = search needs
-
 next-element-requires : tie.Need-next-element-requires
 next-element-requires c κs = c .before .before .before .before .before .before .before .before .pre
-
-same-length : tie.Need-same-length
-same-length c = search needs
 
 returns : tie.Need-returns
 returns c =
@@ -39,9 +21,6 @@ returns c =
     let reached-with = c .before .reached-with in
     plain-next book text store _ (here .variant) (here .items) (args .next) (parseOf (args .q)) (args .state) _ _ _
     (enum-told .given .1) (with-cell .ensures) (reached-with .ensures) (c .then-steps .ensures)
-
-same-length-2 : tie.Need-same-length-2
-same-length-2 c = search needs
 
 returns-2 : tie.Need-returns-2
 returns-2 c =
@@ -59,13 +38,13 @@ pub next-of-spec : {M : Type 1} → statement M
 next-of-spec =
     tie.close
     (tie.spec
-    enum-told
-    with-cell-requires
-    reached-with-requires
-    then-steps-requires
-    enum-known-next
+    (λ c. search needs)
+    (λ c κs. search needs)
+    (λ c κs. search needs)
+    (λ c κs. search needs)
+    (λ c. search needs)
     next-element-requires
-    same-length
+    (λ c. search needs)
     returns
-    same-length-2
+    (λ c. search needs)
     returns-2)

@@ -4,12 +4,6 @@ use Rattle.transitions.specs.StepsLaws.{free-many, free-list, paid-unit}
 use Rattle.transitions.proofs.steps.step_unit.Statement.{statement}
 use Rattle.transitions.proofs.steps.step_unit.Tie as tie
 
-step-number-requires : tie.Need-step-number-requires
-step-number-requires c κs = search needs
-
-done-requires : tie.Need-done-requires
-done-requires c κs = search needs
-
 returns : tie.Need-returns
 returns c =
     let args = c .before .before .before .args in
@@ -17,18 +11,12 @@ returns c =
     let if1 = c .before .if1 in
     free-many (args .step) (args .state) _ _ (step-number .ensures) (if1 .taken) (c .done .ensures)
 
-done-requires-2 : tie.Need-done-requires-2
-done-requires-2 c κs = search needs
-
 returns-2 : tie.Need-returns-2
 returns-2 c =
     let args = c .before .before .before .before .args in
     let step-number = c .before .before .before .step-number in
     let if2 = c .before .if2 in
     free-list (args .step) (args .state) _ _ (step-number .ensures) (if2 .taken) (c .done2 .ensures)
-
-spend-requires : tie.Need-spend-requires
-spend-requires c κs = search needs
 
 returns-3 : tie.Need-returns-3
 returns-3 c =
@@ -42,10 +30,10 @@ pub step-unit-spec : {M : Type 1} → statement M
 step-unit-spec =
     tie.close
     (tie.spec
-    step-number-requires
-    done-requires
+    (λ c κs. search needs)
+    (λ c κs. search needs)
     returns
-    done-requires-2
+    (λ c κs. search needs)
     returns-2
-    spend-requires
+    (λ c κs. search needs)
     returns-3)

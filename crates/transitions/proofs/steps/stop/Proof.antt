@@ -12,18 +12,6 @@ use borrow.Author.Needs.{needs}
 use Rattle.transitions.proofs.steps.stop.Statement.{statement}
 use Rattle.transitions.proofs.steps.stop.Tie as tie
 
-list-requires : tie.Need-list-requires
-list-requires c κs = search needs
-
-make-requires : tie.Need-make-requires
-make-requires c κs = search needs
-
-reached-with-requires : tie.Need-reached-with-requires
-reached-with-requires c κs = search needs
-
-same-length : tie.Need-same-length
-same-length c = search needs
-
 returns : tie.Need-returns
 returns c =
     let start = c .before .before .before .before .before .before .before .before .before .before .before .before in
@@ -34,30 +22,6 @@ returns c =
     stop-limit (bookIn (args .book .now) (args .index .now)) (args .text .now) (args .store .now) _ (args .here .variant) (args .values)
     (args .closing) (args .at) (args .here .items) (args .state) _ (make .ensures (Cell.list (args .values)) (list .ensures)) _
     (if1 .taken) (c .reached-with .ensures)
-
-closed-requires : tie.Need-closed-requires
-closed-requires c κs = search needs
-
-enum-known-next : tie.Need-enum-known-next
-enum-known-next c = search needs
-
-enum-told : tie.Need-enum-told
-enum-told c = search needs
-
-skipped-requires : tie.Need-skipped-requires
-skipped-requires c κs = search needs
-
-closing-error-requires : tie.Need-closing-error-requires
-closing-error-requires c κs = search needs
-
-done-requires : tie.Need-done-requires
-done-requires c κs = search needs
-
-ended-requires : tie.Need-ended-requires
-ended-requires c κs = search needs
-
-same-length-2 : tie.Need-same-length-2
-same-length-2 c = search needs
 
 returns-2 : tie.Need-returns-2
 returns-2 c =
@@ -76,9 +40,6 @@ returns-2 c =
     (if1 .left) _ (closed .ensures) _ _ _ (enum-told .given .1)
     (closing-error .ensures ∙ ap (λ x. error x 1 (closingOf (closingIn (args .closing)))) (skipped .ensures)) (done .ensures) (c .ended .ensures)
 
-with-cell-requires : tie.Need-with-cell-requires
-with-cell-requires c κs = search needs
-
 cast-reached-with : tie.Need-cast-reached-with
 cast-reached-with c =
     let start = c .before .before .before .before .before .before .before .before .before .before .before .before .before .before .before .before .before .before .before .before in
@@ -87,12 +48,6 @@ cast-reached-with c =
     let args = start .args in
     let closes = sym (closed .ensures) ∙ ap endOf (next .given .1) in
     omega (arith, closed-fits (args .text .now) (closingIn (args .closing)) (args .at) _ (start .pre .short) (omega (arith, start .good)) closes)
-
-reached-with-requires-2 : tie.Need-reached-with-requires-2
-reached-with-requires-2 c κs = search needs
-
-same-length-3 : tie.Need-same-length-3
-same-length-3 c = search needs
 
 returns-3 : tie.Need-returns-3
 returns-3 c =
@@ -112,22 +67,22 @@ pub stop-spec : {M : Type 1} → statement M
 stop-spec =
     tie.close
     (tie.spec
-    list-requires
-    make-requires
-    reached-with-requires
-    same-length
+    (λ c κs. search needs)
+    (λ c κs. search needs)
+    (λ c κs. search needs)
+    (λ c. search needs)
     returns
-    closed-requires
-    enum-known-next
-    enum-told
-    skipped-requires
-    closing-error-requires
-    done-requires
-    ended-requires
-    same-length-2
+    (λ c κs. search needs)
+    (λ c. search needs)
+    (λ c. search needs)
+    (λ c κs. search needs)
+    (λ c κs. search needs)
+    (λ c κs. search needs)
+    (λ c κs. search needs)
+    (λ c. search needs)
     returns-2
-    with-cell-requires
+    (λ c κs. search needs)
     cast-reached-with
-    reached-with-requires-2
-    same-length-3
+    (λ c κs. search needs)
+    (λ c. search needs)
     returns-3)

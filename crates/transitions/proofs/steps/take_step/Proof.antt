@@ -9,21 +9,6 @@ use borrow.Author.Needs.{needs}
 use Rattle.transitions.proofs.steps.take_step.Statement.{statement}
 use Rattle.transitions.proofs.steps.take_step.Tie as tie
 
-cast-step : tie.Need-cast-step
-cast-step c = search needs
-
-step-requires : tie.Need-step-requires
-step-requires c κs = search needs
-
-step-unit-requires : tie.Need-step-unit-requires
-step-unit-requires c κs = search needs
-
-ended-requires : tie.Need-ended-requires
-ended-requires c κs = search needs
-
-then-steps-requires : tie.Need-then-steps-requires
-then-steps-requires c κs = search needs
-
 returns : tie.Need-returns
 returns c =
     let start = c .before .before .before .before .before .before .before .before .before .before .before in
@@ -35,33 +20,6 @@ returns c =
     let here = args .here in
     at-step _ _ _ _ (here .variant) (args .state) _ (here .at) (here .items) _ _ (step .ensures)
     (step-limit _ _ _ (here .variant) (args .state) (here .at) (here .items) _ _ (step-unit .ensures) _ _ (if1 .taken) (ended .ensures) (c .then-steps .ensures))
-
-cast-x : tie.Need-cast-x
-cast-x c = search needs
-
-step-at-requires : tie.Need-step-at-requires
-step-at-requires c κs = search needs
-
-enum-told : tie.Need-enum-told
-enum-told c = search needs
-
-skipped-requires : tie.Need-skipped-requires
-skipped-requires c κs = search needs
-
-step-error-requires : tie.Need-step-error-requires
-step-error-requires c κs = search needs
-
-done-requires : tie.Need-done-requires
-done-requires c κs = search needs
-
-ended-requires-2 : tie.Need-ended-requires-2
-ended-requires-2 c κs = search needs
-
-then-steps-requires-2 : tie.Need-then-steps-requires-2
-then-steps-requires-2 c κs = search needs
-
-enum-known-next : tie.Need-enum-known-next
-enum-known-next c = search needs
 
 cast-take-token : tie.Need-cast-take-token
 cast-take-token c =
@@ -79,24 +37,6 @@ take-token-requires c κs =
     let fits = taken-fits _ _ (start .pre) _ (omega (arith, start .good)) _ (step-at .result) (step-at .ensures) in
     token-fits _ fits _ _ (next .given .1) .1
 
-then-steps-requires-3 : tie.Need-then-steps-requires-3
-then-steps-requires-3 c κs = search needs
-
-enum-known-nonterminal : tie.Need-enum-known-nonterminal
-enum-known-nonterminal c = search needs
-
-then-child-requires : tie.Need-then-child-requires
-then-child-requires c κs = search needs
-
-enum-known-nonterminal-2 : tie.Need-enum-known-nonterminal-2
-enum-known-nonterminal-2 c = search needs
-
-then-child-requires-2 : tie.Need-then-child-requires-2
-then-child-requires-2 c κs = search needs
-
-enum-known-comma : tie.Need-enum-known-comma
-enum-known-comma c = search needs
-
 cast-begin-list : tie.Need-cast-begin-list
 cast-begin-list c =
     let start = c .before .before .before .before .before .before .before .before .before .before .before .before .before .before .before .before in
@@ -105,12 +45,6 @@ cast-begin-list c =
     let fits = taken-fits _ _ (start .pre) _ (omega (arith, start .good)) _ (step-at .result) (step-at .ensures) in
     omega (arith, list-fits _ fits _ _ _ _ (comma .given .1))
 
-begin-list-requires : tie.Need-begin-list-requires
-begin-list-requires c κs = search needs
-
-enum-known-place : tie.Need-enum-known-place
-enum-known-place c = search needs
-
 cast-unopened : tie.Need-cast-unopened
 cast-unopened c =
     let start = c .before .before .before .before .before .before .before .before .before .before .before .before .before .before .before .before in
@@ -118,12 +52,6 @@ cast-unopened c =
     let place = c .before .before .place in
     let fits = taken-fits _ _ (start .pre) _ (omega (arith, start .good)) _ (step-at .result) (step-at .ensures) in
     omega (arith, unopened-fits _ fits _ (place .given .1))
-
-unopened-requires : tie.Need-unopened-requires
-unopened-requires c κs = search needs
-
-then-steps-requires-4 : tie.Need-then-steps-requires-4
-then-steps-requires-4 c κs = search needs
 
 returns-2 : tie.Need-returns-2
 returns-2 c =
@@ -145,9 +73,6 @@ returns-2 c =
     (if1 .left) _ (step-at .ensures) _ _ _ _ (enum-told .given .1)
     (step-error .ensures ∙ ap (λ x. stepError book (args .text .now) (step .result) x) (skipped .ensures)) (done .ensures) (ended2 .ensures)
     (c .then-steps2 .ensures))
-
-same-length : tie.Need-same-length
-same-length c = search needs
 
 returns-3 : tie.Need-returns-3
 returns-3 c =
@@ -192,9 +117,6 @@ returns-5 c =
     (step-chooses _ _ _ (here .variant) (args .state) (here .at) (here .items) _ _ (step-unit .ensures)
     (if1 .left) _ (step-at .ensures) _ _ (nonterminal2 .given .1) (c .then-child2 .ensures))
 
-same-length-2 : tie.Need-same-length-2
-same-length-2 c = search needs
-
 returns-6 : tie.Need-returns-6
 returns-6 c =
     let start = c .before .before .before .before .before .before .before .before .before .before .before .before .before .before .before .before .before .before .before in
@@ -209,9 +131,6 @@ returns-6 c =
     at-step _ _ _ _ (here .variant) (args .state) _ (here .at) (here .items) _ _ (step .ensures)
     (step-lists _ _ _ (here .variant) (args .state) (here .at) (here .items) _ _ (step-unit .ensures)
     (if1 .left) _ (step-at .ensures) _ _ _ _ _ _ (comma .given .1) (begin-list .ensures _))
-
-same-length-3 : tie.Need-same-length-3
-same-length-3 c = search needs
 
 returns-7 : tie.Need-returns-7
 returns-7 c =
@@ -232,41 +151,41 @@ pub take-step-spec : {M : Type 1} → statement M
 take-step-spec =
     tie.close
     (tie.spec
-    cast-step
-    step-requires
-    step-unit-requires
-    ended-requires
-    then-steps-requires
+    (λ c. search needs)
+    (λ c κs. search needs)
+    (λ c κs. search needs)
+    (λ c κs. search needs)
+    (λ c κs. search needs)
     returns
-    cast-x
-    step-at-requires
-    enum-told
-    skipped-requires
-    step-error-requires
-    done-requires
-    ended-requires-2
-    then-steps-requires-2
-    enum-known-next
+    (λ c. search needs)
+    (λ c κs. search needs)
+    (λ c. search needs)
+    (λ c κs. search needs)
+    (λ c κs. search needs)
+    (λ c κs. search needs)
+    (λ c κs. search needs)
+    (λ c κs. search needs)
+    (λ c. search needs)
     cast-take-token
     take-token-requires
-    then-steps-requires-3
-    enum-known-nonterminal
-    then-child-requires
-    enum-known-nonterminal-2
-    then-child-requires-2
-    enum-known-comma
+    (λ c κs. search needs)
+    (λ c. search needs)
+    (λ c κs. search needs)
+    (λ c. search needs)
+    (λ c κs. search needs)
+    (λ c. search needs)
     cast-begin-list
-    begin-list-requires
-    enum-known-place
+    (λ c κs. search needs)
+    (λ c. search needs)
     cast-unopened
-    unopened-requires
-    then-steps-requires-4
+    (λ c κs. search needs)
+    (λ c κs. search needs)
     returns-2
-    same-length
+    (λ c. search needs)
     returns-3
     returns-4
     returns-5
-    same-length-2
+    (λ c. search needs)
     returns-6
-    same-length-3
+    (λ c. search needs)
     returns-7)

@@ -6,15 +6,6 @@ use Rattle.transitions.specs.StepsLaws.{token-taken}
 use Rattle.transitions.proofs.steps.take_token.Statement.{statement}
 use Rattle.transitions.proofs.steps.take_token.Tie as tie
 
-with-token-requires : tie.Need-with-token-requires
-with-token-requires c κs = search needs
-
-reached-with-requires : tie.Need-reached-with-requires
-reached-with-requires c κs = search needs
-
-same-length : tie.Need-same-length
-same-length c = search needs
-
 returns : tie.Need-returns
 returns c =
     let args = c .before .before .before .before .before .before .before .before .before .args in
@@ -28,4 +19,4 @@ returns c =
 
 pub take-token-spec : {M : Type 1} → statement M
 take-token-spec =
-    tie.close (tie.spec with-token-requires reached-with-requires same-length returns)
+    tie.close (tie.spec (λ c κs. search needs) (λ c κs. search needs) (λ c. search needs) returns)

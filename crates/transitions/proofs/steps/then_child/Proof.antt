@@ -3,11 +3,8 @@ use borrow.Author.Needs.{needs}
 use Rattle.transitions.proofs.steps.then_child.Statement.{statement}
 use Rattle.transitions.proofs.steps.then_child.Tie as tie
 
-done-requires : tie.Need-done-requires
-done-requires c κs = search needs
-
 returns : tie.Need-returns
 returns c = rw (c .done .ensures)
 
 pub then-child-spec : {M : Type 1} → statement M
-then-child-spec = tie.close (tie.spec done-requires returns)
+then-child-spec = tie.close (tie.spec (λ c κs. search needs) returns)

@@ -6,18 +6,6 @@ use Rattle.transitions.specs.StepsLaws.{unopened-limit, unopened-stops}
 use Rattle.transitions.proofs.steps.unopened.Statement.{statement}
 use Rattle.transitions.proofs.steps.unopened.Tie as tie
 
-empty-requires : tie.Need-empty-requires
-empty-requires c κs = search needs
-
-make-requires : tie.Need-make-requires
-make-requires c κs = search needs
-
-reached-with-requires : tie.Need-reached-with-requires
-reached-with-requires c κs = search needs
-
-same-length : tie.Need-same-length
-same-length c = search needs
-
 returns : tie.Need-returns
 returns c =
     let args = c .before .before .before .before .before .before .before .before .before .before .before .before .args in
@@ -33,9 +21,6 @@ returns c =
 
 stop-requires : tie.Need-stop-requires
 stop-requires c κs = c .before .before .before .before .before .before .before .before .before .before .before .before .before .pre
-
-same-length-2 : tie.Need-same-length-2
-same-length-2 c = search needs
 
 returns-2 : tie.Need-returns-2
 returns-2 c =
@@ -55,11 +40,11 @@ pub unopened-spec : {M : Type 1} → statement M
 unopened-spec =
     tie.close
     (tie.spec
-    empty-requires
-    make-requires
-    reached-with-requires
-    same-length
+    (λ c κs. search needs)
+    (λ c κs. search needs)
+    (λ c κs. search needs)
+    (λ c. search needs)
     returns
     stop-requires
-    same-length-2
+    (λ c. search needs)
     returns-2)
