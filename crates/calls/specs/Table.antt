@@ -15,7 +15,8 @@ use Rattle.semantics.specs.Values.{Parse}
 use Rattle.semantics.specs.Cells.{Cell}
 use Rattle.semantics.specs.Errors.{Error}
 use Rattle.semantics.specs.Run.{Result, met, ok, State, add, addAll, kept, failedCall}
-use Rattle.run_model.specs.Rows.{Row, row, rowOf, onRow, useAt, ended, wasAsked, withSet, withRun, RowGovernor, minimum, same-start}
+use Rattle.run_model.specs.Rows.{Row, row, rowOf, onRow, useAt, ended, wasAsked, withSet, withRun, RowGovernor, minimum}
+use Rattle.run_model.specs.Rows.{same-start}
 use Rattle.run_model.specs.Model.{RowState, rowState, Outcome, outcome, bareCall, settle, settleFirst}
 use Rattle.sets.specs.Sets.{setAt, result}
 use Rattle.calls.specs.declared.Governor.{Governor}
@@ -24,7 +25,8 @@ use Rattle.calls.specs.declared.Settled.{Settled}
 -- ---- What a list of numbers says: every list gives a table
 unfoldable pub rowAt : List ℕ → ℕ → Row
 rowAt f b =
-    row (getD f b 0) (getD f (b + 1) 0) (getD f (b + 2) 0) (getD f (b + 3) 0) (getD f (b + 4) 0) (getD f (b + 5) 0) (getD f (b + 6) 0) (getD f (b + 7) 0)
+    row (getD f b 0) (getD f (b + 1) 0) (getD f (b + 2) 0) (getD f (b + 3) 0) (getD f (b + 4) 0) (getD f (b + 5) 0)
+    (getD f (b + 6) 0) (getD f (b + 7) 0)
     (setAt f (b + 8)) (setAt f (b + 265))
 
 -- k rows from place b on
@@ -66,8 +68,9 @@ Changes rows i f = tableAfter rows ≡ onRow (tableAt rows) i f
 -- a row whose j-th number is x
 abbrev pub field : ℕ → ℕ → Row → Row
 field j x r =
-    row (cond (eqb j 0) x (r .live)) (cond (eqb j 1) x (r .nonterminal)) (cond (eqb j 2) x (r .scope)) (cond (eqb j 3) x (r .start))
-    (cond (eqb j 4) x (r .level)) (cond (eqb j 5) x (r .associativity)) (cond (eqb j 6) x (r .child)) (cond (eqb j 7) x (r .asked)) (r .set) (r .run)
+    row (cond (eqb j 0) x (r .live)) (cond (eqb j 1) x (r .nonterminal)) (cond (eqb j 2) x (r .scope))
+    (cond (eqb j 3) x (r .start)) (cond (eqb j 4) x (r .level)) (cond (eqb j 5) x (r .associativity))
+    (cond (eqb j 6) x (r .child)) (cond (eqb j 7) x (r .asked)) (r .set) (r .run)
 
 abbrev pub fieldOf : ℕ → Row → ℕ
 fieldOf j r =
@@ -99,17 +102,21 @@ answeredIn T n g = onRow (onRow T g wasAsked) n (λ t. ended (withSet (kept (use
 -- how the call of row c goes on after a run, by the code's answer: it has failed, with what the variants' failure was,
 -- it is over, it is run again, or it has met a limit
 abbrev pub goesOn : Settled → ℕ → (RowState → Result Outcome) → Option Error → RowState → Result Outcome
-goesOn Settled.Failed c again failure s = ok (outcome (some (failedCall (bareCall (rowOf (s .rows) c .nonterminal) (rowOf (s .rows) c .start)) failure)) s)
+goesOn Settled.Failed c again failure s =
+    ok (outcome (some (failedCall (bareCall (rowOf (s .rows) c .nonterminal) (rowOf (s .rows) c .start)) failure)) s)
 goesOn Settled.Over c again failure s = ok (outcome none s)
 goesOn Settled.Again c again failure s = again s
 goesOn Settled.Full c again failure s = met tooManyParses (s .units)
 
 -- the first run of the call of row c is over
 pub record SettledFirst (r : Settled) (T U : List Row) (c : ℕ) : Type 0 where
-  pub now : (book : Book) (text : List ℕ) (again : RowState → Result Outcome) (failure : Option Error) (units : ℕ) (cells : List Cell) →
-      settleFirst book text c again (outcome failure (rowState units cells T)) ≡ goesOn r c again failure (rowState units cells U)
+  pub now : (book : Book) (text : List ℕ) (again : RowState → Result Outcome) (failure : Option Error)
+      (units : ℕ) (cells : List Cell) →
+      settleFirst book text c again (outcome failure (rowState units cells T)) ≡
+      goesOn r c again failure (rowState units cells U)
 
 -- a further run of it is over
 pub record SettledNext (r : Settled) (T U : List Row) (c : ℕ) : Type 0 where
-  pub now : (book : Book) (text : List ℕ) (again : RowState → Result Outcome) (failure : Option Error) (units : ℕ) (cells : List Cell) →
+  pub now : (book : Book) (text : List ℕ) (again : RowState → Result Outcome) (failure : Option Error)
+      (units : ℕ) (cells : List Cell) →
       settle book text c again (rowState units cells T) ≡ goesOn r c again failure (rowState units cells U)

@@ -40,7 +40,8 @@ hashOf text c = hashFrom 0 (identityIn text c)
 
 -- ---- The store
 abbrev pub numbersAt : List ℕ → ℕ → Numbers
-numbersAt store n = record { form = getD store (n * 3 - 3) 0; a = getD store (n * 3 - 3 + 1) 0; b = getD store (n * 3 - 3 + 2) 0 }
+numbersAt store n =
+    record { form = getD store (n * 3 - 3) 0; a = getD store (n * 3 - 3 + 1) 0; b = getD store (n * 3 - 3 + 2) 0 }
 
 abbrev pub linkAt : List ℕ → ℕ → ℕ
 linkAt store n = getD store (12287 + n) 0
@@ -51,23 +52,27 @@ headAt store hash = getD store (16384 + hash) 0
 -- the first of at most k cells along the chain from n that is equal to c, or 0
 unfoldable pub findIn : List ℕ → List ℕ → Numbers → ℕ → ℕ → ℕ
 findIn text store c zero n = 0
-findIn text store c (suc k) n = cond (eqb n 0) 0 (cond (sameIn text c (numbersAt store n)) n (findIn text store c k (linkAt store n)))
+findIn text store c (suc k) n =
+    cond (eqb n 0) 0 (cond (sameIn text c (numbersAt store n)) n (findIn text store c k (linkAt store n)))
 
 -- the store with cell n more, the newest of its hash
 unfoldable pub pushed : List ℕ → Numbers → ℕ → ℕ → List ℕ
 pushed store c n hash =
     set
-    (set (set (set (set store (n * 3 - 3) (c .form)) (n * 3 - 3 + 1) (c .a)) (n * 3 - 3 + 2) (c .b)) (12287 + n) (headAt store hash))
+    (set (set (set (set store (n * 3 - 3) (c .form)) (n * 3 - 3 + 1) (c .a)) (n * 3 - 3 + 2) (c .b)) (12287 + n)
+    (headAt store hash))
     (16384 + hash)
     n
 
 -- what is made, and the store after it, where n is the equal cell that was found, if any
 abbrev pub madeAs : List ℕ → ℕ → Numbers → ℕ → ℕ → Made × List ℕ
 madeAs store count c hash n =
-    cond (ltb 0 n) (Made.At n count, store) (cond (ltb count 4096) (Made.At (count + 1) (count + 1), pushed store c (count + 1) hash) (Made.Full, store))
+    cond (ltb 0 n) (Made.At n count, store)
+    (cond (ltb count 4096) (Made.At (count + 1) (count + 1), pushed store c (count + 1) hash) (Made.Full, store))
 
 abbrev pub madeIn : List ℕ → List ℕ → ℕ → Numbers → Made × List ℕ
-madeIn text store count c = madeAs store count c (hashOf text c) (findIn text store c count (headAt store (hashOf text c)))
+madeIn text store count c =
+    madeAs store count c (hashOf text c) (findIn text store c count (headAt store (hashOf text c)))
 
 -- ---- The store and the list of cells
 -- the first `count` cells of a store
@@ -84,7 +89,8 @@ pub record Holds (text store : List ℕ) (cells : List Cell) : Type 0 where
   pub room : 17408 ≤ length store
   pub few : length cells ≤ 4096
   pub stored : (i : ℕ) → i < length cells → listed (numbersAt store (suc i)) ≡ numbersOf (getD cells i Cell.empty)
-  pub once : (i k : ℕ) → i < length cells → k < length cells → identityOf text (getD cells i Cell.empty) ≡ identityOf text (getD cells k Cell.empty) → i ≡ k
+  pub once : (i k : ℕ) → i < length cells → k < length cells →
+      identityOf text (getD cells i Cell.empty) ≡ identityOf text (getD cells k Cell.empty) → i ≡ k
   pub heads : (hash : ℕ) → hash < 1024 → headAt store hash ≤ length cells
   pub older : (n : ℕ) → 0 < n → n ≤ length cells → linkAt store n < n
   pub reached : (n : ℕ) → 0 < n → n ≤ length cells → Leads store (headAt store (hashOf text (numbersAt store n))) n
@@ -100,7 +106,8 @@ countAfter Made.Full before = before
 
 -- what the definitions give where the code gives this
 abbrev pub given : Made → Cell → State → Result Rattle.semantics.specs.Run.Made
-given (Made.At n count) cell s = ok (made n (record { units = s .units; cells = cellsAfter (Made.At n count) (s .cells) cell; asked = s .asked }))
+given (Made.At n count) cell s =
+    ok (made n (record { units = s .units; cells = cellsAfter (Made.At n count) (s .cells) cell; asked = s .asked }))
 given Made.Full cell s = met 23 (s .units)
 
 -- a cell was made of those that the store held
@@ -114,7 +121,8 @@ pub record Makes (text before after : List ℕ) (count : ℕ) (c : Numbers) (r :
   pub is : r ≡ madeIn text before count c .0
   pub store : after ≡ madeIn text before count c .1
   pub beyond : (i : ℕ) → 17408 ≤ i → getD after i 0 ≡ getD before i 0
-  pub does : (cells : List Cell) (cell : Cell) → Holds text before cells → length cells ≡ count → listed c ≡ numbersOf cell → Making text after cells cell r
+  pub does : (cells : List Cell) (cell : Cell) → Holds text before cells → length cells ≡ count →
+      listed c ≡ numbersOf cell → Making text after cells cell r
 
 -- what `clear` promises: no cells, for any text; and the heads alone are stored
 pub record Cleared (before after : List ℕ) : Type 0 where

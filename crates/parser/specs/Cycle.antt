@@ -18,7 +18,8 @@ use Rattle.semantics.specs.Steps.{Todo, todoOf}
 use Rattle.semantics.specs.Errors.{Error, joinWith}
 use Rattle.semantics.specs.Run.{Result, ok, _>>=_, begin, counted}
 use Rattle.run_model.specs.Rows.{rowOf}
-use Rattle.run_model.specs.Model.{RowState, Outcome, outcome, RowRunner, makes, atRow, bareCall, takeVariant, followedRows, orChild}
+use Rattle.run_model.specs.Model.{RowState, Outcome, outcome, RowRunner, makes, atRow, bareCall, takeVariant}
+use Rattle.run_model.specs.Model.{followedRows, orChild}
 use Rattle.run_model.specs.Model.{oneRunRows, roundsRows, runCallRows, enterRows, runnerRows}
 use Rattle.errors.specs.Maps.{failureOf}
 use Rattle.transitions.specs.declared.outcomes.Outcome as code
@@ -28,11 +29,12 @@ use Rattle.transitions.specs.declared.stages.Progress.{Progress}
 use Rattle.transitions.specs.Outcomes.{failureAt}
 use Rattle.transitions.specs.Entering.{within}
 use Rattle.transitions.specs.Steps.{todoFrom, nextRows, sideRows, descendsRows, resumes}
-use Rattle.transitions.specs.Contracts.{Fitting}
+use Rattle.transitions.specs.Contracts.{Fitting, FromState, FromResult}
 
 -- a path's row is one of the table, and its steps are some of the book's, no more than a byte can say
 abbrev pub InRange : Book → Progress → Type 0
-InRange book here = (here .call ≤ mostNesting) × (here .remaining ≤ 255) × (here .step + here .remaining ≤ length (book .steps))
+InRange book here =
+    (here .call ≤ mostNesting) × (here .remaining ≤ 255) × (here .step + here .remaining ≤ length (book .steps))
 
 -- the steps that are left
 abbrev pub todoAt : Book → Progress → List (Todo ℕ)
@@ -45,18 +47,23 @@ variantRows book text run c m j e s =
     when (leb m (nthVariant book j .level))
     (λ _.
     makes (begin book text j) s >>= (λ b.
-    run c j (todoOf book (nthVariant book j)) (r .start) (b .cell) (atRow c (takeVariant book text j) (b .state)) >>= (λ o.
+    run c j (todoOf book (nthVariant book j)) (r .start) (b .cell) (atRow c (takeVariant book text j) (b .state)) >>=
+    (λ o.
     ok (outcome (joinWith e (counted book text (bareCall (r .nonterminal) (r .start)) j (o .failure))) (o .state)))))
     (λ _. ok (outcome e s))
 
 -- what follows the parses of a child
-unfoldable pub followsRows : Book → List ℕ → Option RowRunner → ℕ → ℕ → ℕ → List (Todo ℕ) → Next → ℕ → Result Outcome → Result Outcome
-followsRows book text inner n c j rest next items z = z >>= (λ o. followedRows book text inner n (nextRows book text c j rest next items) o)
+unfoldable pub followsRows : Book → List ℕ → Option RowRunner → ℕ → ℕ → ℕ → List (Todo ℕ) → Next → ℕ →
+    Result Outcome → Result Outcome
+followsRows book text inner n c j rest next items z =
+    z >>= (λ o. followedRows book text inner n (nextRows book text c j rest next items) o)
 
 -- both sides of a choice, whatever the nonterminal of the other side
-unfoldable pub sidesRows : Book → List ℕ → Option RowRunner → ℕ → ℕ → ℕ → List (Todo ℕ) → Next → ℕ → ℕ → ℕ → RowState → Result Outcome
+unfoldable pub sidesRows : Book → List ℕ → Option RowRunner → ℕ → ℕ → ℕ → List (Todo ℕ) → Next → ℕ → ℕ → ℕ →
+    RowState → Result Outcome
 sidesRows book text inner n c j rest next M at items s =
-    sideRows book text inner n c j rest next at items s >>= (λ a. orChild book text inner n c M (nextRows book text c j rest next items) at a)
+    sideRows book text inner n c j rest next at items s >>=
+    (λ a. orChild book text inner n c M (nextRows book text c j rest next items) at a)
 
 -- ---- What the contracts ask
 -- the call of row n, which has its level of nesting
@@ -71,44 +78,48 @@ CanTry book index text rows n before =
 -- a path, with n levels of nesting left
 abbrev pub OnPath : Slice → Slice → Slice → Slice → ℕ → Progress → Type 0
 OnPath book index text rows n here =
-    (n ≤ mostNesting) × (rowsSize ≤ length (now rows)) × Fitting book index text × InRange (bookIn (now book) (now index)) here
+    (n ≤ mostNesting) × (rowsSize ≤ length (now rows)) × Fitting book index text ×
+    InRange (bookIn (now book) (now index)) here
 
 -- ---- Which part of the model each function is
 module _ (n : ℕ) where
-  abbrev pub enters : ℕ → ℕ → Book → List ℕ → RowState → Result Outcome
+  abbrev pub enters : ℕ → ℕ → FromState
   enters N u book text s = enterRows book text (runnerRows book text n) n N u s
 
-  abbrev pub runsCall : ℕ → ℕ → ℕ → Book → List ℕ → RowState → Result Outcome
+  abbrev pub runsCall : ℕ → ℕ → ℕ → FromState
   runsCall N u m book text s = runCallRows book text (within book text n) n N u m s
 
-  abbrev pub runsAgain : ℕ → Book → List ℕ → RowState → Result Outcome
+  abbrev pub runsAgain : ℕ → FromState
   runsAgain m book text s = roundsRows book text mostRounds (within book text n) n m s
 
-  abbrev pub runsOnce : ℕ → Book → List ℕ → RowState → Result Outcome
+  abbrev pub runsOnce : ℕ → FromState
   runsOnce m book text s = oneRunRows book text (within book text n) n m s
 
   -- variant j, after the outcome of those before it
-  abbrev pub tries : ℕ → ℕ → code.Outcome → Book → List ℕ → RowState → Result Outcome
+  abbrev pub tries : ℕ → ℕ → code.Outcome → FromState
   tries m j before book text s = variantRows book text (within book text n) n m j (failureOf (failureAt before)) s
 
   module _ (here : Progress) where
-    abbrev pub descends : Next → ℕ → Book → List ℕ → RowState → Result Outcome
+    abbrev pub descends : Next → ℕ → FromState
     descends next N book text s =
-        descendsRows book text (runnerRows book text n) n (here .call) (here .variant) (todoAt book here) next N (here .at)
+        descendsRows book text (runnerRows book text n) n (here .call) (here .variant) (todoAt book here) next N
+        (here .at)
         (here .items) s
 
-    abbrev pub followsEach : Next → Book → List ℕ → Result Outcome → Result Outcome
+    abbrev pub followsEach : Next → FromResult
     followsEach next book text z =
-        followsRows book text (runnerRows book text n) n (here .call) (here .variant) (todoAt book here) next (here .items) z
+        followsRows book text (runnerRows book text n) n (here .call) (here .variant) (todoAt book here) next
+        (here .items) z
 
-    abbrev pub chooses : Next → ℕ → Book → List ℕ → RowState → Result Outcome
+    abbrev pub chooses : Next → ℕ → FromState
     chooses next N book text s =
         sidesRows book text (runnerRows book text n) n (here .call) (here .variant) (todoAt book here) next N (here .at)
         (here .items) s
 
-    abbrev pub goesOn : Doing → Book → List ℕ → Result Outcome → Result Outcome
+    abbrev pub goesOn : Doing → FromResult
     goesOn first book text z =
-        resumes book text (runnerRows book text n) n (here .call) (here .variant) (todoAt book here) first (here .at) (here .items) z
+        resumes book text (runnerRows book text n) n (here .call) (here .variant) (todoAt book here) first (here .at)
+        (here .items) z
 
 -- ---- The measure
 -- a path that is to do something else before the steps left is further from its end

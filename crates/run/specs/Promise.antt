@@ -51,12 +51,14 @@ noRoom index store rows =
 -- too little of it is refused as too short lists are; else the call is the same
 abbrev pub answerWith : List ℕ → List ℕ → List ℕ → List ℕ → List ℕ → List ℕ → List ℕ → ℕ → ℕ → Answered
 answerWith index store rows cells parses bytes text start allowance =
-    cond (noRoom index store rows) (untouched cells parses shortLists 0) (answerOf cells parses bytes text start allowance)
+    cond (noRoom index store rows) (untouched cells parses shortLists 0)
+    (answerOf cells parses bytes text start allowance)
 
 -- `read_in`
 abbrev pub ReadIn : Lent → Lent → ℕ → ℕ → Lent → Lent → Lent → Lent → Lent → code.Answer → Type 0
 ReadIn book text start allowance cells parses index store rows r =
     Reads (atEntry book) (atEntry text) start
-    (answerWith (atEntry index) (atEntry store) (atEntry rows) (atEntry cells) (atEntry parses) (atEntry book) (atEntry text)
+    (answerWith (atEntry index) (atEntry store) (atEntry rows) (atEntry cells) (atEntry parses) (atEntry book)
+    (atEntry text)
     start allowance)
     (answered r (atExit cells) (atExit parses))

@@ -13,7 +13,8 @@ use Rattle.book.specs.Book.{Book}
 use Rattle.book.specs.Check.{checkBook}
 use Rattle.book.specs.Check as check
 use Rattle.book.specs.Index.{bookIn}
-use Rattle.semantics.specs.Numbers.{cellsSize, parsesSize, mostUnits, mostNesting, mostCells, noneWhole, differentValues}
+use Rattle.semantics.specs.Numbers.{cellsSize, parsesSize, mostUnits, mostNesting, mostCells, noneWhole}
+use Rattle.semantics.specs.Numbers.{differentValues}
 use Rattle.semantics.specs.Values.{Parse, whole}
 use Rattle.semantics.specs.Run.{Result, Parsed}
 use Rattle.semantics.specs.Run as definition
@@ -95,7 +96,8 @@ HasParses parses rows = (parsesSize ≤ length (now parses)) × (rowsSize ≤ le
 -- there are `count` cells
 abbrev pub CanFill : Slice → Slice → Slice → Slice → ℕ → Type 0
 CanFill cells parses store rows count =
-    (cellsSize ≤ length (now cells)) × (parsesSize ≤ length (now parses)) × (storeSize ≤ length (now store)) × (rowsSize ≤ length (now rows)) ×
+    (cellsSize ≤ length (now cells)) × (parsesSize ≤ length (now parses)) × (storeSize ≤ length (now store)) ×
+    (rowsSize ≤ length (now rows)) ×
     (count ≤ mostCells)
 
 -- the run is over
@@ -112,9 +114,11 @@ CanStart book index text store rows =
 -- the book is accepted
 abbrev pub CanRead : Slice → Slice → Slice → Slice → Slice → Slice → Type 0
 CanRead book cells parses index store rows =
-    (cellsSize ≤ length (now cells)) × (parsesSize ≤ length (now parses)) × (storeSize ≤ length (now store)) × (rowsSize ≤ length (now rows)) ×
+    (cellsSize ≤ length (now cells)) × (parsesSize ≤ length (now parses)) × (storeSize ≤ length (now store)) ×
+    (rowsSize ≤ length (now rows)) ×
     (checkBook (now book) ≡ check.Outcome.book (bookIn (now book) (now index)))
 
 -- the working memory has its sizes
 abbrev pub HasRoom : Slice → Slice → Slice → Type 0
-HasRoom index store rows = (indexSize ≤ length (now index)) × (storeSize ≤ length (now store)) × (rowsSize ≤ length (now rows))
+HasRoom index store rows =
+    (indexSize ≤ length (now index)) × (storeSize ≤ length (now store)) × (rowsSize ≤ length (now rows))

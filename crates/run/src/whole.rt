@@ -61,7 +61,8 @@ fn with_parse(text: &[u8], values: Values, p: Parse) -> Values
 // Over what the outermost row found.
 pub fn whole_values(text: &[u8], rows: &[u32]) -> Values
     requires { ⌜ rowsSize ≤ length (now rows) ⌝ }
-    ensures { λ r. ⌜ r ≡ withValues values.Values.Nothing (wholeValues (now (text .entry)) (rowIn rows mostNesting .set)) ⌝ }
+    ensures { λ r. ⌜ r ≡ withValues values.Values.Nothing
+        (wholeValues (now (text .entry)) (rowIn rows mostNesting .set)) ⌝ }
 {
     let count = found(rows, MOST_NESTING);
     let mut values = Values::Nothing;

@@ -21,11 +21,14 @@ use Rattle.semantics.specs.Numbers.{mostNesting, mostRounds, tooDeep, tooManyPa
 use Rattle.semantics.specs.Values.{Parse}
 use Rattle.semantics.specs.Uses.{hasMark}
 use Rattle.semantics.specs.Tokens.{when, isSome, variableAt, freeEnd}
-use Rattle.semantics.specs.Steps.{Taken, stepAt, goes, halts, afterElement, closed, Todo, taking, elements, ending, todoOf}
+use Rattle.semantics.specs.Steps.{Taken, stepAt, goes, halts, afterElement, closed, Todo, taking, elements, ending}
+use Rattle.semantics.specs.Steps.{todoOf}
 use Rattle.semantics.specs.Cells.{Cell}
 use Rattle.semantics.specs.Errors.{Error, error, joinWith, choiceError, stepError}
-use Rattle.semantics.specs.Run.{Result, met, ok, _>>=_, State, Made, made, Call, call, allIn, kept, add, addAll, spend, make, failedCall, either, closingOf, begin, withCell, withToken, counted}
-use Rattle.run_model.specs.Rows.{Row, opened, ended, withVariant, withChild, wasAsked, withSet, withRun, copied, rowOf, onRow, useAt, minimum, same-start, governorOf, anyClaims}
+use Rattle.semantics.specs.Run.{Result, met, ok, _>>=_, State, Made, made, Call, call, allIn, kept, add, addAll, spend}
+use Rattle.semantics.specs.Run.{make, failedCall, either, closingOf, begin, withCell, withToken, counted}
+use Rattle.run_model.specs.Rows.{Row, opened, ended, withVariant, withChild, wasAsked, withSet, withRun, copied}
+use Rattle.run_model.specs.Rows.{rowOf, onRow, useAt, minimum, same-start, governorOf, anyClaims}
 
 -- units left, cells so far, and the rows
 pub record RowState : Type 0 where
@@ -107,10 +110,17 @@ noParse = record { rest = 0; level = 0; associativity = Associativity.Left; valu
 module _ (book : Book) (text : List ℕ) where
   -- ---- The end of a variant
   unfoldable pub valueCell : ℕ → ℕ → State → Result Made
-  valueCell j items s = when (nthVariant book j .passing) (λ _. ok (made items s)) (λ _. make text (Cell.variant j items) s)
+  valueCell j items s =
+      when (nthVariant book j .passing) (λ _. ok (made items s)) (λ _. make text (Cell.variant j items) s)
 
   abbrev pub parseOf : ℕ → ℕ → ℕ → Parse ℕ
-  parseOf j x value = record { rest = x; level = nthVariant book j .level; associativity = nthVariant book j .associativity; value = value }
+  parseOf j x value =
+      record {
+        rest = x;
+        level = nthVariant book j .level;
+        associativity = nthVariant book j .associativity;
+        value = value;
+      }
 
   -- a parse joins the run's set of row c
   unfoldable pub addRun : ℕ → Parse ℕ → RowState → Result Outcome
@@ -131,7 +141,8 @@ module _ (book : Book) (text : List ℕ) where
       (λ _. do
         b ← makes (begin book text j) s
         o ← run c j (todoOf book (nthVariant book j)) (r .start) (b .cell) (atRow c (takeVariant j) (b .state))
-        variantsRows run c m k (suc j) (joinWith e (counted book text (bareCall (r .nonterminal) (r .start)) j (o .failure))) (o .state))
+        variantsRows run c m k (suc j)
+            (joinWith e (counted book text (bareCall (r .nonterminal) (r .start)) j (o .failure))) (o .state))
       (λ _. variantsRows run c m k (suc j) e s)
 
   -- one run: the run's set is empty at first
@@ -157,22 +168,31 @@ module _ (book : Book) (text : List ℕ) where
       let s = o .state in
       let r = rowOf (s .rows) c in
       elim (r .run) [
-        | [] ↦ ok (outcome (some (failedCall (bareCall (r .nonterminal) (r .start)) (o .failure))) (atRow c (λ r. ended (copied r)) s))
-        | p ∷ ps ↦ when (eqb (r .asked) 1) (λ _. again (atRow c copied s)) (λ _. ok (outcome none (atRow c (λ r. ended (copied r)) s)))
+        | [] ↦
+            ok (outcome (some (failedCall (bareCall (r .nonterminal) (r .start)) (o .failure)))
+            (atRow c (λ r. ended (copied r)) s))
+        | p ∷ ps ↦
+            when (eqb (r .asked) 1) (λ _. again (atRow c copied s))
+            (λ _. ok (outcome none (atRow c (λ r. ended (copied r)) s)))
       ]
 
   unfoldable pub runCallRows : RowRunner → ℕ → ℕ → ℕ → ℕ → RowState → Result Outcome
-  runCallRows run n N u m s = oneRunRows run n m (atRow n (opened N u) s) >>= (λ o. settleFirst n (λ t. roundsRows mostRounds run n m t) o)
+  runCallRows run n N u m s =
+      oneRunRows run n m (atRow n (opened N u) s) >>= (λ o. settleFirst n (λ t. roundsRows mostRounds run n m t) o)
 
   -- ---- A use of mark 2
   abbrev pub claimedRows : List Row → ℕ → ℕ → Bool
   claimedRows T n u = isSome (variableAt book text u) && anyClaims book T u (mostNesting - n) (suc n)
 
+  abbrev pub identifierParse : ℕ → ℕ → Parse ℕ
+  identifierParse end cell =
+      record { rest = end; level = defaultLevel; associativity = Associativity.Both; value = cell }
+
   unfoldable pub namedRows : ℕ → ℕ → ℕ → RowState → Option ℕ → Result Outcome
   namedRows n N u s none = ok (outcome (some (failedCall (bareCall N u) none)) s)
   namedRows n N u s (some end) = do
     m ← makes (make text (Cell.name u (end - u))) s
-    ok (outcome none (atRow n (withSet (record { rest = end; level = defaultLevel; associativity = Associativity.Both; value = m .cell } ∷ [])) (m .state)))
+    ok (outcome none (atRow n (withSet (identifierParse end (m .cell) ∷ [])) (m .state)))
 
   unfoldable pub runIdentifierRows : ℕ → ℕ → ℕ → RowState → Result Outcome
   runIdentifierRows n N u s =
@@ -181,7 +201,8 @@ module _ (book : Book) (text : List ℕ) where
 
   -- ---- What follows a parse
   unfoldable pub plainNextRows : ℕ → ℕ → List (Todo ℕ) → ℕ → RowNext
-  plainNextRows c j rest items q s run = makes (withCell book text j items (q .value)) s >>= (λ m. run c j rest (q .rest) (m .cell) (m .state))
+  plainNextRows c j rest items q s run =
+      makes (withCell book text j items (q .value)) s >>= (λ m. run c j rest (q .rest) (m .cell) (m .state))
 
   unfoldable pub listNextRows : ℕ → ℕ → Bool → ℕ → ℕ → Option ℕ → List (Todo ℕ) → ℕ → RowNext
   listNextRows c j comma M values close rest items q s run = do
@@ -200,24 +221,27 @@ module _ (book : Book) (text : List ℕ) where
       | some y ↦ makes (withCell book text j items (l .cell)) (l .state) >>= (λ m. go y (m .cell) (m .state))
     ]
 
--- ---- One level of nesting, with n levels left. `inner` runs a variant one level further in; none is 21, "nesting beyond 200"
+-- ---- One level of nesting, with n levels left. `inner` runs a variant one level further in; none is 21
 module _ (book : Book) (text : List ℕ) (inner : Option RowRunner) (n : ℕ) where
   unfoldable pub nestedRows : RowState → (RowRunner → Result Outcome) → Result Outcome
   nestedRows s f = elim inner [ some run ↦ f run | none ↦ met tooDeep (s .units) ]
 
   -- what row n found are the parses that its governor has stored, filtered; the governor is asked
   abbrev pub answered : ℕ → RowState → RowState
-  answered g s = let r = rowOf (s .rows) g in atRow n (λ t. ended (withSet (kept (useAt r) (r .set)) t)) (atRow g wasAsked s)
+  answered g s =
+      let r = rowOf (s .rows) g in atRow n (λ t. ended (withSet (kept (useAt r) (r .set)) t)) (atRow g wasAsked s)
 
   unfoldable pub storedRows : ℕ → ℕ → ℕ → RowState → Outcome
-  storedRows g N u s = outcome (failsEmpty (rowOf (answered g s .rows) n .set) (error u nonterminalWanted N)) (answered g s)
+  storedRows g N u s =
+      outcome (failsEmpty (rowOf (answered g s .rows) n .set) (error u nonterminalWanted N)) (answered g s)
 
   unfoldable pub enterRows : ℕ → ℕ → RowState → Result Outcome
   enterRows N u s₀ = do
     s ← spendRows s₀
     elim (governorOf (s .rows) n N u) [
       | same-start g ↦ ok (storedRows g N u s)
-      | minimum m ↦ nestedRows s (λ run. when (hasMark book 2 N) (λ _. runIdentifierRows book text n N u s) (λ _. runCallRows book text run n N u m s))
+      | minimum m ↦ nestedRows s (λ run. when (hasMark book 2 N) (λ _. runIdentifierRows book text n N u s)
+          (λ _. runCallRows book text run n N u m s))
     ]
 
   -- the call of a child of row c's call
@@ -236,7 +260,8 @@ module _ (book : Book) (text : List ℕ) (inner : Option RowRunner) (n : ℕ) wh
 
   -- the parses of a child are followed, if there are any
   unfoldable pub followedRows : RowNext → Outcome → Result Outcome
-  followedRows next o = elim (o .failure) [ some e ↦ ok (outcome (some e) (o .state)) | none ↦ followRows next (o .state) ]
+  followedRows next o =
+      elim (o .failure) [ some e ↦ ok (outcome (some e) (o .state)) | none ↦ followRows next (o .state) ]
 
   unfoldable pub stepUnitRows : Step → RowState → Result RowState
   stepUnitRows step s = when (between 10 11 (stepNumber step)) (λ _. ok s) (λ _. spendRows s)
@@ -271,17 +296,21 @@ module _ (book : Book) (text : List ℕ) (inner : Option RowRunner) (n : ℕ) wh
 
   unfoldable pub stepsRows : RowRunner
   stepsRows c j [] x items s = completeRows book text c j x items s
-  stepsRows c j (elements comma M values close ∷ rest) x items s = choiceRows c j comma M values close rest (stepsRows c j rest) x items s
-  stepsRows c j (ending values close ∷ rest) x items s = stopsRows book text j values close (stepsRows c j rest) x items s
+  stepsRows c j (elements comma M values close ∷ rest) x items s =
+      choiceRows c j comma M values close rest (stepsRows c j rest) x items s
+  stepsRows c j (ending values close ∷ rest) x items s =
+      stopsRows book text j values close (stepsRows c j rest) x items s
   stepsRows c j (taking step ∷ rest) x items s₀ = do
     s ← stepUnitRows step s₀
     elim (stepAt book text step x) [
       | Taken.nothing ↦ ok (outcome (some (stepError book text step (skipFrom text x))) s)
-      | Taken.token t ↦ makes (withToken book text j items (t .item)) s >>= (λ m. stepsRows c j rest (t .next) (m .cell) (m .state))
+      | Taken.token t ↦ makes (withToken book text j items (t .item)) s >>=
+          (λ m. stepsRows c j rest (t .next) (m .cell) (m .state))
       | Taken.child M ↦ enterChildRows c M x s >>= (λ r. followedRows (plainNextRows book text c j rest items) r)
       | Taken.optional M ↦ orAbsentRows c j M rest (stepsRows c j rest) x items s
       | Taken.list comma M close y ↦ listingRows c j comma M close rest (stepsRows c j rest) y items s
-      | Taken.unopened y ↦ makes (make text Cell.empty) s >>= (λ e. stopsRows book text j (e .cell) none (stepsRows c j rest) y items (e .state))
+      | Taken.unopened y ↦ makes (make text Cell.empty) s >>=
+          (λ e. stopsRows book text j (e .cell) none (stepsRows c j rest) y items (e .state))
     ]
 
 module _ (book : Book) (text : List ℕ) where

@@ -55,22 +55,31 @@ abbrev pub opened : ℕ → ℕ → Row → Row
 opened N u r = row 1 N base u (r .level) (r .associativity) (r .child) 0 [] (r .run)
 
 abbrev pub ended : Row → Row
-ended r = row 0 (r .nonterminal) (r .scope) (r .start) (r .level) (r .associativity) (r .child) (r .asked) (r .set) (r .run)
+ended r =
+    row 0 (r .nonterminal) (r .scope) (r .start) (r .level) (r .associativity) (r .child) (r .asked) (r .set) (r .run)
 
 abbrev pub withVariant : ℕ → ℕ → Row → Row
-withVariant level associativity r = row (r .live) (r .nonterminal) (r .scope) (r .start) level associativity (r .child) (r .asked) (r .set) (r .run)
+withVariant level associativity r =
+    row (r .live) (r .nonterminal) (r .scope) (r .start) level associativity (r .child) (r .asked) (r .set) (r .run)
 
 abbrev pub withChild : ℕ → Row → Row
-withChild child r = row (r .live) (r .nonterminal) (r .scope) (r .start) (r .level) (r .associativity) child (r .asked) (r .set) (r .run)
+withChild child r =
+    row (r .live) (r .nonterminal) (r .scope) (r .start) (r .level) (r .associativity) child (r .asked) (r .set)
+    (r .run)
 
 abbrev pub wasAsked : Row → Row
-wasAsked r = row (r .live) (r .nonterminal) (r .scope) (r .start) (r .level) (r .associativity) (r .child) 1 (r .set) (r .run)
+wasAsked r =
+    row (r .live) (r .nonterminal) (r .scope) (r .start) (r .level) (r .associativity) (r .child) 1 (r .set) (r .run)
 
 abbrev pub withSet : List (Parse ℕ) → Row → Row
-withSet set r = row (r .live) (r .nonterminal) (r .scope) (r .start) (r .level) (r .associativity) (r .child) (r .asked) set (r .run)
+withSet set r =
+    row (r .live) (r .nonterminal) (r .scope) (r .start) (r .level) (r .associativity) (r .child) (r .asked) set
+    (r .run)
 
 abbrev pub withRun : List (Parse ℕ) → Row → Row
-withRun run r = row (r .live) (r .nonterminal) (r .scope) (r .start) (r .level) (r .associativity) (r .child) (r .asked) (r .set) run
+withRun run r =
+    row (r .live) (r .nonterminal) (r .scope) (r .start) (r .level) (r .associativity) (r .child) (r .asked)
+    (r .set) run
 
 -- the call's set is what its run found
 abbrev pub copied : Row → Row
@@ -147,7 +156,8 @@ pub data RowGovernor : Type 0 where
 unfoldable pub governorAt : List Row → ℕ → ℕ → RowGovernor
 governorAt T u g =
     when (ltb mostNesting g) (λ _. minimum 0)
-    (λ _. when (eqb (rowOf T g .start) u) (λ _. same-start g) (λ _. minimum (minimumOf (useAt (rowOf T g) .associativity) (rowOf T g .level))))
+    (λ _. when (eqb (rowOf T g .start) u) (λ _. same-start g) (λ _. minimum (minimumOf (useAt
+    (rowOf T g) .associativity) (rowOf T g .level))))
 
 abbrev pub governorOf : List Row → ℕ → ℕ → ℕ → RowGovernor
 governorOf T n N u = governorAt T u (newestGovernor T N u (mostNesting - n) (suc n))

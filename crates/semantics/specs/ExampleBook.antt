@@ -11,7 +11,8 @@ use Rattle.characters.specs.Skipping.{leading, spanEnd, commentAt, commentEnd, 
 use Rattle.characters.specs.Tokens.{identifierAt, decimal, numberOf, numberAt}
 use Rattle.characters.specs.Spelling.{same}
 use Rattle.book.specs.Book.{isReserved, lookupFrom}
-use Rattle.book.specs.Check.{checked, row, spelling, entry, nonterminal, variant, stepOf, step, allPass, ended, entireBook}
+use Rattle.book.specs.Check.{checked, row, spelling, entry, nonterminal, variant, stepOf, step, allPass, ended}
+use Rattle.book.specs.Check.{entireBook}
 use Rattle.book.specs.Check.{checkBook}
 use Rattle.semantics.specs.Uses.{outwards, govern, governor}
 use Rattle.semantics.specs.Tokens.{isSome, characterEnd, identifierEnd, reservedAt, freeEnd, variableAt}

@@ -16,7 +16,8 @@ use Rattle.semantics.specs.Run.{Result, met, ok, State, add, addAll, kept}
 use Rattle.sets.specs.declared.Parse as code
 
 abbrev pub parse : ℕ → ℕ → Associativity → ℕ → Parse ℕ
-parse rest level associativity value = record { rest = rest; level = level; associativity = associativity; value = value }
+parse rest level associativity value =
+    record { rest = rest; level = level; associativity = associativity; value = value }
 
 -- the code's parse, as document 01 has it
 abbrev pub parseOf : code.Parse → Parse ℕ
@@ -44,7 +45,9 @@ setAt f b = listAt f (b + 1) (countOf (getD f b 0))
 
 -- the four numbers of a parse, from place b on
 abbrev pub written : List ℕ → ℕ → Parse ℕ → List ℕ
-written f b p = set (set (set (set f b (p .rest)) (b + 1) (p .level)) (b + 2) (associativityNumber (p .associativity))) (b + 3) (p .value)
+written f b p =
+    set (set (set (set f b (p .rest)) (b + 1) (p .level)) (b + 2) (associativityNumber (p .associativity))) (b + 3)
+    (p .value)
 
 -- ---- What a function changes
 -- g differs from f at most in the m numbers from b on

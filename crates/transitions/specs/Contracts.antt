@@ -2,9 +2,9 @@
 -- text, the store of cells and the rows. Each unfolds to a definition of Outcomes or Steps. Scaffolding: no definition
 -- of document 01.
 --
--- What is asked: Short, Fitting, Ready. What is promised: Makes of a cell, Does of a part of the run, Continues of one that
--- goes on from an outcome, Stages and Reaches of a part that calls nothing. Then the parts of the model, from where a
--- path is.
+-- What is asked: Short, Fitting, Ready. What is promised: Makes of a cell, Does of a part of the run, Continues of one
+-- that goes on from an outcome, Stages and Reaches of a part that calls nothing. Then the parts of the model, from
+-- where a path is.
 use mathlib.Core.Bool.{Bool}
 use mathlib.Core.List.{List, _∷_}
 use mathlib.Core.Option.{Option}
@@ -50,19 +50,26 @@ abbrev pub Ready : Slice → Slice → Slice → Slice → ℕ → Type 0
 Ready book index text rows row = (row ≤ mostNesting) × (rowsSize ≤ length (now rows)) × Fitting book index text
 
 -- ---- What is promised
+-- a part of the model, by the book and the text: from a state, or from what came before it
+abbrev pub FromState : Type 0
+FromState = Book → List ℕ → RowState → Result Outcome
+
+abbrev pub FromResult : Type 0
+FromResult = Book → List ℕ → Result Outcome → Result Outcome
+
 -- a cell is made
 abbrev pub Makes : Lent → Lent → State → Made → (run.State → Result run.Made) → Type 0
 Makes text store s m part = MadeBy (atEntry text) (atEntry store) (atExit store) s m part
 
 -- a part of the run, from a state
-abbrev pub Does : Lent → Lent → Lent → Lent → Lent → State → code.Outcome → (Book → List ℕ → RowState → Result Outcome) → Type 0
+abbrev pub Does : Lent → Lent → Lent → Lent → Lent → State → code.Outcome → FromState → Type 0
 Does book index text store rows s r part =
     Runs (atEntry text) (atEntry store) (s .cells) (atExit store) (tableAfter rows) r
     (λ cells. part (bookAt book index) (atEntry text) (rowState (s .units) cells (tableAt rows)))
 
 -- a part of the run, after an outcome
 abbrev pub Continues :
-    Lent → Lent → Lent → Lent → Lent → code.Outcome → code.Outcome → (Book → List ℕ → Result Outcome → Result Outcome) → Type 0
+    Lent → Lent → Lent → Lent → Lent → code.Outcome → code.Outcome → FromResult → Type 0
 Continues book index text store rows before r part =
     Runs (atEntry text) (atEntry store) (before .state .cells) (atExit store) (tableAfter rows) r
     (λ cells. part (bookAt book index) (atEntry text) (given before cells (tableAt rows)))
@@ -87,22 +94,24 @@ Reaches book index text store here s g part =
 
 -- ---- Parts of the model
 -- a use of mark 2, in row n
-abbrev pub identifies : ℕ → ℕ → ℕ → Book → List ℕ → RowState → Result Outcome
+abbrev pub identifies : ℕ → ℕ → ℕ → FromState
 identifies n N u book text s = runIdentifierRows book text n N u s
 
 -- ---- From where a path is
 -- the variant's end
-abbrev pub completes : Progress → Book → List ℕ → RowState → Result Outcome
+abbrev pub completes : Progress → FromState
 completes here book text s = completeRows book text (here .call) (here .variant) (here .at) (here .items) s
 
 -- the next step
 abbrev pub takes : Progress → Book → List ℕ → Part
 takes here book text inner n c rest s =
-    stepsRows book text inner n c (here .variant) (taking (nthStep (book .steps) (here .step)) ∷ rest) (here .at) (here .items) s
+    stepsRows book text inner n c (here .variant) (taking (nthStep (book .steps) (here .step)) ∷ rest) (here .at)
+    (here .items) s
 
 -- a token was read
 abbrev pub reads : Option Item → ℕ → Progress → Book → List ℕ → Part
-reads item next here book text inner n c rest s = tokenRows book text inner n c (here .variant) rest item next (here .items) s
+reads item next here book text inner n c rest s =
+    tokenRows book text inner n c (here .variant) rest item next (here .items) s
 
 -- a list begins at a place
 abbrev pub lists : Bool → ℕ → Closing → ℕ → Progress → Book → List ℕ → Part
@@ -112,16 +121,19 @@ lists comma M closing place here book text inner n c rest s =
 
 -- kind 13 without its opening
 abbrev pub unopens : ℕ → Progress → Book → List ℕ → Part
-unopens place here book text inner n c rest s = unopenedRows book text inner n c (here .variant) rest place (here .items) s
+unopens place here book text inner n c rest s =
+    unopenedRows book text inner n c (here .variant) rest place (here .items) s
 
 -- a list stops at a place
 abbrev pub stops : ℕ → Closing → ℕ → Progress → Book → List ℕ → Part
 stops values closing place here book text inner n c rest s =
-    stopsRows book text (here .variant) values (closingIn closing) (stepsRows book text inner n c (here .variant) rest) place (here .items) s
+    stopsRows book text (here .variant) values (closingIn closing)
+    (stepsRows book text inner n c (here .variant) rest) place (here .items) s
 
 -- the first side of a choice
 abbrev pub sides : Next → Progress → Book → List ℕ → Part
-sides next here book text inner n c rest s = sideRows book text inner n c (here .variant) rest next (here .at) (here .items) s
+sides next here book text inner n c rest s =
+    sideRows book text inner n c (here .variant) rest next (here .at) (here .items) s
 
 -- what follows a parse
 abbrev pub follows : Next → Parse ℕ → Progress → Book → List ℕ → Part

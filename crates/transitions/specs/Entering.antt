@@ -13,8 +13,10 @@ use Rattle.semantics.specs.Cells.{Cell}
 use Rattle.semantics.specs.Uses.{hasMark}
 use Rattle.semantics.specs.Run.{Result, met, ok, _>>=_, begin, counted}
 use Rattle.run_model.specs.Rows.{Row, rowOf, onRow}
-use Rattle.run_model.specs.Model.{RowState, rowState, Outcome, outcome, RowRunner, makes, atRow, bareCall, takeVariant, settle, settleFirst}
-use Rattle.run_model.specs.Model.{runCallRows, runIdentifierRows, nestedRows, storedRows, enterRows, stepsRows, runnerRows}
+use Rattle.run_model.specs.Model.{RowState, rowState, Outcome, outcome, RowRunner, makes, atRow, bareCall, takeVariant}
+use Rattle.run_model.specs.Model.{settle, settleFirst}
+use Rattle.run_model.specs.Model.{runCallRows, runIdentifierRows, nestedRows, storedRows, enterRows, stepsRows}
+use Rattle.run_model.specs.Model.{runnerRows}
 use Rattle.calls.specs.Table.{goesOn}
 use Rattle.calls.specs.declared.Settled.{Settled}
 use Rattle.errors.specs.Maps.{failureOf}
@@ -47,12 +49,14 @@ goesIn book text n N u e cells T =
     (λ _. given (e .outcome) cells T)
 
 -- the store holds its cells, and a use that is to be run has a level of nesting left
-pub record Entering (book : Book) (text store : List ℕ) (T : List Row) (n N u : ℕ) (e : Entered) (z : Result Outcome) : Type 0 where
+pub record Entering (book : Book) (text store : List ℕ) (T : List Row) (n N u : ℕ) (e : Entered)
+    (z : Result Outcome) : Type 0 where
   pub is : goesIn book text n N u e (cellsOf store (e .outcome .state .cells)) T ≡ z
   pub held : Held text store (e .outcome .state .cells)
 
 -- one level of nesting, after the unit and the governor
-pub record Opens (book : Book) (text before after : List ℕ) (T U : List Row) (n N u m : ℕ) (s : State) (e : Entered) : Type 0 where
+pub record Opens (book : Book) (text before after : List ℕ) (T U : List Row) (n N u m : ℕ) (s : State)
+    (e : Entered) : Type 0 where
   pub does : Held text before (s .cells) → Entering book text after U n N u e
       (let t = rowState (s .units) (cellsOf before (s .cells)) T in
       nestedRows book text (runnerRows book text n) n t (λ run.
@@ -60,7 +64,8 @@ pub record Opens (book : Book) (text before after : List ℕ) (T U : List Row) (
   pub above : e .runs ≡ true → 0 < n
 
 -- a use of a nonterminal
-pub record Enters (book : Book) (text before after : List ℕ) (T U : List Row) (n N u : ℕ) (s : State) (e : Entered) : Type 0 where
+pub record Enters (book : Book) (text before after : List ℕ) (T U : List Row) (n N u : ℕ) (s : State)
+    (e : Entered) : Type 0 where
   pub does : Held text before (s .cells) → Entering book text after U n N u e
       (enterRows book text (runnerRows book text n) n N u (rowState (s .units) (cellsOf before (s .cells)) T))
   pub above : e .runs ≡ true → 0 < n
@@ -68,7 +73,8 @@ pub record Enters (book : Book) (text before after : List ℕ) (T U : List Row) 
 -- ---- Runs
 -- a call is run again, or over
 unfoldable pub goesAgain : (RowState → Result Outcome) → Ended → List Cell → List Row → Result Outcome
-goesAgain again e cells T = when (e .again) (λ _. again (rowState (e .outcome .state .units) cells T)) (λ _. given (e .outcome) cells T)
+goesAgain again e cells T =
+    when (e .again) (λ _. again (rowState (e .outcome .state .units) cells T)) (λ _. given (e .outcome) cells T)
 
 pub record EndedBy (T : List Row) (n : ℕ) (how : Settled) (failure : Failure) (s : State) (e : Ended) : Type 0 where
   pub is : (again : RowState → Result Outcome) (cells : List Cell) →
@@ -89,20 +95,24 @@ pub record RoundEnded (T U : List Row) (n : ℕ) (o : code.Outcome) (e : Ended) 
 
 -- ---- Variants
 -- a variant has begun, whatever runs its steps
-pub record Begun (book : Book) (text store : List ℕ) (T U : List Row) (n j units : ℕ) (cells : List Cell) (r : Reached) : Type 0 where
+pub record Begun (book : Book) (text store : List ℕ) (T U : List Row) (n j units : ℕ) (cells : List Cell)
+    (r : Reached) : Type 0 where
   pub is : (inner : Option RowRunner) (m : ℕ) (rest : List (Todo ℕ)) →
-      resumes book text inner m n j rest Doing.Steps (r .at) (r .items) (given (r .outcome) (cellsOf store (r .outcome .state .cells)) U)
+      resumes book text inner m n j rest Doing.Steps (r .at) (r .items)
+      (given (r .outcome) (cellsOf store (r .outcome .state .cells)) U)
       ≡ (makes (begin book text j) (rowState units cells T) >>= (λ b.
       stepsRows book text inner m n j rest (rowOf T n .start) (b .cell) (atRow n (takeVariant book text j) (b .state))))
   pub held : Held text store (r .outcome .state .cells)
   pub start : r .at ≡ rowOf T n .start
 
 abbrev pub Begins : Book → List ℕ → List ℕ → List ℕ → List Row → List Row → ℕ → ℕ → State → Reached → Type 0
-Begins book text before after T U n j s r = Held text before (s .cells) → Begun book text after T U n j (s .units) (cellsOf before (s .cells)) r
+Begins book text before after T U n j s r =
+    Held text before (s .cells) → Begun book text after T U n j (s .units) (cellsOf before (s .cells)) r
 
 -- what a variant gave is counted
 pub record Counted (book : Book) (j start : ℕ) (before o r : code.Outcome) : Type 0 where
   pub is : (text : List ℕ) (N : ℕ) (cells : List Cell) (T : List Row) →
       given r cells T ≡ (given o cells T >>= (λ y.
-      ok (outcome (joinWith (failureOf (failureAt before)) (counted book text (bareCall N start) j (y .failure))) (y .state))))
+      ok (outcome (joinWith (failureOf (failureAt before)) (counted book text (bareCall N start) j (y .failure)))
+      (y .state))))
   pub cells : r .state .cells ≡ o .state .cells

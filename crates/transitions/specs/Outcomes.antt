@@ -63,7 +63,8 @@ failureAt o = cond (eqb (o .failed) 0) Failure.Nothing (Failure.At (o .error))
 -- an outcome of the code, with the cells and rows that it leaves; a limit forgets them
 unfoldable pub given : Outcome → List Cell → List Row → Result model.Outcome
 given o cells T =
-    when (eqb (o .limit) 0) (λ _. ok (outcome (failureOf (failureAt o)) (rowState (o .state .units) cells T))) (λ _. met (o .limit) (o .state .units))
+    when (eqb (o .limit) 0) (λ _. ok (outcome (failureOf (failureAt o)) (rowState (o .state .units) cells T)))
+    (λ _. met (o .limit) (o .state .units))
 
 -- neither a limit nor a failure
 unfoldable pub goesOn : Outcome → Bool
@@ -80,16 +81,20 @@ Runs text before count after T o z = Held text before count → Ran text after T
 
 -- a unit was spent
 pub record Spent (r : Outcome) (s : State) : Type 0 where
-  pub is : (cells : List Cell) (T : List Row) → given r cells T ≡ (spendRows (rowState (s .units) cells T) >>= (λ t. ok (outcome none t)))
+  pub is : (cells : List Cell) (T : List Row) →
+      given r cells T ≡ (spendRows (rowState (s .units) cells T) >>= (λ t. ok (outcome none t)))
   pub cells : r .state .cells ≡ s .cells
 
 -- ---- Cells that were asked for
 unfoldable pub givenCell : Made → List Cell → Result run.Made
-givenCell m cells = when (eqb (m .limit) 0) (λ _. ok (made (m .cell) (bare (m .state .units) cells))) (λ _. met (m .limit) (m .state .units))
+givenCell m cells =
+    when (eqb (m .limit) 0) (λ _. ok (made (m .cell) (bare (m .state .units) cells)))
+    (λ _. met (m .limit) (m .state .units))
 
 pub record MadeIn (text store : List ℕ) (m : Made) (z : Result run.Made) : Type 0 where
   pub is : givenCell m (cellsOf store (m .state .cells)) ≡ z
   pub held : Held text store (m .state .cells)
 
 abbrev pub MadeBy : List ℕ → List ℕ → List ℕ → State → Made → (run.State → Result run.Made) → Type 0
-MadeBy text before after s m f = Held text before (s .cells) → MadeIn text after m (f (bare (s .units) (cellsOf before (s .cells))))
+MadeBy text before after s m f =
+    Held text before (s .cells) → MadeIn text after m (f (bare (s .units) (cellsOf before (s .cells))))

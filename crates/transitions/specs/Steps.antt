@@ -18,7 +18,8 @@ use Rattle.semantics.specs.Cells.{Cell}
 use Rattle.semantics.specs.Run.{Result, met, ok, _>>=_, make, withCell, withToken}
 use Rattle.run_model.specs.Rows.{Row}
 use Rattle.run_model.specs.Model.{RowState, rowState, Outcome, outcome, RowRunner, RowNext, makes, spendRows, together}
-use Rattle.run_model.specs.Model.{plainNextRows, listNextRows, stopsRows, enterChildRows, followedRows, chosenRows, orAbsentRows, choiceRows, stepUnitRows, stepsRows}
+use Rattle.run_model.specs.Model.{plainNextRows, listNextRows, stopsRows, enterChildRows, followedRows, chosenRows}
+use Rattle.run_model.specs.Model.{orAbsentRows, choiceRows, stepUnitRows, stepsRows}
 use Rattle.errors.specs.Maps.{failureOf}
 use Rattle.tokens.specs.Maps.{closingIn}
 use Rattle.transitions.specs.declared.outcomes.Outcome as code
@@ -36,19 +37,24 @@ todoFrom book step left = map taking (take left (drop step (book .steps)))
 -- ---- What follows a parse
 unfoldable pub nextRows : Book → List ℕ → ℕ → ℕ → List (Todo ℕ) → Next → ℕ → RowNext
 nextRows book text c j rest Next.Steps items = plainNextRows book text c j rest items
-nextRows book text c j rest (Next.Elements l) items = listNextRows book text c j (l .comma) (l .nonterminal) (l .values) (closingIn (l .closing)) rest items
+nextRows book text c j rest (Next.Elements l) items =
+    listNextRows book text c j (l .comma) (l .nonterminal) (l .values) (closingIn (l .closing)) rest items
 
 -- ---- With n levels of nesting left, in variant j of the call of row c, what is done next before the rest
 module _ (book : Book) (text : List ℕ) (inner : Option RowRunner) (n c j : ℕ) (rest : List (Todo ℕ)) where
   -- a child of nonterminal M at a place, and what follows its parses
   unfoldable pub descendsRows : Next → ℕ → ℕ → ℕ → RowState → Result Outcome
-  descendsRows next M at items s = enterChildRows book text inner n c M at s >>= (λ o. followedRows book text inner n (nextRows book text c j rest next items) o)
+  descendsRows next M at items s =
+      enterChildRows book text inner n c M at s >>= (λ o.
+      followedRows book text inner n (nextRows book text c j rest next items) o)
 
   -- an optional child, or the elements of a list
   unfoldable pub choosesRows : Next → ℕ → ℕ → ℕ → RowState → Result Outcome
-  choosesRows Next.Steps M at items s = orAbsentRows book text inner n c j M rest (stepsRows book text inner n c j rest) at items s
+  choosesRows Next.Steps M at items s =
+      orAbsentRows book text inner n c j M rest (stepsRows book text inner n c j rest) at items s
   choosesRows (Next.Elements l) M at items s =
-      choiceRows book text inner n c j (l .comma) M (l .values) (closingIn (l .closing)) rest (stepsRows book text inner n c j rest) at items s
+      choiceRows book text inner n c j (l .comma) M (l .values) (closingIn (l .closing)) rest
+      (stepsRows book text inner n c j rest) at items s
 
   unfoldable pub doesRows : Doing → ℕ → ℕ → RowState → Result Outcome
   doesRows Doing.Steps at items s = stepsRows book text inner n c j rest at items s
@@ -58,7 +64,11 @@ module _ (book : Book) (text : List ℕ) (inner : Option RowRunner) (n c j : ℕ
 
   -- what is done next, if neither a limit nor a failure ended the path
   unfoldable pub resumes : Doing → ℕ → ℕ → Result Outcome → Result Outcome
-  resumes doing at items z = z >>= (λ o. elim (o .failure) [ some e ↦ ok (outcome (some e) (o .state)) | none ↦ doesRows doing at items (o .state) ])
+  resumes doing at items z =
+      z >>= (λ o. elim (o .failure) [
+        | some e ↦ ok (outcome (some e) (o .state))
+        | none ↦ doesRows doing at items (o .state)
+      ])
 
   -- the first side of a choice: an optional child is absent, or a list stops
   unfoldable pub sideRows : Next → ℕ → ℕ → RowState → Result Outcome
@@ -67,26 +77,31 @@ module _ (book : Book) (text : List ℕ) (inner : Option RowRunner) (n c j : ℕ
       makes (withCell book text j items (absent .cell)) (absent .state) >>= (λ m.
       stepsRows book text inner n c j rest at (m .cell) (m .state)))
   sideRows (Next.Elements l) at items s =
-      spendRows s >>= (λ t. stopsRows book text j (l .values) (closingIn (l .closing)) (stepsRows book text inner n c j rest) at items t)
+      spendRows s >>= (λ t.
+      stopsRows book text j (l .values) (closingIn (l .closing)) (stepsRows book text inner n c j rest) at items t)
 
   -- kind 13 without its opening: the empty list
   unfoldable pub unopenedRows : ℕ → ℕ → RowState → Result Outcome
   unopenedRows at items s =
-      makes (make text Cell.empty) s >>= (λ e. stopsRows book text j (e .cell) none (stepsRows book text inner n c j rest) at items (e .state))
+      makes (make text Cell.empty) s >>= (λ e.
+      stopsRows book text j (e .cell) none (stepsRows book text inner n c j rest) at items (e .state))
 
   -- a token that ends at a place
   unfoldable pub tokenRows : Option Item → ℕ → ℕ → RowState → Result Outcome
   tokenRows item next items s =
-      makes (withToken book text j items item) s >>= (λ m. stepsRows book text inner n c j rest next (m .cell) (m .state))
+      makes (withToken book text j items item) s >>= (λ m.
+      stepsRows book text inner n c j rest next (m .cell) (m .state))
 
 -- ---- What a part that calls nothing promises
 -- a part of the model, whatever runs what is left
 abbrev pub Part : Type 0
 Part = Option RowRunner → ℕ → ℕ → List (Todo ℕ) → RowState → Result Outcome
 
-pub record Staged (book : Book) (text store : List ℕ) (j : ℕ) (o : code.Outcome) (doing : Doing) (at items units : ℕ) (cells : List Cell) (z : Part) : Type 0 where
+pub record Staged (book : Book) (text store : List ℕ) (j : ℕ) (o : code.Outcome) (doing : Doing) (at items units : ℕ)
+    (cells : List Cell) (z : Part) : Type 0 where
   pub is : (inner : Option RowRunner) (n c : ℕ) (rest : List (Todo ℕ)) (T : List Row) →
-      resumes book text inner n c j rest doing at items (given o (cellsOf store (o .state .cells)) T) ≡ z inner n c rest (rowState units cells T)
+      resumes book text inner n c j rest doing at items (given o (cellsOf store (o .state .cells)) T) ≡
+      z inner n c rest (rowState units cells T)
   pub held : Held text store (o .state .cells)
 
 abbrev pub Stages : Book → List ℕ → List ℕ → State → List ℕ → ℕ → Stage → Part → Type 0
@@ -102,17 +117,20 @@ Reaches book text before s after j g z =
 -- a step's unit was spent, if it has one
 pub record StepSpent (r : code.Outcome) (step : Step) (s : State) : Type 0 where
   pub is : (book : Book) (text : List ℕ) (inner : Option RowRunner) (n : ℕ) (cells : List Cell) (T : List Row) →
-      given r cells T ≡ (stepUnitRows book text inner n step (rowState (s .units) cells T) >>= (λ t. ok (outcome none t)))
+      given r cells T ≡
+      (stepUnitRows book text inner n step (rowState (s .units) cells T) >>= (λ t. ok (outcome none t)))
   pub cells : r .state .cells ≡ s .cells
 
 -- both sides of a choice at a place
 pub record Chosen (text : List ℕ) (T : List Row) (c at : ℕ) (a b r : code.Outcome) : Type 0 where
   pub is : (book : Book) (inner : Option RowRunner) (n : ℕ) (cells : List Cell) →
-      given r cells T ≡ (given b cells T >>= (λ y. ok (chosenRows book text inner n c (skipFrom text at) (failureOf (failureAt a)) y)))
+      given r cells T ≡ (given b cells T >>= (λ y.
+      ok (chosenRows book text inner n c (skipFrom text at) (failureOf (failureAt a)) y)))
   pub cells : r .state .cells ≡ b .state .cells
 
 -- what follows the i-th parse, after those before it
 pub record Joined (i : ℕ) (before o r : code.Outcome) : Type 0 where
   pub is : (cells : List Cell) (T : List Row) →
-      given r cells T ≡ (given o cells T >>= (λ y. ok (outcome (together i (failureOf (failureAt before)) (y .failure)) (y .state))))
+      given r cells T ≡ (given o cells T >>= (λ y. ok (outcome (together i (failureOf (failureAt before))
+      (y .failure)) (y .state))))
   pub cells : r .state .cells ≡ o .state .cells

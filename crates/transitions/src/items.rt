@@ -126,7 +126,8 @@ pub fn with_token(
     state: State,
 ) -> Made
     requires { ⌜ ItemFits item ⌝ }
-    ensures { λ r. ⌜ Makes text store state r (run.withToken (bookAt book index) (atEntry text) j items (itemOf item)) ⌝ }
+    ensures { λ r. ⌜ Makes text store state r
+        (run.withToken (bookAt book index) (atEntry text) j items (itemOf item)) ⌝ }
 {
     if adds(item) {
         let m = make(text, store, item_numbers(item), state);
