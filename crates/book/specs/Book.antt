@@ -17,7 +17,7 @@ pub record Entry : Type 0 where
   pub label : ℕ
   pub spelling : List ℕ
 
--- A nonterminal's variants are the `number` ones from `first` on, and so are a variant's steps; both are numbered over
+-- A nonterminal's variants are the `count` ones from `first` on, and so are a variant's steps; both are numbered over
 -- the book from 0
 pub record Book : Type 0 where
   pub words : List Entry

@@ -25,7 +25,7 @@ fn get(index: &[usize], i: usize) -> usize
     if i < index.len() { index[i] } else { 0 }
 }
 
-// A store, and nothing past the end.
+// Writes a number; past the end it does nothing.
 pub fn put(index: &mut [usize], i: usize, number: usize)
     ensures { λ _. ⌜ now (index .exit) ≡ set (now (index .entry)) i number ⌝ }
 {

@@ -6,9 +6,9 @@
 // Every slice of 104,922 numbers gives a table (`table` of specs/Table.antt), so nothing needs to be cleared: a row is
 // written before it is read.
 //
-// Each function equals the definition of the same name in the crate run_model (specs/Rows.antt and specs/Model.antt
-// there), on the table that the slice gives, and changes at most one row of it, `answer` two. It asks only that the
-// slice has its numbers and that the row is one of the table (`InTable`).
+// Each function equals the definition of the crate run_model that its contract names (specs/Rows.antt and
+// specs/Model.antt there), on the table that the slice gives, and changes at most one row of it, `answer` two. It asks
+// only that the slice has its numbers and that the row is one of the table (`InTable`).
 //
 // The crate relies on the promises of sets and book and on the definitions of book, semantics and run_model, and
 // assumes nothing. specs/ has the definitions (Table) and laws.

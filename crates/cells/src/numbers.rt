@@ -31,7 +31,7 @@ pub const ABSENT_FORM: u32 = 7;
 
 pub const LIST_FORM: u32 = 8;
 
-// how many there are
+// how many hashes there are, and so chains of cells with one hash
 pub const HASHES: usize = 1024;
 
 pub fn empty() -> Numbers

@@ -15,7 +15,7 @@ pub const MOST_CELLS: u32 = 4096;
 // three for each cell
 pub const CELLS_SIZE: usize = 12288;
 
-// The link of cell n stands at LINKS + n.
+// The link of cell n stands at LINKS + n; cells are numbered from 1.
 const LINKS: usize = CELLS_SIZE - 1;
 
 // behind the links of all cells
@@ -36,7 +36,7 @@ fn get(store: &[u32], i: usize) -> u32
     if i < store.len() { store[i] } else { 0 }
 }
 
-// A store, and nothing past the end.
+// Writes a number; past the end it does nothing.
 fn put(store: &mut [u32], i: usize, x: u32)
     ensures { λ _. ⌜ now (store .exit) ≡ set (now (store .entry)) i x ⌝ }
 {

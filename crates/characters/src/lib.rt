@@ -5,7 +5,7 @@
 // but `std`, and assumes nothing.
 //
 // specs/ has the definitions (Classes, Skipping, Tokens, Spelling) and, in files of their own, the laws that the layers
-// above cite.
+// above cite; and the words in which the contracts of all crates speak of a lent slice (Slices).
 mod classes;
 mod lexemes;
 mod skipping;

@@ -252,7 +252,8 @@ fn choice(
     both(text, rows, here, a, b)
 }
 
-// What the path does next, and the steps that remain, up to a child or the variant's end; if nothing ended the path.
+// Goes on from where a path is: first what comes next, then the steps that remain, up to a child or to the variant's
+// end. A path that a limit or a failure has ended stays ended.
 fn steps(
     book: &[u8],
     index: &[usize],

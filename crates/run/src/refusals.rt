@@ -1,6 +1,7 @@
-// The refusals of the call itself and its limits, by document 01's table in "The answer". The book's refusals, 3 to 8,
-// stand in the crate book, those of the run, 20 to 23, in transitions. "cells under 12,288 numbers or parses under
-// 256"; also too little working memory
+// The refusals of the call itself, with the limits that they guard, by document 01's table in "The answer". The book's
+// refusals, 3 to 8, stand in the crate book, those of the run, 20 to 23, in transitions.
+
+// "cells under 12,288 numbers or parses under 256"; also too little working memory
 pub const SHORT_LISTS: u32 = 1;
 
 // "allowance 0 or above 1,000,000"

@@ -58,7 +58,7 @@ fn with_parse(text: &[u8], values: Values, p: Parse) -> Values
     }
 }
 
-// Over what the outermost row found.
+// The values of the whole parses that the outermost row found.
 pub fn whole_values(text: &[u8], rows: &[u32]) -> Values
     requires { ⌜ rowsSize ≤ length (now rows) ⌝ }
     ensures { λ r. ⌜ r ≡ withValues values.Values.Nothing

@@ -41,7 +41,7 @@ pub const PARSES_SIZE: usize = 4 * MOST_PARSES;
 pub const SET_SIZE: usize = 1 + PARSES_SIZE;
 
 // ---- One parse
-// The associativity that a number says, any number above 2 being Both; and the number of one.
+// The associativity that a number says, any number above 2 being Both.
 pub fn associativity_of(number: u32) -> Associativity
     ensures { λ r. ⌜ r ≡ associativityOf number ⌝ }
 {
@@ -53,6 +53,7 @@ pub fn associativity_of(number: u32) -> Associativity
     }
 }
 
+// The number of an associativity.
 pub fn associativity_number(associativity: Associativity) -> u32
     ensures { λ r. ⌜ r ≡ associativityNumber associativity ⌝ }
 {

@@ -335,6 +335,7 @@ fn identifier_error(book: &[u8], index: &[usize], text: &[u8], at: u32, other: E
     }
 }
 
+// Digits were wanted, or the number is too large; where a number is, this isn't asked for.
 fn number_error(text: &[u8], at: u32) -> Error
     ensures { λ r. ⌜ ((book : Book) → errorOf r ≡ stepError book (now (text .entry)) Step.Number at) ⌝ }
 {

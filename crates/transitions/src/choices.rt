@@ -82,7 +82,7 @@ fn first_stop(
     )
 }
 
-// The first side of a choice.
+// The first side of a choice. `next` tells its sort: the steps that are left, of an optional child; or the list.
 pub fn first_side(
     book: &[u8],
     index: &[usize],

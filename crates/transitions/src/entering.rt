@@ -49,7 +49,7 @@ pub struct Entered {
     pub outcome: Outcome,
 }
 
-// A run is over: it is to be run again, or the call is over.
+// How a call stands after a run: it is to be run again, or it is over.
 pub struct Ended {
     pub again: bool,
     pub outcome: Outcome,

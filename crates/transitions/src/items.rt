@@ -150,7 +150,7 @@ fn adds(item: Item) -> bool
     }
 }
 
-// The variant's own; of a passing one, the child's.
+// The variant's own cell; of a passing one, the child's.
 pub fn value(
     book: &[u8],
     index: &[usize],

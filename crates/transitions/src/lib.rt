@@ -8,7 +8,9 @@
 // 104,922 numbers, that row numbers are at most 200, and that the numbers of the book and the text fit into 32 bits
 // (`Fit` of specs/Fit.antt).
 //
-// The crate relies on the promises of calls, cells, tokens, book and characters, and assumes nothing.
+// A row's number is the levels of nesting left, and so also the first row that is free.
+//
+// The crate relies on the promises of calls, sets, cells, tokens, errors, book and characters, and assumes nothing.
 mod choices;
 mod entering;
 mod items;

@@ -378,7 +378,7 @@ pub fn next_of(
     }
 }
 
-// The failures of what follows the parses of a child, up to the i-th.
+// The failures of what follows the parses of a child, up to the i-th; before the first there is none to join.
 pub fn joined(i: usize, before: Outcome, o: Outcome) -> Outcome
     ensures { λ r. ⌜ Joined i before o r ⌝ }
 {
