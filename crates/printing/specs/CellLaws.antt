@@ -5,8 +5,8 @@
 --   gap-                                 what stands before an item
 --   item-, items-                        the bytes of a cell and of a chain
 --
--- The plan. A cell's meaning goes by the cells before it (`meanings`); here it goes by the cell and what the older cells
--- stand for among all (`stands-is`). Then the bytes of a cell follow, form by form. Not here: numbers in decimal
+-- The plan. A cell's meaning goes by the cells before it (`meanings`); here it goes by the cell and what the older
+-- cells stand for among all (`stands-is`). Then the bytes of a cell follow, form by form. Not here: numbers in decimal
 -- (NumberLaws).
 use mathlib.Core.Path.{_≡_, refl, sym, ap, _∙_}
 use mathlib.Core.Bool.{Bool, true, false, cond}

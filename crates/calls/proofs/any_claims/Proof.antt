@@ -1,4 +1,5 @@
--- `calls::any_claims` meets its contract. The invariant (`Asking` of CallLaws): a row from here on claims where one above n does.
+-- `calls::any_claims` meets its contract. The invariant (`Asking` of CallLaws): a row from here on claims where one
+-- above n does.
 use Prim.Native.Nat.{_-_, _<_, _≤_}
 use native.Mathlib.Omega.{arith}
 use Rattle.book.specs.Index.{bookIn}

@@ -1,4 +1,5 @@
--- `calls::newest_governor` meets its contract. The invariant (`Seeking` of CallLaws): the newest governor from here on is the one above n.
+-- `calls::newest_governor` meets its contract. The invariant (`Seeking` of CallLaws): the newest governor from here on
+-- is the one above n.
 use Prim.Native.Nat.{_-_, _<_, _≤_}
 use native.Mathlib.Omega.{arith}
 use Rattle.calls.specs.Table.{table}

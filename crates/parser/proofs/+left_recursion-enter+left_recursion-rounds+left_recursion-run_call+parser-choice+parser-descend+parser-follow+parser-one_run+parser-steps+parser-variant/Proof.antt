@@ -1,7 +1,9 @@
--- The functions of the cycle meet their contracts: `enter`, `rounds`, `run_call` of left_recursion.rt and `choice`, `descend`, `follow`, `one_run`, `steps`,
--- `variant` of parser.rt. Each return and each turn of a loop is one law of specs/CallLaws, VariantLaws, ChildLaws or PathLaws, applied to what was called before it.
+-- The functions of the cycle meet their contracts: `enter`, `rounds`, `run_call` of left_recursion.rt and `choice`,
+-- `descend`, `follow`, `one_run`, `steps`, `variant` of parser.rt. Each return and each turn of a loop is one law of
+-- specs/CallLaws, VariantLaws, ChildLaws or PathLaws, applied to what was called before it.
 --
--- The measures: 2,048 for each level of nesting left, 6 for each step left, and a rank that falls from one function to the next on one level.
+-- The measures: 2,048 for each level of nesting left, 6 for each step left, and a rank that falls from one function to
+-- the next on one level.
 use Rattle.parser.specs.PathLaws.{choice-stopped, choice-both, path-ended, path-child, path-optional, path-elements, path-end, path-step, rank-few, rank-child, rank-optional, rank-elements}
 use Rattle.parser.specs.ChildLaws.{descended, follow-ended, follow-whole, follow-end, follow-deep, follow-stop, follow-again}
 use Rattle.parser.specs.VariantLaws.{variants-end, variants-stop, variants-again, one-run-whole, variant-skipped, variant-ran, variants-fit, steps-fit}

@@ -1,5 +1,5 @@
--- Places: what a step takes, and where a list goes on, never lies before its place; an error stands where its step was wanted; a governor at its own start
--- and a use that claims a name begin where the child does.
+-- Places: what a step takes, and where a list goes on, never lies before its place; an error stands where its step was
+-- wanted; a governor at its own start and a use that claims a name begin where the child does.
 use mathlib.Core.Path.{_≡_, refl, ap, subst}
 use mathlib.Core.Bool.{Bool, true, false, _&&_, false≢true, and-eq-true-iff}
 use mathlib.Core.List.{List, [], _∷_, List·Memᴰ·head, List·Memᴰ·tail}

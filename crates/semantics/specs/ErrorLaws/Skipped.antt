@@ -1,9 +1,10 @@
 -- Where the errors of a run stand.
 --
--- The plan. A call begins at a skipped place, and no use around it begins later (`Around`); its steps, and the rests of its parses, never lie before its
--- start (`Behind`). So errors, which stand at the start of a call, at the place of a choice or where a step was wanted, stand at skipped places (`Fails`).
--- And a use around a call that begins where the call's child does begins where the call itself does (`child-at-start`). Each part of the run has one law, in
--- the order in which it is defined.
+-- The plan. A call begins at a skipped place, and no use around it begins later (`Around`); its steps, and the rests of
+-- its parses, never lie before its start (`Behind`). So errors, which stand at the start of a call, at the place of a
+-- choice or where a step was wanted, stand at skipped places (`Fails`). And a use around a call that begins where the
+-- call's child does begins where the call itself does (`child-at-start`). Each part of the run has one law, in the
+-- order in which it is defined.
 use mathlib.Core.Path.{_≡_, refl, sym, _∙_, ap, subst}
 use mathlib.Core.Bool.{Bool, true, false, cond}
 use mathlib.Core.List.{List, [], _∷_, List·Memᴰ·head, List·Memᴰ·tail, List·Memᴰ·not-nil, List·Memᴰ·eq-of-singleton}

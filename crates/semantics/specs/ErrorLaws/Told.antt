@@ -1,5 +1,5 @@
--- The run once more, with errors that are told for re-entries and claimed names: what "The run" says from a call's governor on. `run-with` of
--- ErrorLaws/Unseen holds it to the run's own definition, whatever is told.
+-- The run once more, with errors that are told for re-entries and claimed names: what "The run" says from a call's
+-- governor on. `run-with` of ErrorLaws/Unseen holds it to the run's own definition, whatever is told.
 use mathlib.Core.Bool.{Bool, false}
 use mathlib.Core.List.{List, [], _∷_}
 use mathlib.Core.Option.{Option, none, some}

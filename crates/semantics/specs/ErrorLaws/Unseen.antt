@@ -1,9 +1,9 @@
--- The error of a re-entry, and that of a claimed name, are never seen: with any errors in their place, of whatever kind and argument, the run is the same
--- (`run-with`).
+-- The error of a re-entry, and that of a claimed name, are never seen: with any errors in their place, of whatever kind
+-- and argument, the run is the same (`run-with`).
 --
--- The plan. What is left of a variant gives the same parses in the same state, and failures that its call can't tell apart (`Like`): a re-entry, and a
--- claimed name, fail at the start of the call that asked. So the call gives the very same (`Same`), since it counts only what stands beyond its start. Each
--- part of the run has one law.
+-- The plan. What is left of a variant gives the same parses in the same state, and failures that its call can't tell
+-- apart (`Like`): a re-entry, and a claimed name, fail at the start of the call that asked. So the call gives the very
+-- same (`Same`), since it counts only what stands beyond its start. Each part of the run has one law.
 use mathlib.Core.Path.{_≡_, refl, sym, _∙_, ap, subst}
 use mathlib.Core.Bool.{Bool, true, false, and-eq-true-iff}
 use mathlib.Core.List.{List, [], _∷_, List·Memᴰ·head, List·Memᴰ·tail, List·Memᴰ·not-nil, List·Memᴰ·eq-of-singleton}
@@ -202,7 +202,8 @@ module _ (book : Book) (text : List ℕ) where
                   let k = claimant book text P base u (and-eq-true-iff (isSome (variableAt book text u)) (hasClaimant book text P base u) .0 t .1) in
                   alone (k .by) (k .member) (k .start)
 
-      -- a child's call, of a call that begins at v, where every use around it that begins there makes the call begin there too
+      -- a child's call, of a call that begins at v, where every use around it that begins there makes the call begin
+      -- there too
       module _ (v : ℕ) (l : v ≤ u) (starts : (f : Use) → f ∈ P → f .start ≡ u → u ≡ v) where
         alike-there : (a b : Error) → u ≡ v → a .place ≡ u → b .place ≡ u → Alike v a b
         alike-there a b s h k = record { at = h ∙ sym k; beyond-it = λ far. absurd (omega arith) }

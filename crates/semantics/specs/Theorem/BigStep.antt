@@ -1,4 +1,5 @@
--- The run as a relation, over trees: which sets its calls, variants and steps find, and which marks stand after them. It knows nothing of work, nesting, cells and errors.
+-- The run as a relation, over trees: which sets its calls, variants and steps find, and which marks stand after them.
+-- It knows nothing of work, nesting, cells and errors.
 use mathlib.Core.Path.{_≡_}
 use mathlib.Core.Bool.{Bool, true, false, cond}
 use mathlib.Core.List.{List, [], _∷_}
@@ -19,7 +20,8 @@ use Rattle.semantics.specs.Theorem.Lists.{_∈_, sift, nth, Joins}
 abbrev pub Sets : Type 0
 Sets = List (List (Parse Tree))
 
--- a call while its variants run: its path, the stored sets of the open calls around it, its nonterminal and start, its own stored set
+-- a call while its variants run: its path, the stored sets of the open calls around it, its nonterminal and start, its
+-- own stored set
 pub record Open : Type 0 where
   pub path : Path
   pub sets : Sets

@@ -1,4 +1,5 @@
--- Facts of a book that the check has accepted: a nonterminal of mark 2 has no variants, and a passing variant has one step, of kind 8.
+-- Facts of a book that the check has accepted: a nonterminal of mark 2 has no variants, and a passing variant has one
+-- step, of kind 8.
 use mathlib.Core.Path.{_≡_, refl, ap, subst}
 use mathlib.Core.Bool.{Bool, true, false, cond, false≢true, and-eq-true-iff}
 use mathlib.Core.List.{List, [], _∷_, map}

@@ -1,10 +1,13 @@
--- What has a derivation is found. By recursion on the height h of the derivation: suppose that calls find every derivation of height at most h; take a call and
--- a derivation of height at most h + 1. Its children are lower, so their calls find them, and the steps go the derivation's way. Two places need the marks.
---   A child at its governor's own start is read from that governor's stored set. So the sets of the calls that are marked in the end have to hold all of height
+-- What has a derivation is found. By recursion on the height h of the derivation: suppose that calls find every
+-- derivation of height at most h; take a call and a derivation of height at most h + 1. Its children are lower, so
+-- their calls find them, and the steps go the derivation's way. Two places need the marks.
+--   A child at its governor's own start is read from that governor's stored set. So the sets of the calls that are
+--   marked in the end have to hold all of height
 --   at most h (Full below); marks only come, so what is asked for on the way is marked in the end.
---   The call itself is such a governor. In its last round its stored set is its result, which holds all of height at most h by the supposition, taken of this
---   very call; and where there are no rounds, it was not asked, or its result and its stored set are both empty.
--- There is no recursion on the run: it is taken apart along the derivation.
+--   The call itself is such a governor. In its last round its stored set is its result, which holds all of height at
+--   most h by the supposition, taken of this
+--   very call; and where there are no rounds, it was not asked, or its result and its stored set are both empty. There
+--   is no recursion on the run: it is taken apart along the derivation.
 use mathlib.Core.Path.{_≡_, refl, sym, _∙_, ap, subst}
 use mathlib.Core.Bool.{Bool, true, false, cond, false≢true}
 use mathlib.Core.List.{List, [], _∷_, List·Memᴰ·head, List·Memᴰ·tail, List·Memᴰ·not-nil}
@@ -274,7 +277,8 @@ module _ (book : Book) (text : List ℕ) where
         DThrough book text h (attempt P N u k p) (todoOf book (nthVariant book k)) u no-trees → p ∈ R
     c-runs (runs v) F i k l e high p d = c-variants v F i k l e high p d
 
-    -- a run of a call's variants finds what is one higher, by a variant: the use has no other governor and is no mark-2 use
+    -- a run of a call's variants finds what is one higher, by a variant: the use has no other governor and is no mark-2
+    -- use
     by-run : {P : Path} {S : Sets} {m N u : ℕ} {T : List (Parse Tree)} {B : List Bool} {R : List (Parse Tree)} {B′ : List Bool} →
         governor P base N u ≡ minimum m → hasMark book 2 N ≡ false → Runs book text P S m N u T B R B′ → FullIn h (open′ P S N u T) B′ →
         HoldsAll (suc h) P N u R

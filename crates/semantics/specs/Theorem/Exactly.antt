@@ -1,4 +1,5 @@
--- The theorem: what the run of a use finds, with no open call around it, is exactly what has a derivation. A mark-2 nonterminal must have no variants.
+-- The theorem: what the run of a use finds, with no open call around it, is exactly what has a derivation. A mark-2
+-- nonterminal must have no variants.
 use mathlib.Core.Bool.{Bool}
 use mathlib.Core.List.{List, []}
 use mathlib.Core.Logic.{_↔_}

@@ -1,7 +1,9 @@
--- From the start of a run to its end, every cell number that it holds is a cell of the table, and stands for a tree or a chain, as it should.
+-- From the start of a run to its end, every cell number that it holds is a cell of the table, and stands for a tree or
+-- a chain, as it should.
 --
--- The plan. A part of the run begins with what is held (`Ready`, `Left`); if it has a result, then it has only added cells, and its set holds (`Gives`). Each
--- part has one law of this kind, in the order in which the run is defined; a level of nesting takes the law of the level inside it.
+-- The plan. A part of the run begins with what is held (`Ready`, `Left`); if it has a result, then it has only added
+-- cells, and its set holds (`Gives`). Each part has one law of this kind, in the order in which the run is defined; a
+-- level of nesting takes the law of the level inside it.
 use mathlib.Core.Path.{_≡_, refl, sym, _∙_, ap, subst}
 use mathlib.Core.Bool.{Bool, true}
 use mathlib.Core.List.{List, [], _∷_, List·Memᴰ·head, List·Memᴰ·tail}

@@ -1,5 +1,5 @@
--- Found is derivable: where a book is accepted and no limit is met, the answer lists exactly the parses with a finite derivation, each once, and returns a value exactly
--- when some derivation reaches the end and all that do agree.
+-- Found is derivable: where a book is accepted and no limit is met, the answer lists exactly the parses with a finite
+-- derivation, each once, and returns a value exactly when some derivation reaches the end and all that do agree.
 use mathlib.Core.Path.{_≡_, refl, sym, _∙_, ap, subst}
 use mathlib.Core.Bool.{true, false, _||_}
 use mathlib.Core.List.{List, [], _∷_, map, List·Memᴰ·head, List·Memᴰ·tail, List·Memᴰ·not-nil, Memᴰ·map, Memᴰ·of-map}

@@ -1,5 +1,5 @@
--- Derivations of at most a height, and that every derivation has one. Only a use adds to the height: a child is lower than the use that has it, and what is
--- left to do of a variant counts as high as its highest child.
+-- Derivations of at most a height, and that every derivation has one. Only a use adds to the height: a child is lower
+-- than the use that has it, and what is left to do of a variant counts as high as its highest child.
 use mathlib.Core.Path.{_≡_}
 use mathlib.Core.Bool.{true, false}
 use mathlib.Core.List.{List, [], _∷_}

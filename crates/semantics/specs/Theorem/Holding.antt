@@ -1,8 +1,9 @@
 -- What a run holds on its way, and that it stays so as cells come.
 --
--- The plan. The cells so far are a table (`Tabled`); the values of every set of parses are cells that stand for trees (`Held`); the items of the variant under
--- way are a cell that stands for a chain, and so are the values of its lists (`Left`). All of this stays when cells are added behind (`Grown`). A part of the
--- run that has a result has only added cells, and its set holds (`Gives`). With this come the laws of the cells that a variant makes: as it begins, for each
+-- The plan. The cells so far are a table (`Tabled`); the values of every set of parses are cells that stand for trees
+-- (`Held`); the items of the variant under way are a cell that stands for a chain, and so are the values of its lists
+-- (`Left`). All of this stays when cells are added behind (`Grown`). A part of the run that has a result has only added
+-- cells, and its set holds (`Gives`). With this come the laws of the cells that a variant makes: as it begins, for each
 -- item, and as it is complete.
 use mathlib.Core.Path.{_≡_, refl, sym, _∙_, subst}
 use mathlib.Core.Bool.{Bool, true, false, cond}
@@ -66,13 +67,15 @@ Values text C (taking step ∷ rest) = Values text C rest
 Values text C (elements comma M values close ∷ rest) = Chain text C values × Values text C rest
 Values text C (ending values close ∷ rest) = Chain text C values × Values text C rest
 
--- what is sure to add an item if it goes on: of the steps a child, the only one that a passing variant has, and every list
+-- what is sure to add an item if it goes on: of the steps a child, the only one that a passing variant has, and every
+-- list
 abbrev pub Adds : Todo ℕ → Type 0
 Adds (taking step) = (M : ℕ) × (step ≡ Step.Nonterminal M)
 Adds (elements comma M values close) = Unit {0}
 Adds (ending values close) = Unit {0}
 
--- a passing variant has its one item still before it, whatever its items are so far; or its items are the cell of that item, which is its value
+-- a passing variant has its one item still before it, whatever its items are so far; or its items are the cell of that
+-- item, which is its value
 abbrev pub Passing : List ℕ → List Cell → List (Todo ℕ) → ℕ → Type 0
 Passing text C [] items = Item text C items
 Passing text C (todo ∷ rest) items = Adds todo × (rest ≡ [])

@@ -1,6 +1,7 @@
--- The run meets no other limit than 20 to 23. A part of the run is limited where no other number comes out of it. The parts that meet a limit themselves are
--- `spend` (20), `nested` (21), `add` and `rounds` (22) and `make` (23); every other part hands on what it meets. So each is limited if what it runs is: the
--- runner one level further in, what is left on the same level (a `Go`), and what follows a parse (a `Next`). The law of a part has the part's own shape, and
+-- The run meets no other limit than 20 to 23. A part of the run is limited where no other number comes out of it. The
+-- parts that meet a limit themselves are `spend` (20), `nested` (21), `add` and `rounds` (22) and `make` (23); every
+-- other part hands on what it meets. So each is limited if what it runs is: the runner one level further in, what is
+-- left on the same level (a `Go`), and what follows a parse (a `Next`). The law of a part has the part's own shape, and
 -- the whole is by the levels of nesting.
 use mathlib.Core.Path.{_≡_, refl, sym, subst}
 use mathlib.Core.Bool.{Bool, true}

@@ -1,6 +1,7 @@
--- The run does what the relation says of the trees that its cells stand for in the table in which it ends. Each law takes a part of the run that has a result,
--- and a table to which that result's cells lead; it gives back that the cells at the beginning lead there too, and what the relation finds. Here: variants, rounds and
--- uses, given that what is left of a variant is run well.
+-- The run does what the relation says of the trees that its cells stand for in the table in which it ends. Each law
+-- takes a part of the run that has a result, and a table to which that result's cells lead; it gives back that the
+-- cells at the beginning lead there too, and what the relation finds. Here: variants, rounds and uses, given that what
+-- is left of a variant is run well.
 use mathlib.Core.Path.{_≡_, refl, sym, _∙_, ap, subst}
 use mathlib.Core.Bool.{Bool, true, false}
 use mathlib.Core.List.{List, [], _∷_, _++_, map, List·Memᴰ·head, List·Memᴰ·not-nil}

@@ -1,4 +1,5 @@
--- The lists at exit hold what the run found: entry i of the parses list is parse i of its set, and a cell stands in the cells list for what it stands for in the run.
+-- The lists at exit hold what the run found: entry i of the parses list is parse i of its set, and a cell stands in the
+-- cells list for what it stands for in the run.
 use mathlib.Core.Path.{_≡_, sym, _∙_, ap, subst}
 use mathlib.Core.List.{List, [], _∷_, map, List·Memᴰ·head, List·Memᴰ·tail, List·Memᴰ·not-nil, Memᴰ·map, Memᴰ·of-map, Memᴰ·cast}
 use Prim.Native.Nat.{ℕ, zero, suc, _<_}

@@ -1,4 +1,5 @@
--- What the cells of a run stand for in the table in which it ends. Each law says of a cell made on the way what it stands for there.
+-- What the cells of a run stand for in the table in which it ends. Each law says of a cell made on the way what it
+-- stands for there.
 use mathlib.Core.Path.{_≡_, refl, _∙_, ap, subst}
 use mathlib.Core.Bool.{true, false}
 use mathlib.Core.List.{List}

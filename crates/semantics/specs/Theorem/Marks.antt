@@ -1,4 +1,5 @@
--- Marks only come: a call that was asked for its stored parses before a run has been asked after it. Recursion on the run, a line for each of its rules.
+-- Marks only come: a call that was asked for its stored parses before a run has been asked after it. Recursion on the
+-- run, a line for each of its rules.
 use mathlib.Core.Path.{_≡_, sym, subst}
 use mathlib.Core.Bool.{Bool}
 use mathlib.Core.List.{List}

@@ -1,8 +1,9 @@
 -- What cells stand for, and that it stays as more cells are made.
 --
--- The plan. Cells only come at the end, so the meanings of earlier ones stay (`still`), and so does the meaning of a cell that fits, that is, refers to
--- earlier cells of the right kind. The identity of such a cell and its meaning tell the same: by the identity one knows the meaning (`same-meaning`), and
--- by the meaning the identity, if no two of the other cells stand for the same (`same-identity`).
+-- The plan. Cells only come at the end, so the meanings of earlier ones stay (`still`), and so does the meaning of a
+-- cell that fits, that is, refers to earlier cells of the right kind. The identity of such a cell and its meaning tell
+-- the same: by the identity one knows the meaning (`same-meaning`), and by the meaning the identity, if no two of the
+-- other cells stand for the same (`same-identity`).
 use mathlib.Core.Path.{_≡_, refl, sym, _∙_, ap}
 use mathlib.Core.List.{List, [], _∷_, _++_, append-nil, append-assoc}
 use Prim.Native.Nat.{ℕ, zero, suc, _+_, _-_, _*_, _^_, _≤_, _<_}

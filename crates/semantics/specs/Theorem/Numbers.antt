@@ -1,7 +1,8 @@
 -- From the numbers in both lists at exit back to the cells and the parses that were written there.
 --
--- The plan. As long as they fit, the numbers stand at the head of the list, whatever is behind them (`Begins`). A cell takes three numbers, and so cell n begins at
--- 3n - 3 (`cell-back`); a parse takes four, and so parse i begins at 4 i (`parse-back`). That cells read back from their numbers are the same is `cells-in`.
+-- The plan. As long as they fit, the numbers stand at the head of the list, whatever is behind them (`Begins`). A cell
+-- takes three numbers, and so cell n begins at 3n - 3 (`cell-back`); a parse takes four, and so parse i begins at 4 i
+-- (`parse-back`). That cells read back from their numbers are the same is `cells-in`.
 use mathlib.Core.Path.{_≡_, refl, _∙_, ap}
 use mathlib.Core.List.{List, [], _∷_, _++_, append-assoc}
 use Prim.Native.Nat.{ℕ, zero, suc, _+_, _-_, _*_, _≤_, _<_}

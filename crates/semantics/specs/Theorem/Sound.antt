@@ -1,5 +1,6 @@
--- What the run finds has a derivation. Recursion on the run: a call finds parses of its use if the stored sets of the open calls around it hold parses of
--- theirs, and in each of its rounds the call's own stored set does too. Of the governor this takes one fact: it stands in the path.
+-- What the run finds has a derivation. Recursion on the run: a call finds parses of its use if the stored sets of the
+-- open calls around it hold parses of theirs, and in each of its rounds the call's own stored set does too. Of the
+-- governor this takes one fact: it stands in the path.
 use mathlib.Core.Path.{_≡_, refl, subst}
 use mathlib.Core.Bool.{Bool, true, false, cond, _&&_}
 use mathlib.Core.List.{List, [], _∷_, List·Memᴰ·head, List·Memᴰ·tail, List·Memᴰ·not-nil, List·Memᴰ·eq-of-singleton}

@@ -1,8 +1,10 @@
--- What the numbers of the cells list stand for (`StandsFor`): the total meaning of these cells says the same, so a cell stands for one tree at most
--- (`stands-once`); and the cells that a run has made stand for what they mean in it (`table-stands`).
+-- What the numbers of the cells list stand for (`StandsFor`): the total meaning of these cells says the same, so a cell
+-- stands for one tree at most (`stands-once`); and the cells that a run has made stand for what they mean in it
+-- (`table-stands`).
 --
--- The plan. What a cell stands for follows from its numbers and from cells before it, and so does its meaning, in the same way (`cell-means`): one induction
--- over `StandsFor`. The other way round goes by the table: a cell that is made fits the cells before it, which already stand for their meanings.
+-- The plan. What a cell stands for follows from its numbers and from cells before it, and so does its meaning, in the
+-- same way (`cell-means`): one induction over `StandsFor`. The other way round goes by the table: a cell that is made
+-- fits the cells before it, which already stand for their meanings.
 use mathlib.Core.Path.{_≡_, refl, sym, _∙_, ap}
 use mathlib.Core.List.{List, [], _∷_, _++_}
 use mathlib.Core.Logic.{_⊎_, inl, inr}

@@ -1,8 +1,9 @@
 -- The cells that a run makes: each stands for what it was made of, and two that stand for the same are one.
 --
--- The plan. In a table each cell fits, so its meaning follows from the meanings of all cells, not only of those before it (`table-at`). A new cell is made
--- only if no other has its identity, so none has its meaning, and `same-cell` follows by induction. A cell that is found instead has the same identity as
--- the one asked for, so the same meaning (`make-ok`, `make-means`).
+-- The plan. In a table each cell fits, so its meaning follows from the meanings of all cells, not only of those before
+-- it (`table-at`). A new cell is made only if no other has its identity, so none has its meaning, and `same-cell`
+-- follows by induction. A cell that is found instead has the same identity as the one asked for, so the same meaning
+-- (`make-ok`, `make-means`).
 use mathlib.Core.Path.{_≡_, refl, sym, _∙_, ap}
 use mathlib.Core.Bool.{true, false}
 use mathlib.Core.List.{List, [], _∷_, _++_}

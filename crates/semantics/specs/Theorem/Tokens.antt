@@ -1,5 +1,5 @@
--- Where tokens end, and what they add: an identifier ends behind its place, inside the text; a name that is read is a part of the text, and a number has 64
--- bits.
+-- Where tokens end, and what they add: an identifier ends behind its place, inside the text; a name that is read is a
+-- part of the text, and a number has 64 bits.
 use mathlib.Core.Path.{_≡_, refl, _∙_, ap, subst}
 use mathlib.Core.List.{List}
 use mathlib.Core.Option.{Option, none, some}

@@ -1,4 +1,5 @@
--- `sets::add_all` meets its contract. The invariant (`Joining` of SetLaws): the parses that are left, joined to the set, give what all give.
+-- `sets::add_all` meets its contract. The invariant (`Joining` of SetLaws): the parses that are left, joined to the
+-- set, give what all give.
 use mathlib.Core.Path.{_≡_, refl, _∙_}
 use native.Mathlib.Omega.{arith}
 use lib.ListN.{length}

@@ -1,4 +1,5 @@
--- `book::row` meets its contract. The invariant (`Begun` of RowLaws): what has been read and what is read from here make the whole row.
+-- `book::row` meets its contract. The invariant (`Begun` of RowLaws): what has been read and what is read from here
+-- make the whole row.
 use mathlib.Core.Path.{_≡_, refl, _∙_}
 use Prim.Native.Nat.{_-_, _*_, _≤_}
 use native.Mathlib.Omega.{arith}

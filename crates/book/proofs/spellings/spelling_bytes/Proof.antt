@@ -1,4 +1,5 @@
--- `book::spelling_bytes` meets its contract. The invariant (`Begun` of EntryLaws): the bytes read and those from here make the whole spelling.
+-- `book::spelling_bytes` meets its contract. The invariant (`Begun` of EntryLaws): the bytes read and those from here
+-- make the whole spelling.
 use mathlib.Core.Path.{refl}
 use Prim.Native.Nat.{_-_, _≤_}
 use native.Mathlib.Omega.{arith}

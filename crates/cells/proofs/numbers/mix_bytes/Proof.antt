@@ -1,4 +1,5 @@
--- `cells::mix_bytes` meets its contract. The invariant: the hash so far, mixed with the bytes that are left, is the hash of all.
+-- `cells::mix_bytes` meets its contract. The invariant: the hash so far, mixed with the bytes that are left, is the
+-- hash of all.
 use mathlib.Core.Path.{_≡_, refl, sym, _∙_}
 use Prim.Native.Nat.{_-_, _<_}
 use native.Mathlib.Omega.{arith}

@@ -1,4 +1,5 @@
--- `cells::find` meets its contract. The invariant: from the cell that is reached the rest of the chain gives the same as the whole from its head.
+-- `cells::find` meets its contract. The invariant: from the cell that is reached the rest of the chain gives the same
+-- as the whole from its head.
 use mathlib.Core.Path.{_≡_, refl, sym, ap, _∙_}
 use Prim.Native.Nat.{_-_, _<_}
 use native.Mathlib.Omega.{arith}

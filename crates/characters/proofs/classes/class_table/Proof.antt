@@ -1,4 +1,5 @@
--- `characters::class_table` meets its contract: antt computes the rule at the 256 bytes, and compares that with the table in the source.
+-- `characters::class_table` meets its contract: antt computes the rule at the 256 bytes, and compares that with the
+-- table in the source.
 use mathlib.Core.Path.{refl}
 use Rattle.characters.specs.ClassLaws.{tabulate, classTable}
 use Rattle.characters.specs.Classes.{classOf}

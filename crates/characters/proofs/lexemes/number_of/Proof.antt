@@ -1,4 +1,5 @@
--- `characters::number_of` meets its contract. The invariant: the digits left, read after `value`, spell the whole number.
+-- `characters::number_of` meets its contract. The invariant: the digits left, read after `value`, spell the whole
+-- number.
 use mathlib.Core.Path.{_≡_, refl, sym, _∙_}
 use Prim.Native.Nat.{_+_, _-_, _*_, _<_, _≤_}
 use native.Mathlib.Omega.{arith}

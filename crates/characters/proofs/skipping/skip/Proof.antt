@@ -1,5 +1,5 @@
--- `characters::skip` meets its contract. The invariant: skipping from here ends where skipping from `place` does. A round that
--- drops something leaves fewer bytes.
+-- `characters::skip` meets its contract. The invariant: skipping from here ends where skipping from `place` does. A
+-- round that drops something leaves fewer bytes.
 use mathlib.Core.Path.{_≡_, refl, sym, _∙_}
 use Prim.Native.Nat.{_-_}
 use lib.ListN.{length}

@@ -1,4 +1,5 @@
--- `characters::span_end` meets its contract. The invariant: the slice is the table, and the span from here ends where the span from `place` does.
+-- `characters::span_end` meets its contract. The invariant: the slice is the table, and the span from here ends where
+-- the span from `place` does.
 use mathlib.Core.Path.{_≡_, refl, sym, _∙_}
 use Prim.Native.Nat.{_-_}
 use lib.ListN.{length}

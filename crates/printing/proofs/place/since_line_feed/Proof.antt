@@ -1,4 +1,5 @@
--- `printing::since_line_feed` meets its contract. The invariant: what follows makes of the count the same as the whole does of 0.
+-- `printing::since_line_feed` meets its contract. The invariant: what follows makes of the count the same as the whole
+-- does of 0.
 use mathlib.Core.Logic.{⊎-elim}
 use mathlib.Core.Path.{_≡_, refl, _∙_, sym}
 use Prim.Native.Nat.{_-_, _≤_}

@@ -1,5 +1,5 @@
--- `printing::item` and `printing::items` meet their contracts. Each return is one law of specs/CellLaws.antt, applied to what the calls before it laid. The measure is the cell's number: a
--- cell refers to older ones.
+-- `printing::item` and `printing::items` meet their contracts. Each return is one law of specs/CellLaws.antt, applied
+-- to what the calls before it laid. The measure is the cell's number: a cell refers to older ones.
 use mathlib.Core.Path.{sym, _∙_}
 use Prim.Native.Nat.{ℕ, _<_}
 use native.Mathlib.Omega.{arith}
