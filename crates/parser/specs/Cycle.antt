@@ -40,6 +40,18 @@ InRange book here =
 abbrev pub todoAt : Book → Progress → List (Todo ℕ)
 todoAt book here = todoFrom book (here .step) (here .remaining)
 
+-- a path, some steps further
+abbrev pub further : Progress → ℕ → ℕ → ℕ → ℕ → Progress
+further from step remaining at items =
+    record {
+      call = from .call;
+      variant = from .variant;
+      step = step;
+      remaining = remaining;
+      at = at;
+      items = items;
+    }
+
 -- one variant, after those before it failed with e; `variantsRows` are these one after the other
 unfoldable pub variantRows : Book → List ℕ → RowRunner → ℕ → ℕ → ℕ → Option Error → RowState → Result Outcome
 variantRows book text run c m j e s =

@@ -268,35 +268,32 @@ fn steps(
     requires { ⌜ OnPath book index text rows nesting from ⌝ }
     ensures { λ r. ⌜ Continues book index text store rows begun r (goesOn nesting from first) ⌝ }
 {
-    // Number by number: a copy of the whole is read in larger parts than it was written in, and waits for them.
-    let mut here = Progress {
-        call: from.call,
-        variant: from.variant,
-        step: from.step,
-        remaining: from.remaining,
-        at: from.at,
-        items: from.items,
-    };
+    // Four numbers, and not a copy of the struct: that would be read in larger parts than it was written in, and wait.
+    let mut step = from.step;
+    let mut remaining = from.remaining;
+    let mut at = from.at;
+    let mut items = from.items;
     let mut doing = first;
     let mut o = begun;
     while goes_on(o) {
+        let here = Progress {
+            call: from.call,
+            variant: from.variant,
+            step,
+            remaining,
+            at,
+            items,
+        };
         match doing {
             Doing::Steps => {
-                if here.remaining == 0 {
+                if remaining == 0 {
                     return finish(book, index, text, store, rows, here, o.state);
                 }
                 let g = take_step(book, index, text, store, here, o.state);
-                let step = here.step + 1;
-                let fewer = here.remaining - 1;
-                let there = Progress {
-                    call: here.call,
-                    variant: here.variant,
-                    step,
-                    remaining: fewer,
-                    at: g.at,
-                    items: g.items,
-                };
-                here = there;
+                step += 1;
+                remaining -= 1;
+                at = g.at;
+                items = g.items;
                 doing = g.doing;
                 o = g.outcome;
             }

@@ -9,7 +9,7 @@ use Rattle.parser.specs.ChildLaws.{descended, follow-ended, follow-whole
 use Rattle.parser.specs.VariantLaws.{variants-end, variants-stop, variants-again, one-run-whole, variant-skipped, variant-ran, variants-fit, steps-fit}
 use Rattle.parser.specs.CallLaws.{enter-over, enter-runs, run-call-over, run-call-rounds, rounds-none, rounds-over, rounds-again}
 use Rattle.parser.specs.ResultLaws.{Going, goes-without-limit}
-use Rattle.parser.specs.Cycle.{InRange, todoAt, rankOf}
+use Rattle.parser.specs.Cycle.{InRange, todoAt, further, goesOn, rankOf}
 use Rattle.transitions.specs.Entering.{within}
 use Rattle.transitions.specs.Steps.{nextRows, resumes}
 use Rattle.transitions.specs.Outcomes.{cellsOf, Held, given, failureAt}
@@ -776,69 +776,78 @@ parser·one-run-returns-2 t c =
     one-run-whole _ _ _ _ _ _ _ _ _ _ _ _ _ _ _ (nonterminal-of .ensures) (clear-run .ensures) (nonterminal .ensures) (done .ensures) (variants-end _ _ _ _ _ _ _ _ _ _ _ _ (table (loop .rows)) (loop .o) (loop .inv .4) (if1 .left) (loop .inv .3))
 
 abbrev parser·steps-Inv-loop : parser·steps-lts.InvT-loop
-parser·steps-Inv-loop book index text store₀ rows₀ left here₀ doing₀ o₀ store rows here doing o = (length store ≡ length store₀) × (length rows ≡ length rows₀) × InRange (bookIn book index) here × (6 * here .remaining + rankOf doing ≤ 6 * here₀ .remaining + rankOf doing₀) × (Held text store₀ (o₀ .state .cells) → Going text store (o .state .cells) (resumes (bookIn book index) text (runnerRows (bookIn book index) text left) left (here .call) (here .variant) (todoAt (bookIn book index) here) doing (here .at) (here .items) (given o (cellsOf store (o .state .cells)) (table rows))) (resumes (bookIn book index) text (runnerRows (bookIn book index) text left) left (here₀ .call) (here₀ .variant) (todoAt (bookIn book index) here₀) doing₀ (here₀ .at) (here₀ .items) (given o₀ (cellsOf store₀ (o₀ .state .cells)) (table rows₀))))
+parser·steps-Inv-loop book index text store₀ rows₀ left from step₀ remaining₀ at₀ items₀ doing₀ o₀ store rows step remaining at items doing o =
+    (length store ≡ length store₀) × (length rows ≡ length rows₀)
+    × InRange (bookIn book index) (further from step remaining at items)
+    × (6 * remaining + rankOf doing ≤ 6 * remaining₀ + rankOf doing₀)
+    × (Held text store₀ (o₀ .state .cells) → Going text store (o .state .cells)
+    (goesOn left (further from step remaining at items) doing (bookIn book index) text
+    (given o (cellsOf store (o .state .cells)) (table rows)))
+    (goesOn left (further from step₀ remaining₀ at₀ items₀) doing₀ (bookIn book index) text
+    (given o₀ (cellsOf store₀ (o₀ .state .cells)) (table rows₀))))
 
 abbrev parser·steps-μ-loop : parser·steps-lts.MeasureT-loop
-parser·steps-μ-loop book index text store₀ rows₀ left here₀ doing₀ o₀ store rows here doing o = here .remaining
+parser·steps-μ-loop book index text store₀ rows₀ left from step₀ remaining₀ at₀ items₀ doing₀ o₀ store rows step remaining at items doing o =
+    remaining
 
 parser·steps-loop-holds : (t : ℕ) → parser·steps-lts.Need-loop-holds (parser·steps-callees t) (parser·steps-at t) parser·steps.Post parser·steps-Inv-loop parser·steps-μ-loop
 parser·steps-loop-holds t c = (refl, refl, (c .before .before .before .before .before) .pre .1 .3, omega arith, λ held. record { held = held; is = refl })
 
 parser·steps-finish-requires : (t : ℕ) → parser·steps-lts.Need-finish-requires (parser·steps-callees t) (parser·steps-at t) parser·steps.Post parser·steps-Inv-loop parser·steps-μ-loop
 parser·steps-finish-requires t c κs =
-    let start = c .before .before .before .before .before .before .before .before .before .before .before .before .before .before in
-    let loop = c .before .before .before .before .before .before .before .before .loop in
+    let start = c .before .before .before .before .before .before .before .before .before .before .before .before .before in
+    let loop = c .before .before .before .before .before .before .before .loop in
     (loop .inv .2 .0, omega (arith, start .pre .1 .1, loop .inv .1), start .pre .1 .2)
 
 parser·steps-same-length : (t : ℕ) → parser·steps-lts.Need-same-length (parser·steps-callees t) (parser·steps-at t) parser·steps.Post parser·steps-Inv-loop parser·steps-μ-loop
 parser·steps-same-length t c =
-    let loop = c .before .before .before .before .before .before .before .before .before .before .before .before .before .loop in
+    let loop = c .before .before .before .before .before .before .before .before .before .before .before .before .loop in
     let finish = c .before .before .before .before .finish in
     finish .kept .1 .1 .1 .0 ∙ loop .inv .0
 
 parser·steps-same-length-2 : (t : ℕ) → parser·steps-lts.Need-same-length-2 (parser·steps-callees t) (parser·steps-at t) parser·steps.Post parser·steps-Inv-loop parser·steps-μ-loop
 parser·steps-same-length-2 t c =
-    let loop = c .before .before .before .before .before .before .before .before .before .before .before .before .before .loop in
+    let loop = c .before .before .before .before .before .before .before .before .before .before .before .before .loop in
     let finish = c .before .before .before .before .finish in
     finish .kept .1 .1 .1 .1 .0 ∙ loop .inv .1
 
 parser·steps-returns : (t : ℕ) → parser·steps-lts.Need-returns (parser·steps-callees t) (parser·steps-at t) parser·steps.Post parser·steps-Inv-loop parser·steps-μ-loop
 parser·steps-returns t c =
-    let loop = c .before .before .before .before .before .before .before .before .before .before .before .before .before .loop in
-    let goes-on = c .before .before .before .before .before .before .before .before .before .before .before .before .goes-on in
-    let if1 = c .before .before .before .before .before .before .before .before .before .before .before .if1 in
-    let enum-told = c .before .before .before .before .before .before .before .before .before .enum-told in
+    let loop = c .before .before .before .before .before .before .before .before .before .before .before .before .loop in
+    let goes-on = c .before .before .before .before .before .before .before .before .before .before .before .goes-on in
+    let if1 = c .before .before .before .before .before .before .before .before .before .before .if1 in
+    let enum-told = c .before .before .before .before .before .before .before .before .enum-told in
     let if2 = c .before .before .before .before .before .before .before .if2 in
     let finish = c .before .before .before .before .finish in
-    path-end _ _ _ _ (loop .here .call) (loop .here .variant) (loop .here .step) (loop .here .remaining) _ _ _ (loop .o) _ _ _ _ (table (loop .rows)) (loop .inv .4) (sym (goes-on .ensures) ∙ if1 .taken) (enum-told .given .1) _ _ _ (if2 .taken) (finish .ensures)
+    path-end _ _ _ _ _ _ (loop .step) (loop .remaining) _ _ _ (loop .o) _ _ _ _ (table (loop .rows)) (loop .inv .4) (sym (goes-on .ensures) ∙ if1 .taken) (enum-told .given .1) _ _ _ (if2 .taken) (finish .ensures)
 
 parser·steps-take-step-requires : (t : ℕ) → parser·steps-lts.Need-take-step-requires (parser·steps-callees t) (parser·steps-at t) parser·steps.Post parser·steps-Inv-loop parser·steps-μ-loop
 parser·steps-take-step-requires t c κs =
-    let start = c .before .before .before .before .before .before .before .before .before .before .before .before .before in
+    let start = c .before .before .before .before .before .before .before .before .before .before .before .before in
     start .pre .1 .2
 
 parser·steps-add-step : (t : ℕ) → parser·steps-lts.Need-add-step (parser·steps-callees t) (parser·steps-at t) parser·steps.Post parser·steps-Inv-loop parser·steps-μ-loop
 parser·steps-add-step t c =
-    let start = c .before .before .before .before .before .before .before .before .before .before .before .before .before .before .before .before .before in
-    let loop = c .before .before .before .before .before .before .before .before .before .before .before .loop in
-    let if2 = c .before .before .before .before .before .if2 in
+    let start = c .before .before .before .before .before .before .before .before .before .before .before .before .before .before .before in
+    let loop = c .before .before .before .before .before .before .before .before .before .loop in
+    let if2 = c .before .before .before .before .if2 in
     omega (arith, loop .inv .2 .2, start .pre .1 .2 .all, if2 .left)
 
-parser·steps-sub-fewer : (t : ℕ) → parser·steps-lts.Need-sub-fewer (parser·steps-callees t) (parser·steps-at t) parser·steps.Post parser·steps-Inv-loop parser·steps-μ-loop
-parser·steps-sub-fewer t c = omega (arith, (c .before .before .before .before .before .before .if2) .left)
+parser·steps-sub-remaining : (t : ℕ) → parser·steps-lts.Need-sub-remaining (parser·steps-callees t) (parser·steps-at t) parser·steps.Post parser·steps-Inv-loop parser·steps-μ-loop
+parser·steps-sub-remaining t c = omega (arith, (c .before .before .before .before .if2) .left)
 
 parser·steps-loop-less : (t : ℕ) → parser·steps-lts.Need-loop-less (parser·steps-callees t) (parser·steps-at t) parser·steps.Post parser·steps-Inv-loop parser·steps-μ-loop
-parser·steps-loop-less t c = omega (arith, (c .before .before .before .before .before .before .before .if2) .left)
+parser·steps-loop-less t c = omega (arith, (c .before .before .before .before .before .if2) .left)
 
 parser·steps-loop-again : (t : ℕ) → parser·steps-lts.Need-loop-again (parser·steps-callees t) (parser·steps-at t) parser·steps.Post parser·steps-Inv-loop parser·steps-μ-loop
 parser·steps-loop-again t c =
-    let loop = c .before .before .before .before .before .before .before .before .before .before .before .before .before .loop in
-    let goes-on = c .before .before .before .before .before .before .before .before .before .before .before .before .goes-on in
-    let if1 = c .before .before .before .before .before .before .before .before .before .before .before .if1 in
-    let enum-told = c .before .before .before .before .before .before .before .before .before .enum-told in
-    let if2 = c .before .before .before .before .before .before .before .if2 in
-    let take-step = c .before .before .before .before .before .take-step in
-    (take-step .kept .1 .1 .1 .0 ∙ loop .inv .0, loop .inv .1, (loop .inv .2 .0, omega (arith, loop .inv .2 .1), omega (arith, loop .inv .2 .2, if2 .left)), omega (arith, loop .inv .3, if2 .left, rank-few (take-step .result .doing)), path-step _ _ _ _ (loop .here .call) (loop .here .variant) (loop .here .step) (loop .here .remaining) _ _ _ (loop .o) _ _ _ _ (table (loop .rows)) (loop .inv .4) (sym (goes-on .ensures) ∙ if1 .taken) (enum-told .given .1) _ _ (if2 .left) (loop .inv .2 .2) (take-step .ensures))
+    let loop = c .before .before .before .before .before .before .before .before .before .before .loop in
+    let goes-on = c .before .before .before .before .before .before .before .before .before .goes-on in
+    let if1 = c .before .before .before .before .before .before .before .before .if1 in
+    let enum-told = c .before .before .before .before .before .before .enum-told in
+    let if2 = c .before .before .before .before .before .if2 in
+    let take-step = c .before .before .before .take-step in
+    (take-step .kept .1 .1 .1 .0 ∙ loop .inv .0, loop .inv .1, (loop .inv .2 .0, omega (arith, loop .inv .2 .1), omega (arith, loop .inv .2 .2, if2 .left)), omega (arith, loop .inv .3, if2 .left, rank-few (take-step .result .doing)), path-step _ _ _ _ _ _ (loop .step) (loop .remaining) _ _ _ (loop .o) _ _ _ _ (table (loop .rows)) (loop .inv .4) (sym (goes-on .ensures) ∙ if1 .taken) (enum-told .given .1) _ _ (if2 .left) (loop .inv .2 .2) (take-step .ensures))
 
 parser·steps-descend-requires : (t : ℕ) → parser·steps-lts.Need-descend-requires (parser·steps-callees t) (parser·steps-at t) parser·steps.Post parser·steps-Inv-loop parser·steps-μ-loop
 parser·steps-descend-requires t c κs =
@@ -865,7 +874,7 @@ parser·steps-returns-2 t c =
     let if1 = c .before .before .before .before .before .before .before .before .before .before .if1 in
     let doing = c .before .before .before .before .before .before .before .before .doing in
     let descend = c .before .before .before .before .descend in
-    path-child _ _ _ _ (loop .here .call) (loop .here .variant) (loop .here .step) (loop .here .remaining) _ _ _ (loop .o) _ _ _ _ (table (loop .rows)) (loop .inv .4) (sym (goes-on .ensures) ∙ if1 .taken) _ _ _ _ (doing .given .1) (descend .ensures)
+    path-child _ _ _ _ _ _ (loop .step) (loop .remaining) _ _ _ (loop .o) _ _ _ _ (table (loop .rows)) (loop .inv .4) (sym (goes-on .ensures) ∙ if1 .taken) _ _ _ _ (doing .given .1) (descend .ensures)
 
 parser·steps-choice-requires : (t : ℕ) → parser·steps-lts.Need-choice-requires (parser·steps-callees t) (parser·steps-at t) parser·steps.Post parser·steps-Inv-loop parser·steps-μ-loop
 parser·steps-choice-requires t c κs =
@@ -893,7 +902,7 @@ parser·steps-returns-3 t c =
     let if1 = c .before .before .before .before .before .before .before .before .before .before .if1 in
     let doing2 = c .before .before .before .before .before .before .before .before .doing2 in
     let choice = c .before .before .before .before .choice in
-    path-optional _ _ _ _ (loop .here .call) (loop .here .variant) (loop .here .step) (loop .here .remaining) _ _ _ (loop .o) _ _ _ _ (table (loop .rows)) (loop .inv .4) (sym (goes-on .ensures) ∙ if1 .taken) _ _ _ _ (doing2 .given .1) (choice .ensures)
+    path-optional _ _ _ _ _ _ (loop .step) (loop .remaining) _ _ _ (loop .o) _ _ _ _ (table (loop .rows)) (loop .inv .4) (sym (goes-on .ensures) ∙ if1 .taken) _ _ _ _ (doing2 .given .1) (choice .ensures)
 
 parser·steps-choice-requires-2 : (t : ℕ) → parser·steps-lts.Need-choice-requires-2 (parser·steps-callees t) (parser·steps-at t) parser·steps.Post parser·steps-Inv-loop parser·steps-μ-loop
 parser·steps-choice-requires-2 t c κs =
@@ -921,7 +930,7 @@ parser·steps-returns-4 t c =
     let if1 = c .before .before .before .before .before .before .before .before .before .before .if1 in
     let doing3 = c .before .before .before .before .before .before .before .before .doing3 in
     let choice2 = c .before .before .before .before .choice2 in
-    path-elements _ _ _ _ (loop .here .call) (loop .here .variant) (loop .here .step) (loop .here .remaining) _ _ _ (loop .o) _ _ _ _ (table (loop .rows)) (loop .inv .4) (sym (goes-on .ensures) ∙ if1 .taken) _ _ _ _ (doing3 .given .1) (choice2 .ensures)
+    path-elements _ _ _ _ _ _ (loop .step) (loop .remaining) _ _ _ (loop .o) _ _ _ _ (table (loop .rows)) (loop .inv .4) (sym (goes-on .ensures) ∙ if1 .taken) _ _ _ _ (doing3 .given .1) (choice2 .ensures)
 
 parser·steps-same-length-9 : (t : ℕ) → parser·steps-lts.Need-same-length-9 (parser·steps-callees t) (parser·steps-at t) parser·steps.Post parser·steps-Inv-loop parser·steps-μ-loop
 parser·steps-same-length-9 t c = (c .before .before .loop) .inv .0
@@ -934,7 +943,7 @@ parser·steps-returns-5 t c =
     let loop = c .before .before .loop in
     let goes-on = c .before .goes-on in
     let if1 = c .if1 in
-    path-ended _ _ _ _ (loop .here .call) (loop .here .variant) (loop .here .step) (loop .here .remaining) _ _ _ (loop .o) _ _ _ _ (table (loop .rows)) (loop .inv .4) (sym (goes-on .ensures) ∙ if1 .left)
+    path-ended _ _ _ _ _ _ (loop .step) (loop .remaining) _ _ _ (loop .o) _ _ _ _ (table (loop .rows)) (loop .inv .4) (sym (goes-on .ensures) ∙ if1 .left)
 
 parser·variant-returns : (t : ℕ) → parser·variant-lts.Need-returns (parser·variant-callees t) (parser·variant-at t) parser·variant.Post
 parser·variant-returns t c =
@@ -1134,7 +1143,7 @@ pub +left-recursion·enter+left-recursion·rounds+left-recursion·run-call+parse
     (parser·steps-returns t)
     (parser·steps-take-step-requires t)
     (parser·steps-add-step t)
-    (parser·steps-sub-fewer t)
+    (parser·steps-sub-remaining t)
     (parser·steps-loop-less t)
     (parser·steps-loop-again t)
     (λ c. search needs)
