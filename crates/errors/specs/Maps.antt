@@ -8,5 +8,5 @@ abbrev pub errorOf : Error → definition.Error
 errorOf e = definition.error (e .place) (e .kind) (e .argument)
 
 abbrev pub failureOf : Failure → Option definition.Error
-failureOf Failure.Nothing = none
+failureOf Failure.None = none
 failureOf (Failure.At e) = some (errorOf e)

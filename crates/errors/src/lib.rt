@@ -48,7 +48,7 @@ pub struct Error {
 
 // `Option Error`: an error, or none where something was found.
 pub enum Failure {
-    Nothing,
+    None,
     At(Error),
 }
 
@@ -84,7 +84,7 @@ fn beyond(place: u32, e: Error) -> Failure
     if place < e.place {
         Failure::At(e)
     } else {
-        Failure::Nothing
+        Failure::None
     }
 }
 
@@ -106,10 +106,10 @@ pub fn either(first: Failure, second: Failure) -> Failure
     ensures { λ r. ⌜ failureOf r ≡ eitherOf (failureOf first) (failureOf second) ⌝ }
 {
     let Failure::At(e) = first else {
-        return Failure::Nothing;
+        return Failure::None;
     };
     let Failure::At(f) = second else {
-        return Failure::Nothing;
+        return Failure::None;
     };
     Failure::At(join(e, f))
 }
@@ -134,10 +134,10 @@ pub fn chosen(at: u32, nonterminal: u32, first: Failure, second: Failure) -> Fai
     ensures { λ r. ⌜ failureOf r ≡ chosenOf at nonterminal (failureOf first) (failureOf second) ⌝ }
 {
     let Failure::At(a) = first else {
-        return Failure::Nothing;
+        return Failure::None;
     };
     let Failure::At(b) = second else {
-        return Failure::Nothing;
+        return Failure::None;
     };
     Failure::At(choice_error(at, nonterminal, a, b))
 }
@@ -147,12 +147,12 @@ pub fn counted(committed: bool, start: u32, failure: Failure) -> Failure
     ensures { λ r. ⌜ failureOf r ≡ countedOf committed start (failureOf failure) ⌝ }
 {
     let Failure::At(e) = failure else {
-        return Failure::Nothing;
+        return Failure::None;
     };
     if committed {
         beyond(start, e)
     } else {
-        Failure::Nothing
+        Failure::None
     }
 }
 

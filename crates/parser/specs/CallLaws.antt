@@ -22,13 +22,13 @@ use Rattle.run_model.specs.Model.{oneRunRows, roundsRows, runCallRows, enterRow
 use Rattle.transitions.specs.declared.outcomes.Outcome.{Outcome}
 use Rattle.transitions.specs.declared.outcomes.State.{State}
 use Rattle.transitions.specs.declared.entering.Entered.{Entered}
-use Rattle.transitions.specs.declared.entering.Ended.{Ended}
-use Rattle.transitions.specs.Outcomes.{cellsOf, Held, given, Ran, Runs, limitOf}
-use Rattle.transitions.specs.Entering.{within, goesIn, Enters, goesAgain, FirstEnded, RoundEnded}
+use Rattle.transitions.specs.declared.runs.Ended.{Ended}
+use Rattle.transitions.specs.Outcomes.{cellsOf, Held, given, Ran, Runs, withoutFailure}
+use Rattle.transitions.specs.Entering.{innerRunner, goesIn, Enters, goesAgain, FirstEnded, RoundEnded}
 use Rattle.parser.specs.ResultLaws.{Going, sub-turn, sub-end}
 
 -- ---- Runners
-pub runner-some : (book : Book) (text : List ℕ) (n : ℕ) → 0 < n → runnerRows book text n ≡ some (within book text n)
+pub runner-some : (book : Book) (text : List ℕ) (n : ℕ) → 0 < n → runnerRows book text n ≡ some (innerRunner book text n)
 unfolding runnerRows
 runner-some book text zero h = absurd (omega (arith, h))
 runner-some book text (suc n) h = rw sub-one
@@ -42,7 +42,7 @@ module _ (book : Book) (text st0 st1 : List ℕ) (T U : List Row) (n N u : ℕ) 
 
   pub enter-runs : (st2 : List ℕ) (U1 : List Row) (r : Outcome) → e .runs ≡ true →
       Runs text st1 (e .outcome .state .cells) st2 U1 r (λ cells.
-      runCallRows book text (within book text n) n N u (e .minimum) (rowState (e .outcome .state .units) cells U)) →
+      runCallRows book text (innerRunner book text n) n N u (e .minimum) (rowState (e .outcome .state .units) cells U)) →
       Runs text st0 (s .cells) st2 U1 r (λ cells. enterRows book text (runnerRows book text n) n N u (rowState (s .units) cells T))
   unfolding goesIn
   enter-runs st2 U1 r h k held =
@@ -82,7 +82,7 @@ module _ (book : Book) (text st0 st1 : List ℕ) (T T1 U U1 : List Row) (n N u m
 -- ---- Further runs
 module _ (book : Book) (text : List ℕ) (run : RowRunner) (n m i : ℕ) (st0 : List ℕ) (c0 : ℕ) (z : Result model.Outcome) (st : List ℕ) (T : List Row) (s : State)
     (inv : Held text st0 c0 → Going text st (s .cells) (roundsRows book text (65 - i) run n m (rowState (s .units) (cellsOf st (s .cells)) T)) z) where
-  pub rounds-none : (r : Outcome) → r ≡ limitOf 22 s → 65 ≤ i → Held text st0 c0 → Ran text st T r z
+  pub rounds-none : (r : Outcome) → r ≡ withoutFailure 22 s → 65 ≤ i → Held text st0 c0 → Ran text st T r z
   unfolding roundsRows given
   rounds-none r er h held = let g = inv held in rw er (record { is = rw (sub-end 65 i h) at (g .is); held = g .held })
 

@@ -26,9 +26,9 @@ use Rattle.transitions.specs.declared.outcomes.Outcome.{Outcome}
 use Rattle.transitions.specs.declared.outcomes.State.{State}
 use Rattle.transitions.specs.declared.stages.Next.{Next}
 use Rattle.transitions.specs.declared.stages.Stage.{Stage}
-use Rattle.transitions.specs.Outcomes.{cellsOf, Held, given, goesOn, Ran, Runs, failureAt, limitOf}
+use Rattle.transitions.specs.Outcomes.{cellsOf, Held, given, goesOn, Ran, Runs, failureAt, withoutFailure}
 use Rattle.transitions.specs.Steps.{nextRows, descendsRows, resumes, Stages, Joined}
-use Rattle.transitions.specs.Entering.{within}
+use Rattle.transitions.specs.Entering.{innerRunner}
 use Rattle.parser.specs.Cycle.{followsRows}
 use Rattle.transitions.specs.OutcomeLaws.{given-ok}
 use Rattle.parser.specs.ResultLaws.{Going, sub-turn, sub-end, bind-map, limit-ends, goes-to, goes-without-failure, goes-on, ended}
@@ -85,12 +85,12 @@ nested-some book text inner n s f run e = rw e
 
 follow-turn : (book : Book) (text : List ℕ) (n : ℕ) (next : RowNext) (k i : ℕ) (failure : Option Error) (s : RowState) → 0 < n →
     followFrom book text (runnerRows book text n) n next (suc k) i failure s ≡
-    (next (getD (rowOf (s .rows) n .set) i noParse) s (within book text n) >>= (λ o.
+    (next (getD (rowOf (s .rows) n .set) i noParse) s (innerRunner book text n) >>= (λ o.
     followFrom book text (runnerRows book text n) n next k (suc i) (together i failure (o .failure)) (o .state)))
 unfolding followFrom
 follow-turn book text n next k i failure s h =
     ap (λ (x : Result model.Outcome). x >>= (λ o. followFrom book text (runnerRows book text n) n next k (suc i) (together i failure (o .failure)) (o .state)))
-    (nested-some book text (runnerRows book text n) n s (λ run. next (getD (rowOf (s .rows) n .set) i noParse) s run) (within book text n) (runner-some book text n h))
+    (nested-some book text (runnerRows book text n) n s (λ run. next (getD (rowOf (s .rows) n .set) i noParse) s run) (innerRunner book text n) (runner-some book text n h))
 
 module _ (book : Book) (text : List ℕ) (n c j : ℕ) (rest : List (Todo ℕ)) (next : Next) (items k i : ℕ) (st0 : List ℕ) (c0 : ℕ) (z : Result model.Outcome)
     (st : List ℕ) (T : List Row) (o : Outcome)
@@ -103,14 +103,14 @@ module _ (book : Book) (text : List ℕ) (n c j : ℕ) (rest : List (Todo ℕ)) 
       let g = inv held in
       record { is = given-ok o (cellsOf st (o .state .cells)) T e ∙ (rw (sub-end k i h) at (g .is)); held = g .held }
 
-  pub follow-deep : (r : Outcome) → r ≡ limitOf 21 (o .state) → i < k → n ≡ 0 → Held text st0 c0 → Ran text st T r z
+  pub follow-deep : (r : Outcome) → r ≡ withoutFailure 21 (o .state) → i < k → n ≡ 0 → Held text st0 c0 → Ran text st T r z
   unfolding followFrom nestedRows runnerRows _>>=_ given
   follow-deep r er l e held = let g = inv held in rw er (record { is = rw (sub-turn k i l, e) at (g .is); held = g .held })
 
   module _ (l : i < k) (h : n ≡ 0 → ⊥) (q : Parse ℕ) (eq : q ≡ getD (rowOf T n .set) i noParse) (st1 st2 : List ℕ) (U : List Row) (g : Stage) (a all : Outcome)
       (S : Stages book text st (o .state) st1 j g (λ inner n c rest s. nextRows book text c j rest next items q s (stepsRows book text inner n)))
       (R : Runs text st1 (g .outcome .state .cells) st2 U a (λ cells.
-      resumes book text (runnerRows book text (n - 1)) (n - 1) c j rest (g .doing) (g .at) (g .items) (given (g .outcome) cells T)))
+      resumes book text (runnerRows book text (n - 1)) (n - 1) c j rest (g .doing) (g .place) (g .items) (given (g .outcome) cells T)))
       (J : Joined i o a all) where
     kept-on : Held text st0 c0 → Held text st2 (all .state .cells)
     kept-on held = subst (λ k. Held text st2 k) (sym (J .cells)) (R (S (inv held .held) .held) .held)
@@ -132,7 +132,7 @@ module _ (book : Book) (text : List ℕ) (n c j : ℕ) (rest : List (Todo ℕ)) 
         (ap (λ k. given all (cellsOf st2 k) U) (J .cells) ∙ J .is (cellsOf st2 (a .state .cells)) U)
         ∙ bind-map mid (λ y. outcome (together i (failureOf (failureAt o)) (y .failure)) (y .state)) on
         ∙ ap (λ (x : Result model.Outcome). x >>= (λ y. on (outcome (together i (failureOf (failureAt o)) (y .failure)) (y .state))))
-        (run .is ∙ d .is (runnerRows book text (n - 1)) (n - 1) c rest T ∙ ap (λ (p : Parse ℕ). nextRows book text c j rest next items p s (within book text n)) eq)
+        (run .is ∙ d .is (runnerRows book text (n - 1)) (n - 1) c rest T ∙ ap (λ (p : Parse ℕ). nextRows book text c j rest next items p s (innerRunner book text n)) eq)
         ∙ (rw a1 at (sym (follow-turn book text n (nextRows book text c j rest next items) (k - (i + 1)) i (failureOf (failureAt o)) s positive)))
         ∙ (rw (sub-turn k i l) at (f .is))
 

@@ -27,7 +27,7 @@ use Rattle.transitions.specs.declared.stages.Doing.{Doing}
 use Rattle.transitions.specs.declared.stages.Next.{Next}
 use Rattle.transitions.specs.declared.stages.Progress.{Progress}
 use Rattle.transitions.specs.Outcomes.{failureAt}
-use Rattle.transitions.specs.Entering.{within}
+use Rattle.transitions.specs.Entering.{innerRunner}
 use Rattle.transitions.specs.Steps.{todoFrom, nextRows, sideRows, descendsRows, resumes}
 use Rattle.transitions.specs.Contracts.{Fitting, FromState, FromResult}
 
@@ -42,13 +42,13 @@ todoAt book here = todoFrom book (here .step) (here .remaining)
 
 -- a path, some steps further
 abbrev pub further : Progress → ℕ → ℕ → ℕ → ℕ → Progress
-further from step remaining at items =
+further from step remaining place items =
     record {
       call = from .call;
       variant = from .variant;
       step = step;
       remaining = remaining;
-      at = at;
+      place = place;
       items = items;
     }
 
@@ -99,23 +99,23 @@ module _ (n : ℕ) where
   enters N u book text s = enterRows book text (runnerRows book text n) n N u s
 
   abbrev pub runsCall : ℕ → ℕ → ℕ → FromState
-  runsCall N u m book text s = runCallRows book text (within book text n) n N u m s
+  runsCall N u m book text s = runCallRows book text (innerRunner book text n) n N u m s
 
   abbrev pub runsAgain : ℕ → FromState
-  runsAgain m book text s = roundsRows book text mostRounds (within book text n) n m s
+  runsAgain m book text s = roundsRows book text mostRounds (innerRunner book text n) n m s
 
   abbrev pub runsOnce : ℕ → FromState
-  runsOnce m book text s = oneRunRows book text (within book text n) n m s
+  runsOnce m book text s = oneRunRows book text (innerRunner book text n) n m s
 
   -- variant j, after the outcome of those before it
   abbrev pub tries : ℕ → ℕ → code.Outcome → FromState
-  tries m j before book text s = variantRows book text (within book text n) n m j (failureOf (failureAt before)) s
+  tries m j before book text s = variantRows book text (innerRunner book text n) n m j (failureOf (failureAt before)) s
 
   module _ (here : Progress) where
     abbrev pub descends : Next → ℕ → FromState
     descends next N book text s =
         descendsRows book text (runnerRows book text n) n (here .call) (here .variant) (todoAt book here) next N
-        (here .at)
+        (here .place)
         (here .items) s
 
     abbrev pub followsEach : Next → FromResult
@@ -125,12 +125,12 @@ module _ (n : ℕ) where
 
     abbrev pub chooses : Next → ℕ → FromState
     chooses next N book text s =
-        sidesRows book text (runnerRows book text n) n (here .call) (here .variant) (todoAt book here) next N (here .at)
+        sidesRows book text (runnerRows book text n) n (here .call) (here .variant) (todoAt book here) next N (here .place)
         (here .items) s
 
-    abbrev pub goesOn : Doing → FromResult
-    goesOn first book text z =
-        resumes book text (runnerRows book text n) n (here .call) (here .variant) (todoAt book here) first (here .at)
+    abbrev pub proceeds : Doing → FromResult
+    proceeds first book text z =
+        resumes book text (runnerRows book text n) n (here .call) (here .variant) (todoAt book here) first (here .place)
         (here .items) z
 
 -- ---- The measure

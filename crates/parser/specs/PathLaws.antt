@@ -61,7 +61,7 @@ module _ (book : Book) (text : List ℕ) (inner : Option RowRunner) (n c j : ℕ
     (st0 st1 st2 : List ℕ) (T U : List Row) (f : Reached) (a : Outcome)
     (F : Reaches book text st0 s st1 j f (λ inner n c rest s. sideRows book text inner n c j rest next x items s))
     (G : Runs text st1 (f .outcome .state .cells) st2 U a (λ cells.
-    resumes book text inner n c j rest Doing.Steps (f .at) (f .items) (given (f .outcome) cells T))) where
+    resumes book text inner n c j rest Doing.Steps (f .place) (f .items) (given (f .outcome) cells T))) where
   first-side : Held text st0 (s .cells) →
       (given a (cellsOf st2 (a .state .cells)) U >>= (λ y. orChild book text inner n c M (nextRows book text c j rest next items) x y)) ≡
       sidesRows book text inner n c j rest next M x items (rowState (s .units) (cellsOf st0 (s .cells)) T)
@@ -237,7 +237,7 @@ module _ (book : Book) (text : List ℕ) (inner : Option RowRunner) (n c j step 
       pub path-step : (st1 : List ℕ) (g : Stage) → (left ≡ 0 → ⊥) → step + left ≤ length (book .steps) →
           Stages book text st (o .state) st1 j g (λ inner n c rest s. stepsRows book text inner n c j (taking (nthStep (book .steps) step) ∷ rest) at items s) →
           Held text st0 c0 → Going text st1 (g .outcome .state .cells)
-          (resumes book text inner n c j (todoFrom book (step + 1) (left - 1)) (g .doing) (g .at) (g .items) (given (g .outcome) (cellsOf st1 (g .outcome .state .cells)) T)) z
+          (resumes book text inner n c j (todoFrom book (step + 1) (left - 1)) (g .doing) (g .place) (g .items) (given (g .outcome) (cellsOf st1 (g .outcome .state .cells)) T)) z
       path-step st1 g l k S held =
           let v = inv held in
           let d = S (v .held) in

@@ -35,7 +35,7 @@ use Rattle.transitions.specs.declared.stages.Reached.{Reached}
 use Rattle.transitions.specs.Outcomes.{cellsOf, Held, given, Ran, Runs, failureAt, doneWith}
 use Rattle.transitions.specs.Fit.{Fit}
 use Rattle.transitions.specs.Steps.{todoFrom, resumes}
-use Rattle.transitions.specs.Entering.{within, Begins, Counted}
+use Rattle.transitions.specs.Entering.{innerRunner, Begins, VariantEnded}
 use Rattle.parser.specs.Cycle.{variantRows}
 use Rattle.transitions.specs.OutcomeLaws.{given-ok}
 use Rattle.parser.specs.ResultLaws.{Going, sub-turn, sub-end, bind-assoc, bind-map-in, limit-ends, goes-to}
@@ -90,7 +90,7 @@ module _ (book : Book) (text : List ℕ) (run : RowRunner) (n m k first i : ℕ)
 -- the variants of a call are one run of it
 one-run-is : (book : Book) (text : List ℕ) (run : RowRunner) (n m N : ℕ) (called : Nonterminal) (s : State) (o : Outcome) (T T1 : List Row) (cells : List Cell) →
     N ≡ rowOf T n .nonterminal → T1 ≡ onRow T n (withRun []) → called ≡ nthNonterminal book N →
-    o ≡ doneWith Failure.Nothing s →
+    o ≡ doneWith Failure.None s →
     variantsRows book text run n m (called .count) (called .first) (failureOf (failureAt o)) (rowState (o .state .units) cells T1) ≡
     oneRunRows book text run n m (rowState (s .units) cells T)
 unfolding oneRunRows
@@ -99,7 +99,7 @@ one-run-is book text run n m N called s o T T1 cells eN eT ec eo = rw (eo, ec, e
 pub one-run-whole : (book : Book) (text : List ℕ) (run : RowRunner) (n m N : ℕ) (called : Nonterminal) (s : State) (o : Outcome) (T T1 : List Row)
     (st st1 : List ℕ) (U : List Row) (r : Outcome) →
     N ≡ rowOf T n .nonterminal → T1 ≡ onRow T n (withRun []) → called ≡ nthNonterminal book N →
-    o ≡ doneWith Failure.Nothing s →
+    o ≡ doneWith Failure.None s →
     (Held text st (o .state .cells) → Ran text st1 U r
     (variantsRows book text run n m (called .count) (called .first) (failureOf (failureAt o)) (rowState (o .state .units) (cellsOf st (o .state .cells)) T1))) →
     Runs text st (s .cells) st1 U r (λ cells. oneRunRows book text run n m (rowState (s .units) cells T))
@@ -121,9 +121,9 @@ variantCounts book text n j before T y =
     ok (outcome (joinWith (failureOf (failureAt before)) (counted book text (bareCall (rowOf T n .nonterminal) (rowOf T n .start)) j (y .failure))) (y .state))
 
 variant-level : (book : Book) (text : List ℕ) (n m j : ℕ) (before : Outcome) (T : List Row) (cells : List Cell) → leb m (nthVariant book j .level) ≡ true →
-    variantRows book text (within book text n) n m j (failureOf (failureAt before)) (rowState (before .state .units) cells T) ≡
+    variantRows book text (innerRunner book text n) n m j (failureOf (failureAt before)) (rowState (before .state .units) cells T) ≡
     (makes (begin book text j) (rowState (before .state .units) cells T) >>= (λ b.
-    within book text n n j (todoOf book (nthVariant book j)) (rowOf T n .start) (b .cell) (atRow n (takeVariant book text j) (b .state))
+    innerRunner book text n n j (todoOf book (nthVariant book j)) (rowOf T n .start) (b .cell) (atRow n (takeVariant book text j) (b .state))
     >>= variantCounts book text n j before T))
 unfolding variantRows variantCounts
 variant-level book text n m j before T cells t = rw t
@@ -131,7 +131,7 @@ variant-level book text n m j before T cells t = rw t
 module _ (book : Book) (text : List ℕ) (n m j : ℕ) (before : Outcome) (w : Variant) (ew : w ≡ nthVariant book j) (T : List Row) (st0 : List ℕ) where
   pub variant-skipped : w .level < m → before .limit ≡ 0 →
       Runs text st0 (before .state .cells) st0 T before (λ cells.
-      variantRows book text (within book text n) n m j (failureOf (failureAt before)) (rowState (before .state .units) cells T))
+      variantRows book text (innerRunner book text n) n m j (failureOf (failureAt before)) (rowState (before .state .units) cells T))
   unfolding variantRows
   variant-skipped l e held =
       let t : leb m (nthVariant book j .level) ≡ false = lt-leb m (nthVariant book j .level) (rw ew at l) in
@@ -140,25 +140,25 @@ module _ (book : Book) (text : List ℕ) (n m j : ℕ) (before : Outcome) (w : V
   module _ (l : m ≤ w .level) (st1 st2 : List ℕ) (U U1 : List Row) (b : Reached) (o r : Outcome)
       (B : Begins book text st0 st1 T U n j (before .state) b)
       (G : Runs text st1 (b .outcome .state .cells) st2 U1 o (λ cells.
-      resumes book text (runnerRows book text (n - 1)) (n - 1) n j (todoFrom book (w .first) (w .count)) Doing.Steps (b .at) (b .items) (given (b .outcome) cells U)))
-      (C : Counted book j (b .at) before o r) where
+      resumes book text (runnerRows book text (n - 1)) (n - 1) n j (todoFrom book (w .first) (w .count)) Doing.Steps (b .place) (b .items) (given (b .outcome) cells U)))
+      (C : VariantEnded book j (b .place) before o r) where
     pub variant-ran : Runs text st0 (before .state .cells) st2 U1 r (λ cells.
-        variantRows book text (within book text n) n m j (failureOf (failureAt before)) (rowState (before .state .units) cells T))
+        variantRows book text (innerRunner book text n) n m j (failureOf (failureAt before)) (rowState (before .state .units) cells T))
     unfolding variantCounts
     variant-ran held =
         let d = B held in
         let q = G (d .held) in
-        let count : Counted book j (rowOf T n .start) before o r = subst (λ x. Counted book j x before o r) (d .start) C in
+        let count : VariantEnded book j (rowOf T n .start) before o r = subst (λ x. VariantEnded book j x before o r) (d .start) C in
         record {
           is =
               ap (λ k. given r (cellsOf st2 k) U1) (count .cells)
               ∙ count .is text (rowOf T n .nonterminal) (cellsOf st2 (o .state .cells)) U1
               ∙ ap (λ (x : Result model.Outcome). x >>= variantCounts book text n j before T)
-              (q .is ∙ ap (λ (v : Variant). resumes book text (runnerRows book text (n - 1)) (n - 1) n j (todoOf book v) Doing.Steps (b .at) (b .items)
+              (q .is ∙ ap (λ (v : Variant). resumes book text (runnerRows book text (n - 1)) (n - 1) n j (todoOf book v) Doing.Steps (b .place) (b .items)
               (given (b .outcome) (cellsOf st1 (b .outcome .state .cells)) U)) ew
               ∙ d .is (runnerRows book text (n - 1)) (n - 1) (todoOf book (nthVariant book j)))
               ∙ bind-assoc (makes (begin book text j) (rowState (before .state .units) (cellsOf st0 (before .state .cells)) T))
-              (λ b. within book text n n j (todoOf book (nthVariant book j)) (rowOf T n .start) (b .cell) (atRow n (takeVariant book text j) (b .state)))
+              (λ b. innerRunner book text n n j (todoOf book (nthVariant book j)) (rowOf T n .start) (b .cell) (atRow n (takeVariant book text j) (b .state)))
               (variantCounts book text n j before T)
               ∙ sym (variant-level book text n m j before T (cellsOf st0 (before .state .cells)) (le-leb m (nthVariant book j .level) (rw ew at l)));
           held = subst (λ k. Held text st2 k) (sym (count .cells)) (q .held);

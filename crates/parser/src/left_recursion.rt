@@ -12,8 +12,8 @@ use transitions::State;
 use transitions::TOO_MANY_PARSES;
 use transitions::after_first;
 use transitions::after_round;
-use transitions::at_limit;
 use transitions::begin_use;
+use transitions::without_failure;
 
 // Each run but the last adds a parse, of which a set has at most 64.
 const MOST_ROUNDS: usize = 65;
@@ -25,18 +25,18 @@ fn rounds(
     text: &[u8],
     store: &mut [u32],
     rows: &mut [u32],
-    nesting: usize,
+    row: usize,
     minimum: usize,
     state: State,
 ) -> Outcome
-    requires { ⌜ CanRun book index text rows nesting ⌝ }
-    ensures { λ r. ⌜ Does book index text store rows state r (runsAgain nesting minimum) ⌝ }
+    requires { ⌜ CanRun book index text rows row ⌝ }
+    ensures { λ r. ⌜ Does book index text store rows state r (runsAgain row minimum) ⌝ }
 {
     let mut s = state;
     let mut round = 0usize;
     while round < MOST_ROUNDS {
-        let o = one_run(book, index, text, store, rows, nesting, minimum, s);
-        let e = after_round(rows, nesting, o);
+        let o = one_run(book, index, text, store, rows, row, minimum, s);
+        let e = after_round(rows, row, o);
         let after = e.outcome;
         if !e.again {
             return after;
@@ -44,7 +44,7 @@ fn rounds(
         s = after.state;
         round += 1;
     }
-    at_limit(TOO_MANY_PARSES, s)
+    without_failure(TOO_MANY_PARSES, s)
 }
 
 // A first run, and more if it asked for its own parses.
@@ -54,61 +54,42 @@ fn run_call(
     text: &[u8],
     store: &mut [u32],
     rows: &mut [u32],
-    nesting: usize,
+    row: usize,
     nonterminal: u32,
-    u: u32,
+    at: u32,
     minimum: usize,
     state: State,
 ) -> Outcome
-    requires { ⌜ CanRun book index text rows nesting ⌝ }
-    ensures { λ r. ⌜ Does book index text store rows state r (runsCall nesting nonterminal u minimum) ⌝ }
+    requires { ⌜ CanRun book index text rows row ⌝ }
+    ensures { λ r. ⌜ Does book index text store rows state r (runsCall row nonterminal at minimum) ⌝ }
 {
-    calls::open_call(rows, nesting, nonterminal, u);
-    let o = one_run(book, index, text, store, rows, nesting, minimum, state);
-    let e = after_first(rows, nesting, o);
+    calls::open_call(rows, row, nonterminal, at);
+    let o = one_run(book, index, text, store, rows, row, minimum, state);
+    let e = after_first(rows, row, o);
     let after = e.outcome;
     if !e.again {
         return after;
     }
-    rounds(
-        book,
-        index,
-        text,
-        store,
-        rows,
-        nesting,
-        minimum,
-        after.state,
-    )
+    rounds(book, index, text, store, rows, row, minimum, after.state)
 }
 
-// A use of a nonterminal at a skipped place: one unit, the governor, then one level of nesting. Its parses are what row
-// `nesting` found.
+// A use of a nonterminal at a skipped place: one unit, the governor, then one level of nesting. Its parses are what the
+// row found.
 pub fn enter(
     book: &[u8],
     index: &[usize],
     text: &[u8],
     store: &mut [u32],
     rows: &mut [u32],
-    nesting: usize,
+    row: usize,
     nonterminal: u32,
-    u: u32,
+    at: u32,
     state: State,
 ) -> Outcome
-    requires { ⌜ Ready book index text rows nesting ⌝ }
-    ensures { λ r. ⌜ Does book index text store rows state r (enters nesting nonterminal u) ⌝ }
+    requires { ⌜ Ready book index text rows row ⌝ }
+    ensures { λ r. ⌜ Does book index text store rows state r (enters row nonterminal at) ⌝ }
 {
-    let e = begin_use(
-        book,
-        index,
-        text,
-        store,
-        rows,
-        nesting,
-        nonterminal,
-        u,
-        state,
-    );
+    let e = begin_use(book, index, text, store, rows, row, nonterminal, at, state);
     let o = e.outcome;
     if !e.runs {
         return o;
@@ -119,9 +100,9 @@ pub fn enter(
         text,
         store,
         rows,
-        nesting,
+        row,
         nonterminal,
-        u,
+        at,
         e.minimum,
         o.state,
     )

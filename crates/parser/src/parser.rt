@@ -1,14 +1,14 @@
 // A call runs its variants; a variant runs its steps; a step calls a nonterminal again.
 //
-// The functions of the cycle (here and in left_recursion.rt) take `nesting`, the levels of nesting left, which is also
-// the first free row, and how far the path through a variant is. A parse joins the run's set of its call's row as its
-// path ends.
+// The functions of the cycle (here and in left_recursion.rt) take the first free row, whose number is the levels of
+// nesting left, and how far the path through a variant is. A parse joins the run's set of its call's row as its path
+// ends.
 //
 // What ends the cycle: a call runs its variants, and a parse is followed, with one level less; on one level the steps
 // that remain become fewer.
 ghost use Rattle.transitions.specs.Contracts.{Does, Continues};
 ghost use Rattle.parser.specs.Cycle.{CanRun, CanTry, OnPath};
-ghost use Rattle.parser.specs.Cycle.{runsOnce, tries, descends, followsEach, chooses, goesOn};
+ghost use Rattle.parser.specs.Cycle.{runsOnce, tries, descends, followsEach, chooses, proceeds};
 use crate::left_recursion::enter;
 use errors::Failure;
 use transitions::Doing;
@@ -17,11 +17,10 @@ use transitions::Outcome;
 use transitions::Progress;
 use transitions::State;
 use transitions::TOO_DEEP;
-use transitions::at_limit;
+use transitions::after_variant;
 use transitions::begin_child;
 use transitions::begin_variant;
 use transitions::both;
-use transitions::counted;
 use transitions::done;
 use transitions::finish;
 use transitions::first_side;
@@ -29,37 +28,37 @@ use transitions::goes_on;
 use transitions::joined;
 use transitions::next_of;
 use transitions::take_step;
+use transitions::without_failure;
 
 // ---- Variants
-// One variant of the call of row `nesting`, if its level reaches the minimum; `before` is what the variants before it
-// gave.
+// One variant of the call of a row, if its level reaches the minimum; `before` is what the variants before it gave.
 fn variant(
     book: &[u8],
     index: &[usize],
     text: &[u8],
     store: &mut [u32],
     rows: &mut [u32],
-    nesting: usize,
+    row: usize,
     minimum: usize,
     j: u32,
     before: Outcome,
 ) -> Outcome
-    requires { ⌜ CanTry book index text rows nesting before ⌝ }
-    ensures { λ r. ⌜ Does book index text store rows (before .state) r (tries nesting minimum j before) ⌝ }
+    requires { ⌜ CanTry book index text rows row before ⌝ }
+    ensures { λ r. ⌜ Does book index text store rows (before .state) r (tries row minimum j before) ⌝ }
 {
     let w = book::variant(book, index, j as usize);
     if w.level < minimum {
         return before;
     }
-    let b = begin_variant(book, index, text, store, rows, nesting, j, before.state);
+    let b = begin_variant(book, index, text, store, rows, row, j, before.state);
     let first = w.first as u32;
     let count = w.count as u32;
     let here = Progress {
-        call: nesting,
+        call: row,
         variant: j,
         step: first,
         remaining: count,
-        at: b.at,
+        place: b.place,
         items: b.items,
     };
     let o = steps(
@@ -68,36 +67,36 @@ fn variant(
         text,
         store,
         rows,
-        nesting - 1,
+        row - 1,
         here,
         Doing::Steps,
         b.outcome,
     );
-    counted(book, index, j, b.at, before, o)
+    after_variant(book, index, j, b.place, before, o)
 }
 
-// One run of the call of row `nesting`.
+// One run of the call of a row.
 pub fn one_run(
     book: &[u8],
     index: &[usize],
     text: &[u8],
     store: &mut [u32],
     rows: &mut [u32],
-    nesting: usize,
+    row: usize,
     minimum: usize,
     state: State,
 ) -> Outcome
-    requires { ⌜ CanRun book index text rows nesting ⌝ }
-    ensures { λ r. ⌜ Does book index text store rows state r (runsOnce nesting minimum) ⌝ }
+    requires { ⌜ CanRun book index text rows row ⌝ }
+    ensures { λ r. ⌜ Does book index text store rows state r (runsOnce row minimum) ⌝ }
 {
-    let nonterminal = calls::nonterminal_of(rows, nesting);
-    calls::clear_run(rows, nesting);
+    let nonterminal = calls::nonterminal_of(rows, row);
+    calls::clear_run(rows, row);
     let called = book::nonterminal(book, index, nonterminal as usize);
-    let mut o = done(Failure::Nothing, state);
+    let mut o = done(Failure::None, state);
     let mut k = 0;
     while k < called.count {
         let j = (called.first + k) as u32;
-        let next = variant(book, index, text, store, rows, nesting, minimum, j, o);
+        let next = variant(book, index, text, store, rows, row, minimum, j, o);
         if next.limit != 0 {
             return next;
         }
@@ -115,57 +114,47 @@ fn descend(
     text: &[u8],
     store: &mut [u32],
     rows: &mut [u32],
-    nesting: usize,
+    row: usize,
     here: Progress,
     next: Next,
     nonterminal: u32,
     state: State,
 ) -> Outcome
-    requires { ⌜ OnPath book index text rows nesting here ⌝ }
-    ensures { λ r. ⌜ Does book index text store rows state r (descends nesting here next nonterminal) ⌝ }
+    requires { ⌜ OnPath book index text rows row here ⌝ }
+    ensures { λ r. ⌜ Does book index text store rows state r (descends row here next nonterminal) ⌝ }
 {
-    let u = begin_child(text, rows, here);
-    let o = enter(
-        book,
-        index,
-        text,
-        store,
-        rows,
-        nesting,
-        nonterminal,
-        u,
-        state,
-    );
-    follow(book, index, text, store, rows, nesting, here, next, o)
+    let at = begin_child(text, rows, here);
+    let o = enter(book, index, text, store, rows, row, nonterminal, at, state);
+    follow(book, index, text, store, rows, row, here, next, o)
 }
 
-// What follows each parse that row `nesting` found, one level further in.
+// What follows each parse that a row found, one level further in.
 fn follow(
     book: &[u8],
     index: &[usize],
     text: &[u8],
     store: &mut [u32],
     rows: &mut [u32],
-    nesting: usize,
+    row: usize,
     here: Progress,
     next: Next,
     child: Outcome,
 ) -> Outcome
-    requires { ⌜ OnPath book index text rows nesting here ⌝ }
-    ensures { λ r. ⌜ Continues book index text store rows child r (followsEach nesting here next) ⌝ }
+    requires { ⌜ OnPath book index text rows row here ⌝ }
+    ensures { λ r. ⌜ Continues book index text store rows child r (followsEach row here next) ⌝ }
 {
     if !goes_on(child) {
         return child;
     }
-    let parses = calls::found(rows, nesting);
+    let parses = calls::found(rows, row);
     let mut all = child;
     let mut i = 0;
     while i < parses {
         let s = all.state;
-        if nesting == 0 {
-            return at_limit(TOO_DEEP, s);
+        if row == 0 {
+            return without_failure(TOO_DEEP, s);
         }
-        let q = calls::item(rows, nesting, i);
+        let q = calls::item(rows, row, i);
         let g = next_of(book, index, text, store, here, next, q, s);
         let doing = g.doing;
         let there = Progress {
@@ -173,10 +162,10 @@ fn follow(
             variant: here.variant,
             step: here.step,
             remaining: here.remaining,
-            at: g.at,
+            place: g.place,
             items: g.items,
         };
-        let inner = nesting - 1;
+        let inner = row - 1;
         let o = steps(
             book,
             index,
@@ -205,14 +194,14 @@ fn choice(
     text: &[u8],
     store: &mut [u32],
     rows: &mut [u32],
-    nesting: usize,
+    row: usize,
     here: Progress,
     next: Next,
     nonterminal: u32,
     state: State,
 ) -> Outcome
-    requires { ⌜ OnPath book index text rows nesting here ⌝ }
-    ensures { λ r. ⌜ Does book index text store rows state r (chooses nesting here next nonterminal) ⌝ }
+    requires { ⌜ OnPath book index text rows row here ⌝ }
+    ensures { λ r. ⌜ Does book index text store rows state r (chooses row here next nonterminal) ⌝ }
 {
     let f = first_side(book, index, text, store, here, next, state);
     let there = Progress {
@@ -220,7 +209,7 @@ fn choice(
         variant: here.variant,
         step: here.step,
         remaining: here.remaining,
-        at: f.at,
+        place: f.place,
         items: f.items,
     };
     let a = steps(
@@ -229,7 +218,7 @@ fn choice(
         text,
         store,
         rows,
-        nesting,
+        row,
         there,
         Doing::Steps,
         f.outcome,
@@ -243,7 +232,7 @@ fn choice(
         text,
         store,
         rows,
-        nesting,
+        row,
         here,
         next,
         nonterminal,
@@ -260,18 +249,18 @@ fn steps(
     text: &[u8],
     store: &mut [u32],
     rows: &mut [u32],
-    nesting: usize,
+    row: usize,
     from: Progress,
     first: Doing,
     begun: Outcome,
 ) -> Outcome
-    requires { ⌜ OnPath book index text rows nesting from ⌝ }
-    ensures { λ r. ⌜ Continues book index text store rows begun r (goesOn nesting from first) ⌝ }
+    requires { ⌜ OnPath book index text rows row from ⌝ }
+    ensures { λ r. ⌜ Continues book index text store rows begun r (proceeds row from first) ⌝ }
 {
     // Four numbers, and not a copy of the struct: that would be read in larger parts than it was written in, and wait.
     let mut step = from.step;
     let mut remaining = from.remaining;
-    let mut at = from.at;
+    let mut place = from.place;
     let mut items = from.items;
     let mut doing = first;
     let mut o = begun;
@@ -281,7 +270,7 @@ fn steps(
             variant: from.variant,
             step,
             remaining,
-            at,
+            place,
             items,
         };
         match doing {
@@ -292,7 +281,7 @@ fn steps(
                 let g = take_step(book, index, text, store, here, o.state);
                 step += 1;
                 remaining -= 1;
-                at = g.at;
+                place = g.place;
                 items = g.items;
                 doing = g.doing;
                 o = g.outcome;
@@ -304,7 +293,7 @@ fn steps(
                     text,
                     store,
                     rows,
-                    nesting,
+                    row,
                     here,
                     Next::Steps,
                     m,
@@ -318,7 +307,7 @@ fn steps(
                     text,
                     store,
                     rows,
-                    nesting,
+                    row,
                     here,
                     Next::Steps,
                     m,
@@ -328,18 +317,7 @@ fn steps(
             Doing::Elements(list) => {
                 let m = list.nonterminal;
                 let next = Next::Elements(list);
-                return choice(
-                    book,
-                    index,
-                    text,
-                    store,
-                    rows,
-                    nesting,
-                    here,
-                    next,
-                    m,
-                    o.state,
-                );
+                return choice(book, index, text, store, rows, row, here, next, m, o.state);
             }
         }
     }

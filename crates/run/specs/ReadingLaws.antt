@@ -103,7 +103,7 @@ module _ (text cells cells′ parses parses′ store rows : List ℕ) (allowance
   end-failed e h f lists q =
       with-lists {a = a} (q ∙ ap (λ (n : ℕ). answer 30 (e .place) (e .kind) (e .argument) n 0 0) w) (lists .0) (lists .1) ∙ rw (seen-result o store rows h, f)
 
-  pub end-found : (values : Values) (number : ℕ) → o .limit ≡ 0 → failureAt o ≡ Failure.Nothing → Held text store (o .state .cells) →
+  pub end-found : (values : Values) (number : ℕ) → o .limit ≡ 0 → failureAt o ≡ Failure.None → Held text store (o .state .cells) →
       (cells′ ≡ written 12288 (take (3 * o .state .cells) store) cells) × (parses′ ≡ written 256 (parseNumbers (rowOf (table rows) 200 .set)) parses) →
       values ≡ withValues Values.Nothing (wholeValues text (rowOf (table rows) 200 .set)) → number ≡ length (rowOf (table rows) 200 .set) →
       answerIn a ≡ endAnswer values work number → answered a cells′ parses′ ≡ atEnd cells parses text allowance (seenOf o store rows)

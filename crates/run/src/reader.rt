@@ -150,7 +150,7 @@ fn ending(
             cleared(cells, parses);
             failed(e, work)
         }
-        Failure::Nothing => {
+        Failure::None => {
             filled(cells, parses, store, rows, state.cells);
             let values = whole_values(text, rows);
             let number = found(rows, MOST_NESTING) as u32;

@@ -2,7 +2,7 @@
 -- text, the store of cells and the rows. Each unfolds to a definition of Outcomes or Steps. Scaffolding: no definition
 -- of document 01.
 --
--- What is asked: Short, Fitting, Ready. What is promised: Makes of a cell, Does of a part of the run, Continues of one
+-- What is asked: Short, Fitting, Ready. What is promised: MakesCell of a cell, Does of a part of the run, Continues of one
 -- that goes on from an outcome, Stages and Reaches of a part that calls nothing. Then the parts of the model, from
 -- where a path is.
 use mathlib.Core.Bool.{Bool}
@@ -26,7 +26,7 @@ use Rattle.tokens.specs.Maps.{closingIn}
 use Rattle.tokens.specs.declared.steps.Closing.{Closing}
 use Rattle.transitions.specs.declared.outcomes.Outcome as code
 use Rattle.transitions.specs.declared.outcomes.State.{State}
-use Rattle.transitions.specs.declared.items.Made.{Made}
+use Rattle.transitions.specs.declared.items.CellOutcome.{CellOutcome}
 use Rattle.transitions.specs.declared.stages.Progress.{Progress}
 use Rattle.transitions.specs.declared.stages.Next.{Next}
 use Rattle.transitions.specs.declared.stages.Reached.{Reached}
@@ -58,8 +58,8 @@ abbrev pub FromResult : Type 0
 FromResult = Book → List ℕ → Result Outcome → Result Outcome
 
 -- a cell is made
-abbrev pub Makes : Lent → Lent → State → Made → (run.State → Result run.Made) → Type 0
-Makes text store s m part = MadeBy (atEntry text) (atEntry store) (atExit store) s m part
+abbrev pub MakesCell : Lent → Lent → State → CellOutcome → (run.State → Result run.Made) → Type 0
+MakesCell text store s m part = MadeBy (atEntry text) (atEntry store) (atExit store) s m part
 
 -- a part of the run, from a state
 abbrev pub Does : Lent → Lent → Lent → Lent → Lent → State → code.Outcome → FromState → Type 0
@@ -100,12 +100,12 @@ identifies n N u book text s = runIdentifierRows book text n N u s
 -- ---- From where a path is
 -- the variant's end
 abbrev pub completes : Progress → FromState
-completes here book text s = completeRows book text (here .call) (here .variant) (here .at) (here .items) s
+completes here book text s = completeRows book text (here .call) (here .variant) (here .place) (here .items) s
 
 -- the next step
 abbrev pub takes : Progress → Book → List ℕ → Part
 takes here book text inner n c rest s =
-    stepsRows book text inner n c (here .variant) (taking (nthStep (book .steps) (here .step)) ∷ rest) (here .at)
+    stepsRows book text inner n c (here .variant) (taking (nthStep (book .steps) (here .step)) ∷ rest) (here .place)
     (here .items) s
 
 -- a token was read
@@ -133,7 +133,7 @@ stops values closing place here book text inner n c rest s =
 -- the first side of a choice
 abbrev pub sides : Next → Progress → Book → List ℕ → Part
 sides next here book text inner n c rest s =
-    sideRows book text inner n c (here .variant) rest next (here .at) (here .items) s
+    sideRows book text inner n c (here .variant) rest next (here .place) (here .items) s
 
 -- what follows a parse
 abbrev pub follows : Next → Parse ℕ → Progress → Book → List ℕ → Part

@@ -4,7 +4,7 @@
 -- Contents:
 -- - runs: stops, ended-failed, ended-over, ended-full, ended-again, first-limit, round-limit, first-settled,
 --   round-settled
--- - variants: reached, variant-begins, counted-limit, counted-done
+-- - variants: variant-begins, variant-limit, variant-done
 use mathlib.Core.Path.{_≡_, sym, ap, subst, _∙_}
 use mathlib.Core.Bool.{true, false}
 use mathlib.Core.List.{List}
@@ -31,12 +31,12 @@ use Rattle.errors.specs.declared.Error as code
 use Rattle.errors.specs.declared.Failure.{Failure}
 use Rattle.transitions.specs.declared.outcomes.Outcome as outcomes
 use Rattle.transitions.specs.declared.outcomes.State.{State}
-use Rattle.transitions.specs.declared.items.Made.{Made}
-use Rattle.transitions.specs.declared.entering.Ended.{Ended}
+use Rattle.transitions.specs.declared.items.CellOutcome.{CellOutcome}
+use Rattle.transitions.specs.declared.runs.Ended.{Ended}
 use Rattle.transitions.specs.declared.stages.Reached.{Reached}
-use Rattle.transitions.specs.Outcomes.{cellsOf, given, Runs, MadeBy, limitOf, doneWith, failureAt}
-use Rattle.transitions.specs.Steps.{resumes, doesRows}
-use Rattle.transitions.specs.Entering.{goesAgain, EndedBy, FirstEnded, RoundEnded, Begins, Counted}
+use Rattle.transitions.specs.Outcomes.{cellsOf, given, Runs, MadeBy, withoutFailure, doneWith, failureAt}
+use Rattle.transitions.specs.Steps.{reachedWith, resumes, doesRows}
+use Rattle.transitions.specs.Entering.{goesAgain, EndedBy, FirstEnded, RoundEnded, Begins, VariantEnded}
 use Rattle.transitions.specs.OutcomeLaws.{given-ok, given-met, cell-ok, cell-met}
 use Rattle.transitions.specs.ResumeLaws.{bind-met, bind-ok}
 use Rattle.transitions.specs.GivenLaws.{given-done, makes-met, makes-ok}
@@ -59,23 +59,23 @@ module _ (T : List Row) (n : ℕ) (failure : Failure) (s : State) (o : outcomes.
         cells = ap (λ e. e .outcome .state .cells) ee ∙ ap (λ o. o .state .cells) eo;
       }
 
-  pub ended-over : (how : Settled) → how ≡ Settled.Over → o ≡ doneWith Failure.Nothing s → e ≡ stops o → EndedBy T n how failure s e
+  pub ended-over : (how : Settled) → how ≡ Settled.Over → o ≡ doneWith Failure.None s → e ≡ stops o → EndedBy T n how failure s e
   unfolding goesAgain
   ended-over how h eo ee =
       record {
-        is = λ again cells. rw (h, ee) (given-done o Failure.Nothing s cells T eo);
+        is = λ again cells. rw (h, ee) (given-done o Failure.None s cells T eo);
         cells = ap (λ e. e .outcome .state .cells) ee ∙ ap (λ o. o .state .cells) eo;
       }
 
-  pub ended-full : (how : Settled) → how ≡ Settled.Full → o ≡ limitOf 22 s → e ≡ stops o → EndedBy T n how failure s e
+  pub ended-full : (how : Settled) → how ≡ Settled.Full → o ≡ withoutFailure 22 s → e ≡ stops o → EndedBy T n how failure s e
   unfolding goesAgain
   ended-full how h eo ee =
       record {
-        is = λ again cells. rw (h, ee, eo) (given-met (limitOf 22 s) cells T (λ z. omega (arith, z)));
+        is = λ again cells. rw (h, ee, eo) (given-met (withoutFailure 22 s) cells T (λ z. omega (arith, z)));
         cells = ap (λ e. e .outcome .state .cells) ee ∙ ap (λ o. o .state .cells) eo;
       }
 
-  pub ended-again : (how : Settled) → how ≡ Settled.Again → o ≡ doneWith Failure.Nothing s → e ≡ record { again = true; outcome = o } → EndedBy T n how failure s e
+  pub ended-again : (how : Settled) → how ≡ Settled.Again → o ≡ doneWith Failure.None s → e ≡ record { again = true; outcome = o } → EndedBy T n how failure s e
   unfolding goesAgain
   ended-again how h eo ee =
       record {
@@ -120,13 +120,10 @@ module _ (T : List Row) (n : ℕ) (o : outcomes.Outcome) (e : Ended) where
 
 -- ---- Variants
 -- a variant begins at a place: its outcome, the place and its items
-abbrev pub reached : Made → ℕ → Reached
-reached m start = record { outcome = limitOf (m .limit) (m .state); at = start; items = m .cell }
-
-module _ (book : Book) (text before after : List ℕ) (T U : List Row) (n j : ℕ) (s : State) (m : Made) (em : MadeBy text before after s m (run.begin book text j)) where
+module _ (book : Book) (text before after : List ℕ) (T U : List Row) (n j : ℕ) (s : State) (m : CellOutcome) (em : MadeBy text before after s m (run.begin book text j)) where
   begun : (start : ℕ) → start ≡ rowOf T n .start →
       U ≡ onRow T n (withVariant (nthVariant book j .level) (associativityNumber (nthVariant book j .associativity))) →
-      Begins book text before after T U n j s (reached m start)
+      Begins book text before after T U n j s (reachedWith m start)
   unfolding resumes doesRows _>>=_
   begun start es eu = λ held.
       let q = em held in
@@ -138,7 +135,7 @@ module _ (book : Book) (text before after : List ℕ) (T U : List Row) (n j : �
             (λ t.
             let h = eqb-true (m .limit) 0 t in
             rw (
-              given-ok (limitOf (m .limit) (m .state)) new U h,
+              given-ok (withoutFailure (m .limit) (m .state)) new U h,
               makes-ok (run.begin book text j) (rowState (s .units) cells T) _ (sym (q .is) ∙ cell-ok m new h),
               es,
               eu,
@@ -146,7 +143,7 @@ module _ (book : Book) (text before after : List ℕ) (T U : List Row) (n j : �
             (λ t.
             let h = eqb-false (m .limit) 0 t in
             rw (
-              given-met (limitOf (m .limit) (m .state)) new U h,
+              given-met (withoutFailure (m .limit) (m .state)) new U h,
               makes-met (run.begin book text j) (rowState (s .units) cells T) _ _ (sym (q .is) ∙ cell-met m new h),
             ));
         held = q .held;
@@ -154,14 +151,14 @@ module _ (book : Book) (text before after : List ℕ) (T U : List Row) (n j : �
       }
 
   pub variant-begins : (start : ℕ) (w : Variant) (r : Reached) → start ≡ rowOf T n .start → w ≡ nthVariant book j →
-      U ≡ onRow T n (withVariant (w .level) (associativityNumber (w .associativity))) → r ≡ reached m start → Begins book text before after T U n j s r
+      U ≡ onRow T n (withVariant (w .level) (associativityNumber (w .associativity))) → r ≡ reachedWith m start → Begins book text before after T U n j s r
   variant-begins start w r es ew eu er =
       subst (λ (x : Reached). Begins book text before after T U n j s x) (sym er)
       (begun start es (eu ∙ ap (λ (w : Variant). onRow T n (withVariant (w .level) (associativityNumber (w .associativity)))) ew))
 
 module _ (book : Book) (j start : ℕ) (before o r : outcomes.Outcome) where
-  pub counted-limit : (o .limit ≡ 0 → ⊥) → r ≡ o → Counted book j start before o r
-  counted-limit h e =
+  pub variant-limit : (o .limit ≡ 0 → ⊥) → r ≡ o → VariantEnded book j start before o r
+  variant-limit h e =
       record {
         is = λ text N cells T.
             let k = given-met o cells T h in
@@ -169,10 +166,10 @@ module _ (book : Book) (j start : ℕ) (before o r : outcomes.Outcome) where
         cells = ap (λ o. o .state .cells) e;
       }
 
-  pub counted-done : (w : Variant) (a b x y : Failure) → o .limit ≡ 0 → a ≡ failureAt before → b ≡ failureAt o → w ≡ nthVariant book j →
+  pub variant-done : (w : Variant) (a b x y : Failure) → o .limit ≡ 0 → a ≡ failureAt before → b ≡ failureAt o → w ≡ nthVariant book j →
       failureOf x ≡ failures.counted (w .committed) start (failureOf b) → failureOf y ≡ joinWith (failureOf a) (failureOf x) →
-      r ≡ doneWith y (o .state) → Counted book j start before o r
-  counted-done w a b x y h ea eb ew ex ey er =
+      r ≡ doneWith y (o .state) → VariantEnded book j start before o r
+  variant-done w a b x y h ea eb ew ex ey er =
       record {
         is = λ text N cells T.
             given-done r y (o .state) cells T er

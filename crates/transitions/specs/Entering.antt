@@ -24,7 +24,7 @@ use Rattle.errors.specs.declared.Failure.{Failure}
 use Rattle.transitions.specs.declared.outcomes.Outcome as code
 use Rattle.transitions.specs.declared.outcomes.State.{State}
 use Rattle.transitions.specs.declared.entering.Entered.{Entered}
-use Rattle.transitions.specs.declared.entering.Ended.{Ended}
+use Rattle.transitions.specs.declared.runs.Ended.{Ended}
 use Rattle.transitions.specs.declared.stages.Doing.{Doing}
 use Rattle.transitions.specs.declared.stages.Reached.{Reached}
 use Rattle.transitions.specs.Outcomes.{cellsOf, Held, given, failureAt}
@@ -38,14 +38,14 @@ pub record Stores (T U : List Row) (g n N u : ℕ) (s : State) (r : code.Outcome
   pub cells : r .state .cells ≡ s .cells
 
 -- what runs a variant of a call of row n, where n is not 0
-abbrev pub within : Book → List ℕ → ℕ → RowRunner
-within book text n = stepsRows book text (runnerRows book text (n - 1)) (n - 1)
+abbrev pub innerRunner : Book → List ℕ → ℕ → RowRunner
+innerRunner book text n = stepsRows book text (runnerRows book text (n - 1)) (n - 1)
 
 -- a use goes on to its runs, or is over
 unfoldable pub goesIn : Book → List ℕ → ℕ → ℕ → ℕ → Entered → List Cell → List Row → Result Outcome
 goesIn book text n N u e cells T =
     when (e .runs)
-    (λ _. runCallRows book text (within book text n) n N u (e .minimum) (rowState (e .outcome .state .units) cells T))
+    (λ _. runCallRows book text (innerRunner book text n) n N u (e .minimum) (rowState (e .outcome .state .units) cells T))
     (λ _. given (e .outcome) cells T)
 
 -- the store holds its cells, and a use that is to be run has a level of nesting left
@@ -98,19 +98,19 @@ pub record RoundEnded (T U : List Row) (n : ℕ) (o : code.Outcome) (e : Ended) 
 pub record Begun (book : Book) (text store : List ℕ) (T U : List Row) (n j units : ℕ) (cells : List Cell)
     (r : Reached) : Type 0 where
   pub is : (inner : Option RowRunner) (m : ℕ) (rest : List (Todo ℕ)) →
-      resumes book text inner m n j rest Doing.Steps (r .at) (r .items)
+      resumes book text inner m n j rest Doing.Steps (r .place) (r .items)
       (given (r .outcome) (cellsOf store (r .outcome .state .cells)) U)
       ≡ (makes (begin book text j) (rowState units cells T) >>= (λ b.
       stepsRows book text inner m n j rest (rowOf T n .start) (b .cell) (atRow n (takeVariant book text j) (b .state))))
   pub held : Held text store (r .outcome .state .cells)
-  pub start : r .at ≡ rowOf T n .start
+  pub start : r .place ≡ rowOf T n .start
 
 abbrev pub Begins : Book → List ℕ → List ℕ → List ℕ → List Row → List Row → ℕ → ℕ → State → Reached → Type 0
 Begins book text before after T U n j s r =
     Held text before (s .cells) → Begun book text after T U n j (s .units) (cellsOf before (s .cells)) r
 
 -- what a variant gave is counted
-pub record Counted (book : Book) (j start : ℕ) (before o r : code.Outcome) : Type 0 where
+pub record VariantEnded (book : Book) (j start : ℕ) (before o r : code.Outcome) : Type 0 where
   pub is : (text : List ℕ) (N : ℕ) (cells : List Cell) (T : List Row) →
       given r cells T ≡ (given o cells T >>= (λ y.
       ok (outcome (joinWith (failureOf (failureAt before)) (counted book text (bareCall N start) j (y .failure)))

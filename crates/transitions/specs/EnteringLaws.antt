@@ -41,10 +41,10 @@ use Rattle.tokens.specs.declared.tokens.End.{End}
 use Rattle.tokens.specs.declared.tokens.Variable.{Variable}
 use Rattle.transitions.specs.declared.outcomes.Outcome as outcomes
 use Rattle.transitions.specs.declared.outcomes.State.{State}
-use Rattle.transitions.specs.declared.items.Made.{Made}
+use Rattle.transitions.specs.declared.items.CellOutcome.{CellOutcome}
 use Rattle.transitions.specs.declared.entering.Entered.{Entered}
-use Rattle.transitions.specs.Outcomes.{cellsOf, Held, bare, given, Ran, Runs, Spent, MadeBy, limitOf, doneWith}
-use Rattle.transitions.specs.Entering.{Stores, within, goesIn, Entering, Opens, Enters}
+use Rattle.transitions.specs.Outcomes.{cellsOf, Held, bare, given, Ran, Runs, Spent, MadeBy, withoutFailure, doneWith}
+use Rattle.transitions.specs.Entering.{Stores, innerRunner, goesIn, Entering, Opens, Enters}
 use Rattle.transitions.specs.OutcomeLaws.{given-ok, given-met, cell-ok, cell-met}
 use Rattle.transitions.specs.ResumeLaws.{bind-met, bind-ok, unit-met, unit-ok}
 use Rattle.transitions.specs.GivenLaws.{given-done, ran-with, makes-met, makes-ok}
@@ -75,8 +75,8 @@ module _ (T U : List Row) (g n N u : ℕ) (s : State) (k : ℕ) (e : U ≡ answe
   pub stored-none : (f : Failure) (o : outcomes.Outcome) → k ≡ 0 → failureOf f ≡ some (error u 11 N) → o ≡ doneWith f s → Stores T U g n N u s o
   stored-none f o h ef eo = answered-with f o eo (ef ∙ sym (none-fails (rowOf U n .set) (error u 11 N) (sym ek ∙ h)))
 
-  pub stored-some : (o : outcomes.Outcome) → (k ≡ 0 → ⊥) → o ≡ doneWith Failure.Nothing s → Stores T U g n N u s o
-  stored-some o h eo = answered-with Failure.Nothing o eo (sym (some-passes (rowOf U n .set) (error u 11 N) (λ z. h (ek ∙ z))))
+  pub stored-some : (o : outcomes.Outcome) → (k ≡ 0 → ⊥) → o ≡ doneWith Failure.None s → Stores T U g n N u s o
+  stored-some o h eo = answered-with Failure.None o eo (sym (some-passes (rowOf U n .set) (error u 11 N) (λ z. h (ek ∙ z))))
 
 -- ---- Claims
 module _ (book : Book) (text : List ℕ) (T : List Row) (n u : ℕ) (v : Variable) (e : variableOf v ≡ variableAt book text u) where
@@ -125,13 +125,13 @@ module _ (book : Book) (text store : List ℕ) (T T1 T2 : List Row) (n N u : ℕ
       Runs text store (s .cells) store T2 o (λ cells. runIdentifierRows book text n N u (rowState (s .units) cells T))
   identifier-nothing x f o h ex en ef eo = unnamed f o (rw h (sym (ap endOf en) ∙ ex)) ef eo
 
-  module _ (x : End) (end size : ℕ) (c : Numbers) (after : List ℕ) (m : Made) (h : t ≡ false) (ex : endOf x ≡ freeEnd book text u) (en : x ≡ End.At end)
+  module _ (x : End) (end size : ℕ) (c : Numbers) (after : List ℕ) (m : CellOutcome) (h : t ≡ false) (ex : endOf x ≡ freeEnd book text u) (en : x ≡ End.At end)
       (es : size ≡ end - u) (ec : listed c ≡ numbersOf (Cell.name u size))
       (em : (cell : Cell) → listed c ≡ numbersOf cell → MadeBy text store after s m (run.make text cell)) where
     named-from : (cells : List Cell) → namedRows book text n N u (rowState (s .units) cells T2) (some end) ≡ runIdentifierRows book text n N u (rowState (s .units) cells T)
     named-from cells = identifier-from cells (some end) (rw h (sym (ap endOf en) ∙ ex))
 
-    pub identifier-full : (o : outcomes.Outcome) → (m .limit ≡ 0 → ⊥) → o ≡ limitOf (m .limit) (m .state) →
+    pub identifier-full : (o : outcomes.Outcome) → (m .limit ≡ 0 → ⊥) → o ≡ withoutFailure (m .limit) (m .state) →
         Runs text store (s .cells) after T2 o (λ cells. runIdentifierRows book text n N u (rowState (s .units) cells T))
     unfolding namedRows
     identifier-full o k eo =
@@ -142,14 +142,14 @@ module _ (book : Book) (text store : List ℕ) (T T1 T2 : List Row) (n N u : ℕ
         = ap (λ i. run.make text (Cell.name u i) (bare (s .units) cells)) (sym es) ∙ sym (q .is) ∙ cell-met m (cellsOf after (m .state .cells)) k in
         ran-with text after T2 o (m .state) _ (ap (λ o. o .state .cells) eo)
         (ap (λ o. given o (cellsOf after (m .state .cells)) T2) eo
-        ∙ given-met (limitOf (m .limit) (m .state)) (cellsOf after (m .state .cells)) T2 k
+        ∙ given-met (withoutFailure (m .limit) (m .state)) (cellsOf after (m .state .cells)) T2 k
         ∙ sym (bind-met _ (makes-met _ (rowState (s .units) cells T2) _ _ limit))
         ∙ named-from cells)
         (q .held)
 
     pub identifier-named : (U : List Row) (o : outcomes.Outcome) → m .limit ≡ 0 →
         U ≡ onRow T2 n (withSet (record { rest = end; level = 255; associativity = Associativity.Both; value = m .cell } ∷ [])) →
-        o ≡ doneWith Failure.Nothing (m .state) →
+        o ≡ doneWith Failure.None (m .state) →
         Runs text store (s .cells) after U o (λ cells. runIdentifierRows book text n N u (rowState (s .units) cells T))
     unfolding namedRows
     identifier-named U o k eu eo =
@@ -160,7 +160,7 @@ module _ (book : Book) (text store : List ℕ) (T T1 T2 : List Row) (n N u : ℕ
         let made : run.make text (Cell.name u (end - u)) (bare (s .units) cells) ≡ ok (run.made (m .cell) (bare (m .state .units) new))
         = ap (λ i. run.make text (Cell.name u i) (bare (s .units) cells)) (sym es) ∙ sym (q .is) ∙ cell-ok m new k in
         ran-with text after U o (m .state) _ (ap (λ o. o .state .cells) eo)
-        (given-done o Failure.Nothing (m .state) new U eo
+        (given-done o Failure.None (m .state) new U eo
         ∙ ap (λ r. ok (outcome none (rowState (m .state .units) new r))) eu
         ∙ sym (bind-ok _ (makes-ok _ (rowState (s .units) cells T2) _ made))
         ∙ named-from cells)
@@ -170,7 +170,7 @@ pub is-marked : (book : Book) (N : ℕ) (x : Nonterminal) (mark : Mark) → x �
 is-marked book N x mark e h = ap (λ m. eqb (markNumber m) 2) (sym h ∙ ap (λ x. x .mark) e)
 
 -- ---- One level of nesting
-runner-above : (book : Book) (text : List ℕ) (n : ℕ) → (n ≡ 0 → ⊥) → runnerRows book text n ≡ some (within book text n)
+runner-above : (book : Book) (text : List ℕ) (n : ℕ) → (n ≡ 0 → ⊥) → runnerRows book text n ≡ some (innerRunner book text n)
 unfolding runnerRows
 runner-above book text zero h = absurd (h refl)
 runner-above book text (suc n) h = let q : suc n - 1 ≡ n = omega arith in rw q
@@ -197,16 +197,16 @@ module _ (book : Book) (text : List ℕ) (n N u m : ℕ) (s : State) (e : Entere
       when (hasMark book 2 N) (λ _. runIdentifierRows book text n N u t) (λ _. runCallRows book text run n N u m t))
 
   opening-within : (store : List ℕ) (T : List Row) → (n ≡ 0 → ⊥) →
-      opening store T (some (within book text n)) ≡ opening store T (runnerRows book text n)
+      opening store T (some (innerRunner book text n)) ≡ opening store T (runnerRows book text n)
   opening-within store T h = ap (opening store T) (sym (runner-above book text n h))
 
-  pub opens-deep : (store : List ℕ) (T : List Row) (o : outcomes.Outcome) → n ≡ 0 → o ≡ limitOf 21 s → e ≡ ends o → Opens book text store store T T n N u m s e
+  pub opens-deep : (store : List ℕ) (T : List Row) (o : outcomes.Outcome) → n ≡ 0 → o ≡ withoutFailure 21 s → e ≡ ends o → Opens book text store store T T n N u m s e
   unfolding runnerRows nestedRows
   opens-deep store T o h eo ee =
       let cells = cellsOf store (s .cells) in
       let nest : opening store T none ≡ opening store T (runnerRows book text n) = ap (λ k. opening store T (runnerRows book text k)) (sym h) in
       let limit : given o cells T ≡ met 21 (s .units)
-      = ap (λ o. given o cells T) eo ∙ given-met (limitOf 21 s) cells T (λ z. omega (arith, z)) in
+      = ap (λ o. given o cells T) eo ∙ given-met (withoutFailure 21 s) cells T (λ z. omega (arith, z)) in
       record {
         does = λ held. entering-over book text store T n N u o e _ ee (ran-with text store T o s _ (ap (λ o. o .state .cells) eo) (limit ∙ nest) held);
         above = over-above o e n ee;
@@ -225,11 +225,11 @@ module _ (book : Book) (text : List ℕ) (n N u m : ℕ) (s : State) (e : Entere
       }
 
   pub opens-runs : (store : List ℕ) (T : List Row) (b : Bool) (o : outcomes.Outcome) → (n ≡ 0 → ⊥) → b ≡ hasMark book 2 N → b ≡ false →
-      o ≡ doneWith Failure.Nothing s → e ≡ record { runs = true; minimum = m; outcome = o } → Opens book text store store T T n N u m s e
+      o ≡ doneWith Failure.None s → e ≡ record { runs = true; minimum = m; outcome = o } → Opens book text store store T T n N u m s e
   unfolding nestedRows goesIn
   opens-runs store T b o h eb y eo ee =
       let t = rowState (s .units) (cellsOf store (s .cells)) T in
-      let nest : runCallRows book text (within book text n) n N u m t ≡ opening store T (runnerRows book text n)
+      let nest : runCallRows book text (innerRunner book text n) n N u m t ≡ opening store T (runnerRows book text n)
       = rw (← (opening-within store T h), sym eb ∙ y) in
       record {
         does = λ held.

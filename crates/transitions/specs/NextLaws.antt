@@ -27,23 +27,24 @@ use Rattle.errors.specs.declared.Failure.{Failure}
 use Rattle.tokens.specs.declared.steps.After.{After}
 use Rattle.transitions.specs.declared.outcomes.State.{State}
 use Rattle.transitions.specs.declared.outcomes.Outcome.{Outcome}
-use Rattle.transitions.specs.declared.items.Made.{Made}
+use Rattle.transitions.specs.declared.items.CellOutcome.{CellOutcome}
 use Rattle.transitions.specs.declared.stages.Doing.{Doing}
 use Rattle.transitions.specs.declared.stages.List as lists
 use Rattle.transitions.specs.declared.stages.Next.{Next}
 use Rattle.transitions.specs.declared.stages.Reached.{Reached}
 use Rattle.transitions.specs.declared.stages.Stage.{Stage}
-use Rattle.transitions.specs.Outcomes.{cellsOf, Spent, MadeBy, limitOf, doneWith, failureAt}
+use Rattle.transitions.specs.Outcomes.{cellsOf, Spent, MadeBy, withoutFailure, doneWith, failureAt}
 use Rattle.transitions.specs.OutcomeLaws.{given-ok, given-met, failure-done}
 use Rattle.transitions.specs.Steps.{nextRows, choosesRows, doesRows, sideRows, Part, Stages, Reaches, Chosen, Joined}
-use Rattle.transitions.specs.ResumeLaws.{endedBy, reachedWith, thenSteps, stateIn, bind-met, bind-ok, unit-met, unit-ok, makes-ok, makes-met, resumes-met, resumes-on, made-resumes}
+use Rattle.transitions.specs.Steps.{endedBy, reachedWith, thenSteps}
+use Rattle.transitions.specs.ResumeLaws.{stateIn, bind-met, bind-ok, unit-met, unit-ok, makes-ok, makes-met, resumes-met, resumes-on, made-resumes}
 use Rattle.transitions.specs.StepsLaws.{stopsPart}
 
 -- ---- What follows a parse
 abbrev nextPart : Book → List ℕ → ℕ → Next → ℕ → Parse ℕ → Part
 nextPart book text j next items q inner n c rest s = nextRows book text c j rest next items q s (stepsRows book text inner n)
 
-pub plain-next : (book : Book) (text before after : List ℕ) (j items : ℕ) (next : Next) (q : Parse ℕ) (s : State) (m : Made) (r : Reached) (g : Stage) → next ≡ Next.Steps →
+pub plain-next : (book : Book) (text before after : List ℕ) (j items : ℕ) (next : Next) (q : Parse ℕ) (s : State) (m : CellOutcome) (r : Reached) (g : Stage) → next ≡ Next.Steps →
     MadeBy text before after s m (run.withCell book text j items (q .value)) → r ≡ reachedWith m (q .rest) → g ≡ thenSteps r →
     Stages book text before s after j g (nextPart book text j next items q)
 unfolding nextRows plainNextRows doesRows
@@ -75,7 +76,7 @@ module _ (book : Book) (text : List ℕ) (inner : Option RowRunner) (n c j : ℕ
   unfolding nextRows listNextRows stepsRows _>>=_
   element-halts y d = rw (e, listNextRows, _>>=_) (rw d)
 
-module _ (book : Book) (text before middle : List ℕ) (j items : ℕ) (l : lists.List) (q : Parse ℕ) (s : State) (m : Made)
+module _ (book : Book) (text before middle : List ℕ) (j items : ℕ) (l : lists.List) (q : Parse ℕ) (s : State) (m : CellOutcome)
     (w : MadeBy text before middle s m (run.make text (Cell.chain (l .values) (q .value)))) where
   pub element-limit : (r : Reached) (g : Stage) → (m .limit ≡ 0 → ⊥) → r ≡ reachedWith m 0 → g ≡ thenSteps r →
       Stages book text before s middle j g (nextPart book text j (Next.Elements l) items q)
@@ -84,17 +85,17 @@ module _ (book : Book) (text before middle : List ℕ) (j items : ℕ) (l : list
       let v = w h in
       rw (eg, er) (record {
         is = λ inner n c rest T.
-            resumes-met book text inner n c j rest Doing.Steps 0 (m .cell) (limitOf (m .limit) (m .state)) (cellsOf middle (m .state .cells)) T b
+            resumes-met book text inner n c j rest Doing.Steps 0 (m .cell) (withoutFailure (m .limit) (m .state)) (cellsOf middle (m .state .cells)) T b
             ∙ sym (bind-met _ (makes-met text middle m (run.make text (Cell.chain (l .values) (q .value))) (s .units) (cellsOf before (s .cells)) v T b));
         held = v .held;
       })
 
   module _ (b : m .limit ≡ 0) (a : After) (ea : afterOf a ≡ afterElement text (l .comma) (q .rest)) where
-    pub element-on : (y : ℕ) (o : Outcome) → a ≡ After.Goes y → o ≡ doneWith Failure.Nothing (m .state) →
+    pub element-on : (y : ℕ) (o : Outcome) → a ≡ After.Goes y → o ≡ doneWith Failure.None (m .state) →
         Stages book text before s middle j
         (record {
           outcome = o;
-          at = y;
+          place = y;
           items = items;
           doing = Doing.Elements (record { comma = l .comma; nonterminal = l .nonterminal; values = m .cell; closing = l .closing });
         })
@@ -166,19 +167,19 @@ joined-both i before o r a b f l h ea eb e q =
 abbrev sidePart : Book → List ℕ → ℕ → Next → ℕ → ℕ → Part
 sidePart book text j next at items inner n c rest s = sideRows book text inner n c j rest next at items s
 
-module _ (book : Book) (text before middle : List ℕ) (j at items : ℕ) (s : State) (m : Made) (w : MadeBy text before middle s m (run.make text Cell.absent)) where
+module _ (book : Book) (text before middle : List ℕ) (j at items : ℕ) (s : State) (m : CellOutcome) (w : MadeBy text before middle s m (run.make text Cell.absent)) where
   pub absent-limit : (g : Reached) → (m .limit ≡ 0 → ⊥) → g ≡ reachedWith m 0 → Reaches book text before s middle j g (sidePart book text j Next.Steps at items)
   unfolding sideRows
   absent-limit g l e h =
       let v = w h in
       rw e (record {
         is = λ inner n c rest T.
-            resumes-met book text inner n c j rest Doing.Steps 0 (m .cell) (limitOf (m .limit) (m .state)) (cellsOf middle (m .state .cells)) T l
+            resumes-met book text inner n c j rest Doing.Steps 0 (m .cell) (withoutFailure (m .limit) (m .state)) (cellsOf middle (m .state .cells)) T l
             ∙ sym (bind-met _ (makes-met text middle m (run.make text Cell.absent) (s .units) (cellsOf before (s .cells)) v T l));
         held = v .held;
       })
 
-  pub absent-goes : (after : List ℕ) (g : Reached) (r : Made) → m .limit ≡ 0 → MadeBy text middle after (m .state) r (run.withCell book text j items (m .cell)) →
+  pub absent-goes : (after : List ℕ) (g : Reached) (r : CellOutcome) → m .limit ≡ 0 → MadeBy text middle after (m .state) r (run.withCell book text j items (m .cell)) →
       g ≡ reachedWith r at → Reaches book text before s after j g (sidePart book text j Next.Steps at items)
   unfolding sideRows doesRows
   absent-goes after g r l k e h =

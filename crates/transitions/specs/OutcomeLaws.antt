@@ -37,9 +37,9 @@ use Rattle.errors.specs.declared.Failure.{Failure}
 use Rattle.tokens.specs.declared.steps.Item.{Item}
 use Rattle.transitions.specs.declared.outcomes.State.{State}
 use Rattle.transitions.specs.declared.outcomes.Outcome.{Outcome}
-use Rattle.transitions.specs.declared.items.Made.{Made}
+use Rattle.transitions.specs.declared.items.CellOutcome.{CellOutcome}
 use Rattle.transitions.specs.Fit.{Fits, ItemFits}
-use Rattle.transitions.specs.Outcomes.{cellsOf, Held, bare, limitOf, doneWith, failureAt, given, goesOn, Spent, givenCell, MadeIn, MadeBy}
+use Rattle.transitions.specs.Outcomes.{cellsOf, Held, bare, withoutFailure, doneWith, failureAt, given, goesOn, Spent, givenCell, MadeIn, MadeBy}
 
 -- ---- Outcomes
 pub given-ok : (o : Outcome) (cells : List Cell) (T : List Row) → o .limit ≡ 0 →
@@ -57,20 +57,20 @@ limit-stops o h = rw (ne-eqb (o .limit) 0 h, goesOn)
 
 -- the failure is the one that it is done with
 pub failure-done : (f : Failure) (s : State) → failureAt (doneWith f s) ≡ f
-failure-done Failure.Nothing s = refl
+failure-done Failure.None s = refl
 failure-done (Failure.At e) s = refl
 
 pub goes-as : (o : Outcome) → o .limit ≡ 0 → eqb (o .failed) 0 ≡ goesOn o
 unfolding goesOn
 goes-as o h = rw (eq-eqb (o .limit) 0 h, goesOn)
 
-pub failure-none : (o : Outcome) → o .failed ≡ 0 → Failure.Nothing ≡ failureAt o
+pub failure-none : (o : Outcome) → o .failed ≡ 0 → Failure.None ≡ failureAt o
 failure-none o e = rw (eq-eqb (o .failed) 0 e)
 
 pub failure-some : (o : Outcome) → (o .failed ≡ 0 → ⊥) → Failure.At (o .error) ≡ failureAt o
 failure-some o h = rw (ne-eqb (o .failed) 0 h)
 
-pub done-nothing : (f : Failure) (s : State) (r : Outcome) → f ≡ Failure.Nothing → r ≡ limitOf 0 s → r ≡ doneWith f s
+pub done-nothing : (f : Failure) (s : State) (r : Outcome) → f ≡ Failure.None → r ≡ withoutFailure 0 s → r ≡ doneWith f s
 done-nothing f s r e q = rw e q
 
 pub done-at : (f : Failure) (s : State) (x : code.Error) → f ≡ Failure.At x → record { limit = 0; failed = 1; state = s; error = x } ≡ doneWith f s
@@ -86,7 +86,7 @@ unfolding spendRows run.spend _>>=_
 spend-none units cells T h = rw (h, spendRows, run.spend, _>>=_)
 
 pub unit-spent : (s : State) (r : Outcome) (units : ℕ) → (s .units ≡ 0 → ⊥) → units ≡ s .units - 1 →
-    r ≡ doneWith Failure.Nothing (record { units = units; cells = s .cells }) → Spent r s
+    r ≡ doneWith Failure.None (record { units = units; cells = s .cells }) → Spent r s
 unfolding given _>>=_
 unit-spent s r units h u e =
     record {
@@ -94,7 +94,7 @@ unit-spent s r units h u e =
       cells = ap (λ (o : Outcome). o .state .cells) e;
     }
 
-pub no-unit : (s : State) (r : Outcome) → s .units ≡ 0 → r ≡ limitOf 20 s → Spent r s
+pub no-unit : (s : State) (r : Outcome) → s .units ≡ 0 → r ≡ withoutFailure 20 s → Spent r s
 unfolding given _>>=_
 no-unit s r h e =
     record {
@@ -103,11 +103,11 @@ no-unit s r h e =
     }
 
 -- ---- Cells
-pub cell-ok : (m : Made) (cells : List Cell) → m .limit ≡ 0 → givenCell m cells ≡ ok (made (m .cell) (bare (m .state .units) cells))
+pub cell-ok : (m : CellOutcome) (cells : List Cell) → m .limit ≡ 0 → givenCell m cells ≡ ok (made (m .cell) (bare (m .state .units) cells))
 unfolding givenCell
 cell-ok m cells e = rw (eq-eqb (m .limit) 0 e, givenCell)
 
-pub cell-met : (m : Made) (cells : List Cell) → (m .limit ≡ 0 → ⊥) → givenCell m cells ≡ met (m .limit) (m .state .units)
+pub cell-met : (m : CellOutcome) (cells : List Cell) → (m .limit ≡ 0 → ⊥) → givenCell m cells ≡ met (m .limit) (m .state .units)
 unfolding givenCell
 cell-met m cells e = rw (ne-eqb (m .limit) 0 e, givenCell)
 
@@ -122,7 +122,7 @@ now-held text store l count h e =
     record { holds = rw q h; counted = ap length q ∙ sym e }
 
 -- a cell that is there, and nothing is stored
-pub got-in : (text store : List ℕ) (s : State) (m : Made) (cell : ℕ) (z : Result run.Made) → m ≡ record { limit = 0; cell = cell; state = s } →
+pub got-in : (text store : List ℕ) (s : State) (m : CellOutcome) (cell : ℕ) (z : Result run.Made) → m ≡ record { limit = 0; cell = cell; state = s } →
     z ≡ ok (made cell (bare (s .units) (cellsOf store (s .cells)))) → Held text store (s .cells) → MadeIn text store m z
 unfolding givenCell
 got-in text store s m cell z e q h = record { is = rw (e, q); held = rw e h }
@@ -132,7 +132,7 @@ module _ (text before after : List ℕ) (s : State) (c : Numbers) where
     making : (r : cells.Made) → Makes text before after (s .cells) c r → Making text after (cellsOf before (s .cells)) cell r
     making r w = w .does (cellsOf before (s .cells)) cell (h .holds) (h .counted) e
 
-    cell-made : (r : cells.Made) (n count : ℕ) (m : Made) → Makes text before after (s .cells) c r → r ≡ cells.Made.At n count →
+    cell-made : (r : cells.Made) (n count : ℕ) (m : CellOutcome) → Makes text before after (s .cells) c r → r ≡ cells.Made.At n count →
         m ≡ record { limit = 0; cell = n; state = record { units = s .units; cells = count } } →
         MadeIn text after m (run.make text cell (bare (s .units) (cellsOf before (s .cells))))
     unfolding givenCell
@@ -144,7 +144,7 @@ module _ (text before after : List ℕ) (s : State) (c : Numbers) where
           held = rw d (now-held text after (cellsAfter (cells.Made.At n count) (cellsOf before (s .cells)) cell) count (p .holds) (p .count));
         }
 
-    no-cell : (r : cells.Made) (m : Made) → Makes text before after (s .cells) c r → r ≡ cells.Made.Full →
+    no-cell : (r : cells.Made) (m : CellOutcome) → Makes text before after (s .cells) c r → r ≡ cells.Made.Full →
         m ≡ record { limit = 23; cell = 0; state = s } →
         MadeIn text after m (run.make text cell (bare (s .units) (cellsOf before (s .cells))))
     unfolding givenCell
@@ -155,17 +155,17 @@ module _ (text before after : List ℕ) (s : State) (c : Numbers) where
           held = rw d (now-held text after (cellsOf before (s .cells)) (s .cells) (p .holds) (sym (h .counted)));
         }
 
-  pub makes-at : (r : cells.Made) (n count : ℕ) (m : Made) → Makes text before after (s .cells) c r → r ≡ cells.Made.At n count →
+  pub makes-at : (r : cells.Made) (n count : ℕ) (m : CellOutcome) → Makes text before after (s .cells) c r → r ≡ cells.Made.At n count →
       m ≡ record { limit = 0; cell = n; state = record { units = s .units; cells = count } } →
       (cell : Cell) → listed c ≡ numbersOf cell → MadeBy text before after s m (run.make text cell)
   makes-at r n count m w q d cell e h = cell-made cell e h r n count m w q d
 
-  pub makes-full : (r : cells.Made) (m : Made) → Makes text before after (s .cells) c r → r ≡ cells.Made.Full →
+  pub makes-full : (r : cells.Made) (m : CellOutcome) → Makes text before after (s .cells) c r → r ≡ cells.Made.Full →
       m ≡ record { limit = 23; cell = 0; state = s } → (cell : Cell) → listed c ≡ numbersOf cell → MadeBy text before after s m (run.make text cell)
   makes-full r m w q d cell e h = no-cell cell e h r m w q d
 
 -- ---- The cells of a variant
-module _ (book : Book) (text : List ℕ) (j : ℕ) (p : Bool) (ep : p ≡ nthVariant book j .passing) (s : State) (m : Made) where
+module _ (book : Book) (text : List ℕ) (j : ℕ) (p : Bool) (ep : p ≡ nthVariant book j .passing) (s : State) (m : CellOutcome) where
   pub begin-passing : (store : List ℕ) → p ≡ true → m ≡ record { limit = 0; cell = 0; state = s } → MadeBy text store store s m (run.begin book text j)
   unfolding run.begin
   begin-passing store y e h = got-in text store s m 0 _ e (rw (sym ep ∙ y, run.begin)) h
@@ -236,13 +236,13 @@ no-item none e = refl
 no-item (some i) e = absurd (true≢false (sym e))
 
 module _ (book : Book) (text : List ℕ) (j items : ℕ) (o : Option steps.Item) (s : State) where
-  pub token-nothing : (store : List ℕ) (m : Made) (t : Bool) → t ≡ isSome o → t ≡ false → m ≡ record { limit = 0; cell = items; state = s } →
+  pub token-nothing : (store : List ℕ) (m : CellOutcome) (t : Bool) → t ≡ isSome o → t ≡ false → m ≡ record { limit = 0; cell = items; state = s } →
       MadeBy text store store s m (run.withToken book text j items o)
   unfolding run.withToken
   token-nothing store m t et y e h =
       let n = no-item o (sym y ∙ et) in got-in text store s m items _ e (rw (n, run.withToken)) h
 
-  module _ (before middle : List ℕ) (m : Made) (c : Numbers) (t : Bool) (et : t ≡ isSome o) (y : t ≡ true)
+  module _ (before middle : List ℕ) (m : CellOutcome) (c : Numbers) (t : Bool) (et : t ≡ isSome o) (y : t ≡ true)
       (w : (cell : Cell) → listed c ≡ numbersOf cell → MadeBy text before middle s m (run.make text cell))
       (e : (i : steps.Item) → o ≡ some i → listed c ≡ numbersOf (run.itemCell i)) where
     pub token-limit : (m .limit ≡ 0 → ⊥) → MadeBy text before middle s m (run.withToken book text j items o)
@@ -254,7 +254,7 @@ module _ (book : Book) (text : List ℕ) (j items : ℕ) (o : Option steps.Item)
         sym (p .is) ∙ cell-met m (cellsOf middle (m .state .cells)) l in
         record { is = rw (q, made, run.withToken, _>>=_) (cell-met m (cellsOf middle (m .state .cells)) l); held = p .held })
 
-    pub token-made : (after : List ℕ) (r : Made) → m .limit ≡ 0 → MadeBy text middle after (m .state) r (run.withCell book text j items (m .cell)) →
+    pub token-made : (after : List ℕ) (r : CellOutcome) → m .limit ≡ 0 → MadeBy text middle after (m .state) r (run.withCell book text j items (m .cell)) →
         MadeBy text before after s r (run.withToken book text j items o)
     unfolding run.withToken _>>=_
     token-made after r l k h =

@@ -20,7 +20,7 @@ use Rattle.errors.specs.declared.Error.{Error}
 use Rattle.errors.specs.declared.Failure.{Failure}
 use Rattle.transitions.specs.declared.outcomes.State.{State}
 use Rattle.transitions.specs.declared.outcomes.Outcome.{Outcome}
-use Rattle.transitions.specs.declared.items.Made.{Made}
+use Rattle.transitions.specs.declared.items.CellOutcome.{CellOutcome}
 
 -- ---- Cells
 -- the first `count` cells of a store
@@ -42,23 +42,23 @@ abbrev noError : Error
 noError = record { place = 0; kind = 0; argument = 0 }
 
 abbrev failedBy : Failure → ℕ
-failedBy Failure.Nothing = 0
+failedBy Failure.None = 0
 failedBy (Failure.At e) = 1
 
 abbrev errorBy : Failure → Error
-errorBy Failure.Nothing = noError
+errorBy Failure.None = noError
 errorBy (Failure.At e) = e
 
 -- the code's outcome at a limit, and without one
-abbrev pub limitOf : ℕ → State → Outcome
-limitOf limit s = record { limit = limit; failed = 0; state = s; error = noError }
+abbrev pub withoutFailure : ℕ → State → Outcome
+withoutFailure limit s = record { limit = limit; failed = 0; state = s; error = noError }
 
 abbrev pub doneWith : Failure → State → Outcome
 doneWith failure s = record { limit = 0; failed = failedBy failure; state = s; error = errorBy failure }
 
 -- its failure
 abbrev pub failureAt : Outcome → Failure
-failureAt o = cond (eqb (o .failed) 0) Failure.Nothing (Failure.At (o .error))
+failureAt o = cond (eqb (o .failed) 0) Failure.None (Failure.At (o .error))
 
 -- an outcome of the code, with the cells and rows that it leaves; a limit forgets them
 unfoldable pub given : Outcome → List Cell → List Row → Result model.Outcome
@@ -86,15 +86,15 @@ pub record Spent (r : Outcome) (s : State) : Type 0 where
   pub cells : r .state .cells ≡ s .cells
 
 -- ---- Cells that were asked for
-unfoldable pub givenCell : Made → List Cell → Result run.Made
+unfoldable pub givenCell : CellOutcome → List Cell → Result run.Made
 givenCell m cells =
     when (eqb (m .limit) 0) (λ _. ok (made (m .cell) (bare (m .state .units) cells)))
     (λ _. met (m .limit) (m .state .units))
 
-pub record MadeIn (text store : List ℕ) (m : Made) (z : Result run.Made) : Type 0 where
+pub record MadeIn (text store : List ℕ) (m : CellOutcome) (z : Result run.Made) : Type 0 where
   pub is : givenCell m (cellsOf store (m .state .cells)) ≡ z
   pub held : Held text store (m .state .cells)
 
-abbrev pub MadeBy : List ℕ → List ℕ → List ℕ → State → Made → (run.State → Result run.Made) → Type 0
+abbrev pub MadeBy : List ℕ → List ℕ → List ℕ → State → CellOutcome → (run.State → Result run.Made) → Type 0
 MadeBy text before after s m f =
     Held text before (s .cells) → MadeIn text after m (f (bare (s .units) (cellsOf before (s .cells))))

@@ -2,7 +2,7 @@
 -- what it does next.
 --
 -- Contents:
--- - the values of the small functions: endedBy, reachedWith, thenSteps, thenDoes, stateIn
+-- - states: stateIn
 -- - results: bind-met, bind-ok, unit-met, unit-ok
 -- - cells in the model: makes-ok, makes-met
 -- - how a path goes on: resumes-met, resumes-on, resumes-failed, made-resumes
@@ -28,27 +28,15 @@ use Rattle.errors.specs.declared.Error as code
 use Rattle.errors.specs.declared.Failure.{Failure}
 use Rattle.transitions.specs.declared.outcomes.State.{State}
 use Rattle.transitions.specs.declared.outcomes.Outcome.{Outcome}
-use Rattle.transitions.specs.declared.items.Made.{Made}
+use Rattle.transitions.specs.declared.items.CellOutcome.{CellOutcome}
 use Rattle.transitions.specs.declared.stages.Doing.{Doing}
 use Rattle.transitions.specs.declared.stages.Reached.{Reached}
 use Rattle.transitions.specs.declared.stages.Stage.{Stage}
-use Rattle.transitions.specs.Outcomes.{cellsOf, bare, limitOf, doneWith, given, MadeIn}
+use Rattle.transitions.specs.Outcomes.{cellsOf, bare, withoutFailure, doneWith, given, MadeIn}
 use Rattle.transitions.specs.OutcomeLaws.{given-ok, given-met, cell-ok, cell-met}
-use Rattle.transitions.specs.Steps.{doesRows, resumes}
+use Rattle.transitions.specs.Steps.{endedBy, reachedWith, thenSteps, doesRows, resumes}
 
--- ---- The values of the small functions
-abbrev pub endedBy : Outcome → Reached
-endedBy o = record { outcome = o; at = 0; items = 0 }
-
-abbrev pub reachedWith : Made → ℕ → Reached
-reachedWith m at = record { outcome = limitOf (m .limit) (m .state); at = at; items = m .cell }
-
-abbrev pub thenSteps : Reached → Stage
-thenSteps r = record { outcome = r .outcome; at = r .at; items = r .items; doing = Doing.Steps }
-
-abbrev pub thenDoes : ℕ → ℕ → Doing → State → Stage
-thenDoes at items doing s = record { outcome = doneWith Failure.Nothing s; at = at; items = items; doing = doing }
-
+-- ---- States
 -- the state of the model after the code's
 abbrev pub stateIn : State → List ℕ → List Row → RowState
 stateIn s store T = rowState (s .units) (cellsOf store (s .cells)) T
@@ -74,7 +62,7 @@ unit-ok (met a b) f s e = let z : _≡_ {A = ℕ} 0 1 = cc in absurd (omega arit
 unit-ok (ok t) f s e = let q : outcome f s ≡ outcome none t = cc in ap ok (sym (ap (λ (o : model.Outcome). o .state) q))
 
 -- ---- Cells in the model
-module _ (text store : List ℕ) (m : Made) (f : run.State → Result run.Made) (units : ℕ) (cells : List Cell) (w : MadeIn text store m (f (bare units cells)))
+module _ (text store : List ℕ) (m : CellOutcome) (f : run.State → Result run.Made) (units : ℕ) (cells : List Cell) (w : MadeIn text store m (f (bare units cells)))
     (T : List Row) where
   pub makes-ok : m .limit ≡ 0 → makes f (rowState units cells T) ≡ ok (rowMade (m .cell) (stateIn (m .state) store T))
   unfolding makes _>>=_
@@ -92,10 +80,10 @@ module _ (book : Book) (text : List ℕ) (inner : Option RowRunner) (n c j : ℕ
   resumes-met o cells T l = ap (λ z. resumes book text inner n c j rest doing at items z) (given-met o cells T l)
 
   pub resumes-on : (limit : ℕ) (s : State) (cells : List Cell) (T : List Row) → limit ≡ 0 →
-      resumes book text inner n c j rest doing at items (given (limitOf limit s) cells T)
+      resumes book text inner n c j rest doing at items (given (withoutFailure limit s) cells T)
       ≡ doesRows book text inner n c j rest doing at items (rowState (s .units) cells T)
   unfolding resumes _>>=_
-  resumes-on limit s cells T l = ap (λ z. resumes book text inner n c j rest doing at items z) (given-ok (limitOf limit s) cells T l)
+  resumes-on limit s cells T l = ap (λ z. resumes book text inner n c j rest doing at items z) (given-ok (withoutFailure limit s) cells T l)
 
   pub resumes-failed : (e : code.Error) (s : State) (cells : List Cell) (T : List Row) →
       resumes book text inner n c j rest doing at items (given (doneWith (Failure.At e) s) cells T)
@@ -104,14 +92,14 @@ module _ (book : Book) (text : List ℕ) (inner : Option RowRunner) (n c j : ℕ
   resumes-failed e s cells T = ap (λ z. resumes book text inner n c j rest doing at items z) (given-ok (doneWith (Failure.At e) s) cells T refl)
 
   -- a cell was made or a limit met, and the path goes on with the cell
-  pub made-resumes : (store : List ℕ) (m : Made) (f : run.State → Result run.Made) (units : ℕ) (cells : List Cell) → MadeIn text store m (f (bare units cells)) →
+  pub made-resumes : (store : List ℕ) (m : CellOutcome) (f : run.State → Result run.Made) (units : ℕ) (cells : List Cell) → MadeIn text store m (f (bare units cells)) →
       (T : List Row) (K : RowMade → Result model.Outcome) →
       K (rowMade (m .cell) (stateIn (m .state) store T)) ≡ doesRows book text inner n c j rest doing at items (stateIn (m .state) store T) →
-      resumes book text inner n c j rest doing at items (given (limitOf (m .limit) (m .state)) (cellsOf store (m .state .cells)) T)
+      resumes book text inner n c j rest doing at items (given (withoutFailure (m .limit) (m .state)) (cellsOf store (m .state .cells)) T)
       ≡ (makes f (rowState units cells T) >>= K)
   made-resumes store m f units cells w T K k =
       by-test (eqb (m .limit) 0)
       (λ t. let l = eqb-true (m .limit) 0 t in
       resumes-on (m .limit) (m .state) (cellsOf store (m .state .cells)) T l ∙ sym k ∙ sym (bind-ok K (makes-ok text store m f units cells w T l)))
       (λ t. let l = eqb-false (m .limit) 0 t in
-      resumes-met (limitOf (m .limit) (m .state)) (cellsOf store (m .state .cells)) T l ∙ sym (bind-met K (makes-met text store m f units cells w T l)))
+      resumes-met (withoutFailure (m .limit) (m .state)) (cellsOf store (m .state .cells)) T l ∙ sym (bind-met K (makes-met text store m f units cells w T l)))

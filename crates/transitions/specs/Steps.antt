@@ -28,11 +28,29 @@ use Rattle.transitions.specs.declared.stages.Doing.{Doing}
 use Rattle.transitions.specs.declared.stages.Next.{Next}
 use Rattle.transitions.specs.declared.stages.Reached.{Reached}
 use Rattle.transitions.specs.declared.stages.Stage.{Stage}
-use Rattle.transitions.specs.Outcomes.{cellsOf, Held, given, failureAt}
+use Rattle.transitions.specs.declared.items.CellOutcome.{CellOutcome}
+use Rattle.transitions.specs.Outcomes.{cellsOf, Held, withoutFailure, given, failureAt}
 
 -- so many steps of a book from one on
 abbrev pub todoFrom : Book → ℕ → ℕ → List (Todo ℕ)
 todoFrom book step left = map taking (take left (drop step (book .steps)))
+
+-- ---- What the code's small functions give
+-- a limit or a failure ends the path
+abbrev pub endedBy : code.Outcome → Reached
+endedBy o = record { outcome = o; place = 0; items = 0 }
+
+-- at a place, with the items that were made; or at a limit
+abbrev pub reachedWith : CellOutcome → ℕ → Reached
+reachedWith m place = record { outcome = withoutFailure (m .limit) (m .state); place = place; items = m .cell }
+
+-- the steps that are left come next
+abbrev pub thenSteps : Reached → Stage
+thenSteps r = record { outcome = r .outcome; place = r .place; items = r .items; doing = Doing.Steps }
+
+-- something else comes next, from a place and with the items so far
+abbrev pub thenDoes : ℕ → ℕ → Doing → State → Stage
+thenDoes place items doing s = record { outcome = withoutFailure 0 s; place = place; items = items; doing = doing }
 
 -- ---- What follows a parse
 unfoldable pub nextRows : Book → List ℕ → ℕ → ℕ → List (Todo ℕ) → Next → ℕ → RowNext
@@ -107,12 +125,12 @@ pub record Staged (book : Book) (text store : List ℕ) (j : ℕ) (o : code.Outc
 abbrev pub Stages : Book → List ℕ → List ℕ → State → List ℕ → ℕ → Stage → Part → Type 0
 Stages book text before s after j g z =
     Held text before (s .cells) →
-    Staged book text after j (g .outcome) (g .doing) (g .at) (g .items) (s .units) (cellsOf before (s .cells)) z
+    Staged book text after j (g .outcome) (g .doing) (g .place) (g .items) (s .units) (cellsOf before (s .cells)) z
 
 abbrev pub Reaches : Book → List ℕ → List ℕ → State → List ℕ → ℕ → Reached → Part → Type 0
 Reaches book text before s after j g z =
     Held text before (s .cells) →
-    Staged book text after j (g .outcome) Doing.Steps (g .at) (g .items) (s .units) (cellsOf before (s .cells)) z
+    Staged book text after j (g .outcome) Doing.Steps (g .place) (g .items) (s .units) (cellsOf before (s .cells)) z
 
 -- a step's unit was spent, if it has one
 pub record StepSpent (r : code.Outcome) (step : Step) (s : State) : Type 0 where

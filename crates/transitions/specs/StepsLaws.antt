@@ -46,15 +46,16 @@ use Rattle.tokens.specs.declared.steps.Closing.{Closing}
 use Rattle.tokens.specs.declared.tokens.End.{End}
 use Rattle.transitions.specs.declared.outcomes.State.{State}
 use Rattle.transitions.specs.declared.outcomes.Outcome.{Outcome}
-use Rattle.transitions.specs.declared.items.Made.{Made}
+use Rattle.transitions.specs.declared.items.CellOutcome.{CellOutcome}
 use Rattle.transitions.specs.declared.stages.Doing.{Doing}
 use Rattle.transitions.specs.declared.stages.Reached.{Reached}
 use Rattle.transitions.specs.declared.stages.Stage.{Stage}
 use Rattle.transitions.specs.Fit.{Fit}
-use Rattle.transitions.specs.Outcomes.{cellsOf, Held, bare, given, Runs, Spent, MadeIn, MadeBy, limitOf, doneWith, failureAt}
+use Rattle.transitions.specs.Outcomes.{cellsOf, Held, bare, given, Runs, Spent, MadeIn, MadeBy, withoutFailure, doneWith, failureAt}
 use Rattle.transitions.specs.OutcomeLaws.{given-ok, given-met}
 use Rattle.transitions.specs.Steps.{nextRows, descendsRows, choosesRows, doesRows, unopenedRows, tokenRows, Part, Stages, Reaches, StepSpent}
-use Rattle.transitions.specs.ResumeLaws.{endedBy, reachedWith, thenSteps, thenDoes, stateIn, bind-met, bind-ok, unit-met, unit-ok, makes-ok, makes-met, resumes-met, resumes-on, resumes-failed, made-resumes}
+use Rattle.transitions.specs.Steps.{endedBy, reachedWith, thenSteps, thenDoes}
+use Rattle.transitions.specs.ResumeLaws.{stateIn, bind-met, bind-ok, unit-met, unit-ok, makes-ok, makes-met, resumes-met, resumes-on, resumes-failed, made-resumes}
 
 -- ---- The end of a variant
 pub level-fits : (book : Book) (text : List ℕ) (j : ℕ) (w : Variant) → w ≡ nthVariant book j → Fit book text → w .level < 4294967296
@@ -64,15 +65,15 @@ pub parse-of-variant : (book : Book) (text : List ℕ) (j x v : ℕ) (w : Varian
     p ≡ parse x (w .level) (w .associativity) v → p ≡ model.parseOf book text j x v
 parse-of-variant book text j x v w p e q = rw e at q
 
-module _ (book : Book) (text before after : List ℕ) (c j x items : ℕ) (s : State) (m : Made) (w : MadeBy text before after s m (valueCell book text j items))
+module _ (book : Book) (text before after : List ℕ) (c j x items : ℕ) (s : State) (m : CellOutcome) (w : MadeBy text before after s m (valueCell book text j items))
     (T : List Row) where
-  pub finish-limit : (r : Outcome) → (m .limit ≡ 0 → ⊥) → r ≡ limitOf (m .limit) (m .state) →
+  pub finish-limit : (r : Outcome) → (m .limit ≡ 0 → ⊥) → r ≡ withoutFailure (m .limit) (m .state) →
       Runs text before (s .cells) after T r (λ cells. completeRows book text c j x items (rowState (s .units) cells T))
   unfolding completeRows
   finish-limit r l e h =
       let v = w h in
       rw e (record {
-        is = given-met (limitOf (m .limit) (m .state)) (cellsOf after (m .state .cells)) T l
+        is = given-met (withoutFailure (m .limit) (m .state)) (cellsOf after (m .state .cells)) T l
             ∙ sym (bind-met _ (makes-met text after m (valueCell book text j items) (s .units) (cellsOf before (s .cells)) v T l));
         held = v .held;
       })
@@ -87,21 +88,21 @@ module _ (book : Book) (text before after : List ℕ) (c j x items : ℕ) (s : S
         ∙ ap (λ p. addRun book text c p (stateIn (m .state) after T)) (sym q)
         ∙ run-added-model b T U c p a book text (m .state .units) (cellsOf after (m .state .cells))
 
-    pub finish-added : (r : Outcome) → b ≡ true → r ≡ doneWith Failure.Nothing (m .state) →
+    pub finish-added : (r : Outcome) → b ≡ true → r ≡ doneWith Failure.None (m .state) →
         Runs text before (s .cells) after U r (λ cells. completeRows book text c j x items (rowState (s .units) cells T))
     finish-added r y e h =
         let v = w h in
         rw e (record {
-          is = given-ok (doneWith Failure.Nothing (m .state)) (cellsOf after (m .state .cells)) U refl ∙ sym (rw y at (completed v));
+          is = given-ok (doneWith Failure.None (m .state)) (cellsOf after (m .state .cells)) U refl ∙ sym (rw y at (completed v));
           held = v .held;
         })
 
-    pub finish-full : (r : Outcome) → b ≡ false → r ≡ limitOf 22 (m .state) →
+    pub finish-full : (r : Outcome) → b ≡ false → r ≡ withoutFailure 22 (m .state) →
         Runs text before (s .cells) after U r (λ cells. completeRows book text c j x items (rowState (s .units) cells T))
     finish-full r y e h =
         let v = w h in
         rw e (record {
-          is = given-met (limitOf 22 (m .state)) (cellsOf after (m .state .cells)) U (λ z. omega (arith, z)) ∙ sym (rw y at (completed v));
+          is = given-met (withoutFailure 22 (m .state)) (cellsOf after (m .state .cells)) U (λ z. omega (arith, z)) ∙ sym (rw y at (completed v));
           held = v .held;
         })
 
@@ -122,7 +123,7 @@ module _ (book : Book) (text : List ℕ) (j values : ℕ) (close : Option ℕ) (
 abbrev pub stopsPart : Book → List ℕ → ℕ → ℕ → Closing → ℕ → ℕ → Part
 stopsPart book text j values closing at items inner n c rest s = stopsRows book text j values (closingIn closing) (stepsRows book text inner n c j rest) at items s
 
-module _ (book : Book) (text before middle : List ℕ) (j values : ℕ) (closing : Closing) (at items : ℕ) (s : State) (m : Made)
+module _ (book : Book) (text before middle : List ℕ) (j values : ℕ) (closing : Closing) (at items : ℕ) (s : State) (m : CellOutcome)
     (w : MadeBy text before middle s m (run.make text (Cell.list values))) where
   pub stop-limit : (g : Reached) → (m .limit ≡ 0 → ⊥) → g ≡ reachedWith m 0 → Reaches book text before s middle j g (stopsPart book text j values closing at items)
   unfolding stopsRows
@@ -130,7 +131,7 @@ module _ (book : Book) (text before middle : List ℕ) (j values : ℕ) (closing
       let v = w h in
       rw e (record {
         is = λ inner n c rest T.
-            resumes-met book text inner n c j rest Doing.Steps 0 (m .cell) (limitOf (m .limit) (m .state)) (cellsOf middle (m .state .cells)) T l
+            resumes-met book text inner n c j rest Doing.Steps 0 (m .cell) (withoutFailure (m .limit) (m .state)) (cellsOf middle (m .state .cells)) T l
             ∙ sym (bind-met _ (makes-met text middle m (run.make text (Cell.list values)) (s .units) (cellsOf before (s .cells)) v T l));
         held = v .held;
       })
@@ -150,7 +151,7 @@ module _ (book : Book) (text before middle : List ℕ) (j values : ℕ) (closing
           held = v .held;
         })
 
-    pub stop-closed : (after : List ℕ) (g : Reached) (r : Made) (next : ℕ) → end ≡ End.At next →
+    pub stop-closed : (after : List ℕ) (g : Reached) (r : CellOutcome) (next : ℕ) → end ≡ End.At next →
         MadeBy text middle after (m .state) r (run.withCell book text j items (m .cell)) →
         g ≡ reachedWith r next → Reaches book text before s after j g (stopsPart book text j values closing at items)
     unfolding doesRows
@@ -169,7 +170,7 @@ module _ (book : Book) (text before middle : List ℕ) (j values : ℕ) (closing
 
 -- ---- A step's unit
 module _ (step : Step) (s : State) (r : Outcome) (kind : ℕ) (ek : kind ≡ stepNumber step) where
-  free-unit : between 10 11 kind ≡ true → r ≡ doneWith Failure.Nothing s → StepSpent r step s
+  free-unit : between 10 11 kind ≡ true → r ≡ doneWith Failure.None s → StepSpent r step s
   unfolding stepUnitRows given _>>=_
   free-unit b e =
       record {
@@ -177,10 +178,10 @@ module _ (step : Step) (s : State) (r : Outcome) (kind : ℕ) (ek : kind ≡ ste
         cells = ap (λ (o : Outcome). o .state .cells) e;
       }
 
-  pub free-many : kind ≡ 10 → r ≡ doneWith Failure.Nothing s → StepSpent r step s
+  pub free-many : kind ≡ 10 → r ≡ doneWith Failure.None s → StepSpent r step s
   free-many h e = free-unit (rw h) e
 
-  pub free-list : kind ≡ 11 → r ≡ doneWith Failure.Nothing s → StepSpent r step s
+  pub free-list : kind ≡ 11 → r ≡ doneWith Failure.None s → StepSpent r step s
   free-list h e = free-unit (rw h) e
 
   other-kind : (kind ≡ 10 → ⊥) → (kind ≡ 11 → ⊥) → between 10 11 kind ≡ false
@@ -212,12 +213,12 @@ module _ (r : Outcome) (step : Step) (s : State) (p : StepSpent r step s) (book 
       (sym (given-ok r cells T l) ∙ p .is book text inner n cells T)
 
 -- ---- A list begins, or has no opening
-module _ (book : Book) (text before after : List ℕ) (j : ℕ) (s : State) (m : Made) (w : MadeBy text before after s m (run.make text Cell.empty)) (place items : ℕ) where
-  pub list-begun : (comma : Bool) (M : ℕ) (closing : Closing) (o : Outcome) → o ≡ limitOf (m .limit) (m .state) →
+module _ (book : Book) (text before after : List ℕ) (j : ℕ) (s : State) (m : CellOutcome) (w : MadeBy text before after s m (run.make text Cell.empty)) (place items : ℕ) where
+  pub list-begun : (comma : Bool) (M : ℕ) (closing : Closing) (o : Outcome) → o ≡ withoutFailure (m .limit) (m .state) →
       Stages book text before s after j
       (record {
         outcome = o;
-        at = place;
+        place = place;
         items = items;
         doing = Doing.Elements (record { comma = comma; nonterminal = M; values = m .cell; closing = closing });
       })
@@ -241,7 +242,7 @@ module _ (book : Book) (text before after : List ℕ) (j : ℕ) (s : State) (m :
       let v = w h in
       rw e (record {
         is = λ inner n c rest T.
-            resumes-met book text inner n c j rest Doing.Steps 0 (m .cell) (limitOf (m .limit) (m .state)) (cellsOf after (m .state .cells)) T l
+            resumes-met book text inner n c j rest Doing.Steps 0 (m .cell) (withoutFailure (m .limit) (m .state)) (cellsOf after (m .state .cells)) T l
             ∙ sym (bind-met _ (makes-met text after m (run.make text Cell.empty) (s .units) (cellsOf before (s .cells)) v T l));
         held = v .held;
       })
@@ -260,7 +261,7 @@ module _ (book : Book) (text before after : List ℕ) (j : ℕ) (s : State) (m :
       }
 
 -- ---- A token was read
-pub token-taken : (book : Book) (text before after : List ℕ) (j items : ℕ) (o : Option steps.Item) (next : ℕ) (s : State) (m : Made) (g : Reached) →
+pub token-taken : (book : Book) (text before after : List ℕ) (j items : ℕ) (o : Option steps.Item) (next : ℕ) (s : State) (m : CellOutcome) (g : Reached) →
     MadeBy text before after s m (run.withToken book text j items o) → g ≡ reachedWith m next →
     Reaches book text before s after j g (λ inner n c rest s. tokenRows book text inner n c j rest o next items s)
 unfolding tokenRows doesRows

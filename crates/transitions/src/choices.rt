@@ -46,7 +46,7 @@ fn absent(
             m.cell,
             s,
         ),
-        here.at,
+        here.place,
     )
 }
 
@@ -77,7 +77,7 @@ fn first_stop(
         here,
         list.values,
         closing,
-        here.at,
+        here.place,
         s,
     )
 }
@@ -104,14 +104,14 @@ pub fn first_side(
 // Both sides of a choice.
 pub fn both(text: &[u8], rows: &[u32], here: Progress, a: Outcome, b: Outcome) -> Outcome
     requires { ⌜ InTable (here .call) rows × Short text ⌝ }
-    ensures { λ r. ⌜ Chosen (now (text .entry)) (tableAt rows) (here .call) (here .at) a b r ⌝ }
+    ensures { λ r. ⌜ Chosen (now (text .entry)) (tableAt rows) (here .call) (here .place) a b r ⌝ }
 {
     if b.limit != 0 {
         return b;
     }
     let first = failure_of(a);
     let second = failure_of(b);
-    let at = skipped(text, here.at);
+    let at = skipped(text, here.place);
     let nonterminal = calls::nonterminal_of(rows, here.call);
     done(errors::chosen(at, nonterminal, first, second), b.state)
 }

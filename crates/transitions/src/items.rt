@@ -11,7 +11,7 @@ ghost use Rattle.semantics.specs.Run as run;
 ghost use Rattle.run_model.specs.Model.{valueCell};
 ghost use Rattle.cells.specs.Store.{listed};
 ghost use Rattle.tokens.specs.Maps.{itemOf};
-ghost use Rattle.transitions.specs.Contracts.{Makes};
+ghost use Rattle.transitions.specs.Contracts.{MakesCell};
 ghost use Rattle.transitions.specs.Fit.{ItemFits};
 use crate::outcomes::State;
 use crate::outcomes::TOO_MANY_CELLS;
@@ -19,16 +19,16 @@ use cells::Numbers;
 use tokens::Item;
 
 // A cell that was asked for, or the limit.
-pub struct Made {
+pub struct CellOutcome {
     pub limit: u32,
     pub cell: u32,
     pub state: State,
 }
 
-fn got(cell: u32, state: State) -> Made
+fn got(cell: u32, state: State) -> CellOutcome
     ensures { λ r. ⌜ r ≡ record { limit = 0; cell = cell; state = state } ⌝ }
 {
-    Made {
+    CellOutcome {
         limit: 0,
         cell,
         state,
@@ -36,9 +36,9 @@ fn got(cell: u32, state: State) -> Made
 }
 
 // The equal cell, or one more.
-pub fn make(text: &[u8], store: &mut [u32], c: Numbers, state: State) -> Made
+pub fn make(text: &[u8], store: &mut [u32], c: Numbers, state: State) -> CellOutcome
     ensures { λ r. ⌜ ((cell : Cell) → listed c ≡ numbersOf cell →
-        Makes text store state r (run.make (now (text .entry)) cell)) ⌝ }
+        MakesCell text store state r (run.make (now (text .entry)) cell)) ⌝ }
 {
     match cells::make(text, store, state.cells, c) {
         cells::Made::At { cell, count } => got(
@@ -48,7 +48,7 @@ pub fn make(text: &[u8], store: &mut [u32], c: Numbers, state: State) -> Made
                 cells: count,
             },
         ),
-        cells::Made::Full => Made {
+        cells::Made::Full => CellOutcome {
             limit: TOO_MANY_CELLS,
             cell: 0,
             state,
@@ -56,7 +56,7 @@ pub fn make(text: &[u8], store: &mut [u32], c: Numbers, state: State) -> Made
     }
 }
 
-fn passes(book: &[u8], index: &[usize], j: u32) -> bool
+fn is_passing(book: &[u8], index: &[usize], j: u32) -> bool
     ensures { λ r. ⌜ r ≡ nthVariant (bookAt book index) j .passing ⌝ }
 {
     let w = book::variant(book, index, j as usize);
@@ -71,10 +71,10 @@ pub fn begin(
     store: &mut [u32],
     j: u32,
     state: State,
-) -> Made
-    ensures { λ r. ⌜ Makes text store state r (run.begin (bookAt book index) (now (text .entry)) j) ⌝ }
+) -> CellOutcome
+    ensures { λ r. ⌜ MakesCell text store state r (run.begin (bookAt book index) (now (text .entry)) j) ⌝ }
 {
-    if passes(book, index, j) {
+    if is_passing(book, index, j) {
         got(0, state)
     } else {
         make(text, store, cells::empty(), state)
@@ -91,10 +91,10 @@ pub fn with_cell(
     items: u32,
     item: u32,
     state: State,
-) -> Made
-    ensures { λ r. ⌜ Makes text store state r (run.withCell (bookAt book index) (now (text .entry)) j items item) ⌝ }
+) -> CellOutcome
+    ensures { λ r. ⌜ MakesCell text store state r (run.withCell (bookAt book index) (now (text .entry)) j items item) ⌝ }
 {
-    if passes(book, index, j) {
+    if is_passing(book, index, j) {
         got(item, state)
     } else {
         make(text, store, cells::chain(items, item), state)
@@ -124,9 +124,9 @@ pub fn with_token(
     items: u32,
     item: Item,
     state: State,
-) -> Made
+) -> CellOutcome
     requires { ⌜ ItemFits item ⌝ }
-    ensures { λ r. ⌜ Makes text store state r
+    ensures { λ r. ⌜ MakesCell text store state r
         (run.withToken (bookAt book index) (atEntry text) j items (itemOf item)) ⌝ }
 {
     if adds(item) {
@@ -159,10 +159,10 @@ pub fn value(
     j: u32,
     items: u32,
     state: State,
-) -> Made
-    ensures { λ r. ⌜ Makes text store state r (valueCell (bookAt book index) (now (text .entry)) j items) ⌝ }
+) -> CellOutcome
+    ensures { λ r. ⌜ MakesCell text store state r (valueCell (bookAt book index) (now (text .entry)) j items) ⌝ }
 {
-    if passes(book, index, j) {
+    if is_passing(book, index, j) {
         got(items, state)
     } else {
         make(text, store, cells::variant(j, items), state)

@@ -1,6 +1,6 @@
 // What the parts of a run give: a limit met, or a failure or none, and the state.
 ghost use mathlib.Core.Path.{_≡_};
-ghost use Rattle.transitions.specs.Outcomes.{limitOf, doneWith, failureAt, goesOn, Spent};
+ghost use Rattle.transitions.specs.Outcomes.{withoutFailure, doneWith, failureAt, goesOn, Spent};
 use errors::Error;
 use errors::Failure;
 
@@ -30,8 +30,9 @@ pub struct Outcome {
     pub error: Error,
 }
 
-pub fn at_limit(limit: u32, state: State) -> Outcome
-    ensures { λ r. ⌜ r ≡ limitOf limit state ⌝ }
+// No failure: the limit that was met, or 0.
+pub fn without_failure(limit: u32, state: State) -> Outcome
+    ensures { λ r. ⌜ r ≡ withoutFailure limit state ⌝ }
 {
     let error = Error {
         place: 0,
@@ -50,7 +51,7 @@ pub fn done(failure: Failure, state: State) -> Outcome
     ensures { λ r. ⌜ r ≡ doneWith failure state ⌝ }
 {
     let Failure::At(found) = failure else {
-        return at_limit(0, state);
+        return without_failure(0, state);
     };
     // Number by number: a copy of the whole is read in larger parts than it was written in, and waits for them.
     let error = Error {
@@ -71,7 +72,7 @@ pub fn failure_of(o: Outcome) -> Failure
     ensures { λ r. ⌜ r ≡ failureAt o ⌝ }
 {
     if o.failed == 0 {
-        return Failure::Nothing;
+        return Failure::None;
     }
     let error = o.error;
     Failure::At(error)
@@ -82,11 +83,11 @@ pub fn spend(state: State) -> Outcome
     ensures { λ r. ⌜ Spent r state ⌝ }
 {
     if state.units == 0 {
-        return at_limit(NO_UNIT, state);
+        return without_failure(NO_UNIT, state);
     }
     let units = state.units - 1;
     done(
-        Failure::Nothing,
+        Failure::None,
         State {
             units,
             cells: state.cells,

@@ -5,9 +5,9 @@ ghost use Rattle.transitions.specs.Contracts.{Short};
 use characters::skip;
 
 // Where skipping from a place leads.
-pub fn skipped(text: &[u8], at: u32) -> u32
+pub fn skipped(text: &[u8], place: u32) -> u32
     requires { ⌜ Short text ⌝ }
-    ensures { λ r. ⌜ r ≡ skipFrom (now (text .entry)) at ⌝ }
+    ensures { λ r. ⌜ r ≡ skipFrom (now (text .entry)) place ⌝ }
 {
-    skip(text, at as usize) as u32
+    skip(text, place as usize) as u32
 }

@@ -1,10 +1,9 @@
 // How far a path through a variant is, and what it does next.
 ghost use mathlib.Core.Path.{_≡_};
-ghost use Rattle.transitions.specs.Outcomes.{limitOf};
-ghost use Rattle.transitions.specs.declared.stages.Doing.{Doing};
-use crate::items::Made;
+ghost use Rattle.transitions.specs.Steps.{endedBy, reachedWith, thenSteps};
+use crate::items::CellOutcome;
 use crate::outcomes::Outcome;
-use crate::outcomes::at_limit;
+use crate::outcomes::without_failure;
 use tokens::Closing;
 
 // How far a path through a variant is: the row of its call, the variant's number, its next step and how many remain,
@@ -14,7 +13,7 @@ pub struct Progress {
     pub variant: u32,
     pub step: u32,
     pub remaining: u32,
-    pub at: u32,
+    pub place: u32,
     pub items: u32,
 }
 
@@ -44,49 +43,49 @@ pub enum Next {
 // How a part ended and, where neither a limit nor a failure ended it, the place reached and the items so far.
 pub struct Reached {
     pub outcome: Outcome,
-    pub at: u32,
+    pub place: u32,
     pub items: u32,
 }
 
 // The same, and what the path does next.
 pub struct Stage {
     pub outcome: Outcome,
-    pub at: u32,
+    pub place: u32,
     pub items: u32,
     pub doing: Doing,
 }
 
 // A limit or a failure ends the path.
 pub fn ended(outcome: Outcome) -> Reached
-    ensures { λ r. ⌜ r ≡ record { outcome = outcome; at = 0; items = 0 } ⌝ }
+    ensures { λ r. ⌜ r ≡ endedBy outcome ⌝ }
 {
     Reached {
         outcome,
-        at: 0,
+        place: 0,
         items: 0,
     }
 }
 
 // At a place, with the items that were made; or at a limit.
-pub fn reached_with(m: Made, at: u32) -> Reached
-    ensures { λ r. ⌜ r ≡ record { outcome = limitOf (m .limit) (m .state); at = at; items = m .cell } ⌝ }
+pub fn reached_with(m: CellOutcome, place: u32) -> Reached
+    ensures { λ r. ⌜ r ≡ reachedWith m place ⌝ }
 {
-    let outcome = at_limit(m.limit, m.state);
+    let outcome = without_failure(m.limit, m.state);
     Reached {
         outcome,
-        at,
+        place,
         items: m.cell,
     }
 }
 
 // The steps that are left come next.
 pub fn then_steps(r: Reached) -> Stage
-    ensures { λ g. ⌜ g ≡ record { outcome = r .outcome; at = r .at; items = r .items; doing = Doing.Steps } ⌝ }
+    ensures { λ g. ⌜ g ≡ thenSteps r ⌝ }
 {
     let outcome = r.outcome;
     Stage {
         outcome,
-        at: r.at,
+        place: r.place,
         items: r.items,
         doing: Doing::Steps,
     }

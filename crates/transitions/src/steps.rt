@@ -3,9 +3,8 @@ ghost use mathlib.Core.Path.{_≡_};
 ghost use Prim.Native.Nat.{_<_};
 ghost use Rattle.sets.specs.Sets.{parse, parseOf};
 ghost use Rattle.tokens.specs.Maps.{itemOf};
-ghost use Rattle.transitions.specs.Outcomes.{limitOf};
 ghost use Rattle.transitions.specs.Fit.{ItemFits};
-ghost use Rattle.transitions.specs.Steps.{StepSpent, Joined};
+ghost use Rattle.transitions.specs.Steps.{thenDoes, StepSpent, Joined};
 ghost use Rattle.transitions.specs.Contracts.{Fitting, Ready, Does, Stages, StagesAll, Reaches};
 ghost use Rattle.transitions.specs.Contracts.{completes, takes, reads, lists, unopens, stops, follows};
 ghost use Rattle.transitions.specs.declared.stages.Next.{Next};
@@ -16,10 +15,10 @@ use crate::items::with_token;
 use crate::outcomes::Outcome;
 use crate::outcomes::State;
 use crate::outcomes::TOO_MANY_PARSES;
-use crate::outcomes::at_limit;
 use crate::outcomes::done;
 use crate::outcomes::failure_of;
 use crate::outcomes::spend;
+use crate::outcomes::without_failure;
 use crate::places::skipped;
 use crate::stages::Doing;
 use crate::stages::List;
@@ -70,13 +69,13 @@ pub fn finish(
     let m = value(book, index, text, store, here.variant, here.items, state);
     let s = m.state;
     if m.limit != 0 {
-        return at_limit(m.limit, s);
+        return without_failure(m.limit, s);
     }
     let w = book::variant(book, index, here.variant as usize);
-    if calls::add_run(rows, here.call, parse_of(w, here.at, m.cell)) {
-        done(Failure::Nothing, s)
+    if calls::add_run(rows, here.call, parse_of(w, here.place, m.cell)) {
+        done(Failure::None, s)
     } else {
-        at_limit(TOO_MANY_PARSES, s)
+        without_failure(TOO_MANY_PARSES, s)
     }
 }
 
@@ -90,19 +89,19 @@ pub fn stop(
     here: Progress,
     values: u32,
     closing: Closing,
-    at: u32,
+    place: u32,
     state: State,
 ) -> Reached
     requires { ⌜ Fitting book index text ⌝ }
-    ensures { λ r. ⌜ Reaches book index text store here state r (stops values closing at here) ⌝ }
+    ensures { λ r. ⌜ Reaches book index text store here state r (stops values closing place here) ⌝ }
 {
     let m = make(text, store, cells::list(values), state);
     if m.limit != 0 {
         return reached_with(m, 0);
     }
     let s = m.state;
-    let End::At(next) = tokens::closed(text, closing, at as usize) else {
-        let unclosed = skipped(text, at);
+    let End::At(next) = tokens::closed(text, closing, place as usize) else {
+        let unclosed = skipped(text, place);
         return ended(done(Failure::At(tokens::closing_error(closing, unclosed)), s));
     };
     reached_with(
@@ -127,22 +126,22 @@ fn step_unit(step: Step, state: State) -> Outcome
 {
     let kind = book::step_number(step);
     if kind == 10 {
-        return done(Failure::Nothing, state);
+        return done(Failure::None, state);
     }
     if kind == 11 {
-        return done(Failure::Nothing, state);
+        return done(Failure::None, state);
     }
     spend(state)
 }
 
 // A child, or perhaps one, from where the path is.
 fn then_child(here: Progress, doing: Doing, state: State) -> Stage
-    ensures { λ r. ⌜ r ≡ record { outcome = limitOf 0 state; at = here .at; items = here .items; doing = doing } ⌝ }
+    ensures { λ r. ⌜ r ≡ thenDoes (here .place) (here .items) doing state ⌝ }
 {
-    let outcome = done(Failure::Nothing, state);
+    let outcome = done(Failure::None, state);
     Stage {
         outcome,
-        at: here.at,
+        place: here.place,
         items: here.items,
         doing,
     }
@@ -162,7 +161,7 @@ fn begin_list(
     ensures { λ r. ⌜ StagesAll text store here state r (lists comma nonterminal closing place here) ⌝ }
 {
     let m = make(text, store, cells::empty(), state);
-    let outcome = at_limit(m.limit, m.state);
+    let outcome = without_failure(m.limit, m.state);
     let list = List {
         comma,
         nonterminal,
@@ -171,7 +170,7 @@ fn begin_list(
     };
     Stage {
         outcome,
-        at: place,
+        place,
         items: here.items,
         doing: Doing::Elements(list),
     }
@@ -255,10 +254,10 @@ pub fn take_step(
         return then_steps(ended(spent));
     }
     let s = spent.state;
-    let x = here.at as usize;
+    let x = here.place as usize;
     match tokens::step_at(book, index, text, step, x) {
         Taken::Nothing => {
-            let at = skipped(text, here.at);
+            let at = skipped(text, here.place);
             let e = tokens::step_error(book, index, text, step, at);
             then_steps(ended(done(Failure::At(e), s)))
         }
@@ -318,7 +317,7 @@ fn next_element(
     let closing = list.closing;
     match tokens::after_element(text, list.comma, q.rest as usize) {
         After::Goes(y) => {
-            let outcome = done(Failure::Nothing, s);
+            let outcome = done(Failure::None, s);
             let longer = List {
                 comma: list.comma,
                 nonterminal: list.nonterminal,
@@ -327,7 +326,7 @@ fn next_element(
             };
             Stage {
                 outcome,
-                at: y as u32,
+                place: y as u32,
                 items: here.items,
                 doing: Doing::Elements(longer),
             }

@@ -9,8 +9,8 @@ use Rattle.parser.specs.ChildLaws.{descended, follow-ended, follow-whole
 use Rattle.parser.specs.VariantLaws.{variants-end, variants-stop, variants-again, one-run-whole, variant-skipped, variant-ran, variants-fit, steps-fit}
 use Rattle.parser.specs.CallLaws.{enter-over, enter-runs, run-call-over, run-call-rounds, rounds-none, rounds-over, rounds-again}
 use Rattle.parser.specs.ResultLaws.{Going, goes-without-limit}
-use Rattle.parser.specs.Cycle.{InRange, todoAt, further, goesOn, rankOf}
-use Rattle.transitions.specs.Entering.{within}
+use Rattle.parser.specs.Cycle.{InRange, todoAt, further, proceeds, rankOf}
+use Rattle.transitions.specs.Entering.{innerRunner}
 use Rattle.transitions.specs.Steps.{nextRows, resumes}
 use Rattle.transitions.specs.Outcomes.{cellsOf, Held, given, failureAt}
 use Rattle.run_model.specs.Model.{rowState, roundsRows, variantsRows, followFrom, runnerRows}
@@ -68,8 +68,8 @@ use Rattle.transitions.proofs.after_round.Reads as after-round-reads
 use Rattle.transitions.proofs.begin_child.Reads as begin-child-reads
 use Rattle.transitions.proofs.begin_use.Reads as begin-use-reads
 use Rattle.transitions.proofs.begin_variant.Reads as begin-variant-reads
-use Rattle.transitions.proofs.counted.Reads as counted-reads
-use Rattle.transitions.proofs.at_limit.Reads as at-limit-reads
+use Rattle.transitions.proofs.after_variant.Reads as after-variant-reads
+use Rattle.transitions.proofs.without_failure.Reads as without-failure-reads
 use Rattle.transitions.proofs.done.Reads as done-reads
 use Rattle.transitions.proofs.goes_on.Reads as goes-on-reads
 use Rattle.transitions.proofs.both.Reads as both-reads
@@ -178,7 +178,7 @@ abbrev left-recursion·enter-callees : ℕ → left-recursion·enter-lts.Claims
 left-recursion·enter-callees t = (begin-use-reads.Asked, begin-use-reads.Learnt, left-recursion·run-call-below t, left-recursion·run-call.Post)
 
 abbrev left-recursion·rounds-callees : ℕ → left-recursion·rounds-lts.Claims
-left-recursion·rounds-callees t = (parser·one-run-below t, parser·one-run.Post, after-round-reads.Asked, after-round-reads.Learnt, at-limit-reads.Asked, at-limit-reads.Learnt)
+left-recursion·rounds-callees t = (parser·one-run-below t, parser·one-run.Post, after-round-reads.Asked, after-round-reads.Learnt, without-failure-reads.Asked, without-failure-reads.Learnt)
 
 abbrev left-recursion·run-call-callees : ℕ → left-recursion·run-call-lts.Claims
 left-recursion·run-call-callees t = (open-call-reads.Asked, open-call-reads.Learnt, parser·one-run-below t, parser·one-run.Post, after-first-reads.Asked, after-first-reads.Learnt, left-recursion·rounds-below t, left-recursion·rounds.Post)
@@ -190,7 +190,7 @@ abbrev parser·descend-callees : ℕ → parser·descend-lts.Claims
 parser·descend-callees t = (begin-child-reads.Asked, begin-child-reads.Learnt, left-recursion·enter-below t, left-recursion·enter.Post, parser·follow-below t, parser·follow.Post)
 
 abbrev parser·follow-callees : ℕ → parser·follow-lts.Claims
-parser·follow-callees t = (goes-on-reads.Asked, goes-on-reads.Learnt, found-reads.Asked, found-reads.Learnt, at-limit-reads.Asked, at-limit-reads.Learnt, item-reads.Asked, item-reads.Learnt, next-of-reads.Asked, next-of-reads.Learnt, parser·steps-below t, parser·steps.Post, joined-reads.Asked, joined-reads.Learnt)
+parser·follow-callees t = (goes-on-reads.Asked, goes-on-reads.Learnt, found-reads.Asked, found-reads.Learnt, without-failure-reads.Asked, without-failure-reads.Learnt, item-reads.Asked, item-reads.Learnt, next-of-reads.Asked, next-of-reads.Learnt, parser·steps-below t, parser·steps.Post, joined-reads.Asked, joined-reads.Learnt)
 
 abbrev parser·one-run-callees : ℕ → parser·one-run-lts.Claims
 parser·one-run-callees t = (nonterminal-of-reads.Asked, nonterminal-of-reads.Learnt, clear-run-reads.Asked, clear-run-reads.Learnt, nonterminal-reads.Asked, nonterminal-reads.Learnt, done-reads.Asked, done-reads.Learnt, parser·variant-below t, parser·variant.Post)
@@ -199,7 +199,7 @@ abbrev parser·steps-callees : ℕ → parser·steps-lts.Claims
 parser·steps-callees t = (goes-on-reads.Asked, goes-on-reads.Learnt, finish-reads.Asked, finish-reads.Learnt, take-step-reads.Asked, take-step-reads.Learnt, parser·descend-below t, parser·descend.Post, parser·choice-below t, parser·choice.Post)
 
 abbrev parser·variant-callees : ℕ → parser·variant-lts.Claims
-parser·variant-callees t = (variant-reads.Asked, variant-reads.Learnt, begin-variant-reads.Asked, begin-variant-reads.Learnt, parser·steps-below t, parser·steps.Post, counted-reads.Asked, counted-reads.Learnt)
+parser·variant-callees t = (variant-reads.Asked, variant-reads.Learnt, begin-variant-reads.Asked, begin-variant-reads.Learnt, parser·steps-below t, parser·steps.Post, after-variant-reads.Asked, after-variant-reads.Learnt)
 
 left-recursion·enter-begin-use-requires :
     (t : ℕ) → left-recursion·enter-lts.Need-begin-use-requires (left-recursion·enter-callees t) (left-recursion·enter-at t) left-recursion·enter.Post
@@ -244,7 +244,7 @@ left-recursion·enter-returns-2 t c =
     enter-runs _ _ _ _ _ _ _ _ _ _ _ (begin-use .ensures) _ _ _ (not-false _ (if1 .left)) (run-call .ensures)
 
 abbrev left-recursion·rounds-Inv-loop : left-recursion·rounds-lts.InvT-loop
-left-recursion·rounds-Inv-loop book index text store₀ rows₀ left minimum s₀ round₀ store rows s round = (round ≤ 65) × (length store ≡ length store₀) × (length rows ≡ length rows₀) × (Held text store₀ (s₀ .cells) → Going text store (s .cells) (roundsRows (bookIn book index) text (65 - round) (within (bookIn book index) text left) left minimum (rowState (s .units) (cellsOf store (s .cells)) (table rows))) (roundsRows (bookIn book index) text 65 (within (bookIn book index) text left) left minimum (rowState (s₀ .units) (cellsOf store₀ (s₀ .cells)) (table rows₀))))
+left-recursion·rounds-Inv-loop book index text store₀ rows₀ left minimum s₀ round₀ store rows s round = (round ≤ 65) × (length store ≡ length store₀) × (length rows ≡ length rows₀) × (Held text store₀ (s₀ .cells) → Going text store (s .cells) (roundsRows (bookIn book index) text (65 - round) (innerRunner (bookIn book index) text left) left minimum (rowState (s .units) (cellsOf store (s .cells)) (table rows))) (roundsRows (bookIn book index) text 65 (innerRunner (bookIn book index) text left) left minimum (rowState (s₀ .units) (cellsOf store₀ (s₀ .cells)) (table rows₀))))
 
 abbrev left-recursion·rounds-μ-loop : left-recursion·rounds-lts.MeasureT-loop
 left-recursion·rounds-μ-loop book index text store₀ rows₀ left minimum s₀ round₀ store rows s round = 65 - round
@@ -343,13 +343,13 @@ left-recursion·rounds-loop-again t c =
     let if1 = c .before .if1 in
     (omega (arith, loop-test .taken), one-run .kept .1 .1 .1 .0 ∙ loop .inv .1, after-round .kept .0 ∙ one-run .kept .1 .1 .1 .1 .0 ∙ loop .inv .2, rounds-again _ _ _ _ _ _ _ _ _ _ _ _ (loop .inv .3) _ _ _ _ _ (loop-test .taken) (one-run .ensures) (after-round .ensures) (not-false _ (if1 .left)))
 
-left-recursion·rounds-at-limit-requires :
-    (t : ℕ) → left-recursion·rounds-lts.Need-at-limit-requires (left-recursion·rounds-callees t)
+left-recursion·rounds-without-failure-requires :
+    (t : ℕ) → left-recursion·rounds-lts.Need-without-failure-requires (left-recursion·rounds-callees t)
     (left-recursion·rounds-at t)
     left-recursion·rounds.Post
     left-recursion·rounds-Inv-loop
     left-recursion·rounds-μ-loop
-left-recursion·rounds-at-limit-requires t c κs = search needs
+left-recursion·rounds-without-failure-requires t c κs = search needs
 
 left-recursion·rounds-same-length-3 : (t : ℕ) → left-recursion·rounds-lts.Need-same-length-3 (left-recursion·rounds-callees t)
     (left-recursion·rounds-at t)
@@ -373,8 +373,8 @@ left-recursion·rounds-returns-2 : (t : ℕ) → left-recursion·rounds-lts.Need
 left-recursion·rounds-returns-2 t c =
     let loop = c .before .before .loop in
     let loop-test = c .before .loop-test in
-    let at-limit = c .at-limit in
-    rounds-none _ _ _ _ _ _ _ _ _ _ _ _ (loop .inv .3) _ (at-limit .ensures) (loop-test .left)
+    let without-failure = c .without-failure in
+    rounds-none _ _ _ _ _ _ _ _ _ _ _ _ (loop .inv .3) _ (without-failure .ensures) (loop-test .left)
 
 left-recursion·run-call-open-call-requires :
     (t : ℕ) → left-recursion·run-call-lts.Need-open-call-requires (left-recursion·run-call-callees t) (left-recursion·run-call-at t) left-recursion·run-call.Post
@@ -583,8 +583,8 @@ parser·follow-returns-2 t c =
     let loop = c .before .before .before .before .loop in
     let loop-test = c .before .before .before .loop-test in
     let if2 = c .before .if2 in
-    let at-limit = c .at-limit in
-    follow-whole _ _ _ _ _ _ _ _ _ _ _ _ _ _ _ _ (sym (goes-on .ensures) ∙ not-false _ (if1 .left)) (found .ensures) (follow-deep _ _ _ _ _ _ _ _ _ _ _ _ _ _ (table (loop .rows)) (loop .all) (loop .inv .4) _ (at-limit .ensures) (loop-test .taken) (if2 .taken))
+    let without-failure = c .without-failure in
+    follow-whole _ _ _ _ _ _ _ _ _ _ _ _ _ _ _ _ (sym (goes-on .ensures) ∙ not-false _ (if1 .left)) (found .ensures) (follow-deep _ _ _ _ _ _ _ _ _ _ _ _ _ _ (table (loop .rows)) (loop .all) (loop .inv .4) _ (without-failure .ensures) (loop-test .taken) (if2 .taken))
 
 parser·follow-item-requires : (t : ℕ) → parser·follow-lts.Need-item-requires (parser·follow-callees t) (parser·follow-at t) parser·follow.Post parser·follow-Inv-loop parser·follow-μ-loop
 parser·follow-item-requires t c κs =
@@ -675,7 +675,7 @@ parser·follow-returns-4 t c =
     follow-whole _ _ _ _ _ _ _ _ _ _ _ _ _ _ _ _ (sym (goes-on .ensures) ∙ not-false _ (if1 .left)) (found .ensures) (follow-end _ _ _ _ _ _ _ _ _ _ _ _ _ _ (table (loop .rows)) (loop .all) (loop .inv .4) (loop-test .left) (loop .inv .3))
 
 abbrev parser·one-run-Inv-loop : parser·one-run-lts.InvT-loop
-parser·one-run-Inv-loop book index text store₀ rows₀ left minimum nonterminal called o₀ k₀ store rows o k = (k ≤ called .count) × (length store ≡ length store₀) × (length rows ≡ length rows₀) × (o .limit ≡ 0) × (Held text store₀ (o₀ .state .cells) → Going text store (o .state .cells) (variantsRows (bookIn book index) text (within (bookIn book index) text left) left minimum (called .count - k) (called .first + k) (failureOf (failureAt o)) (rowState (o .state .units) (cellsOf store (o .state .cells)) (table rows))) (variantsRows (bookIn book index) text (within (bookIn book index) text left) left minimum (called .count) (called .first) (failureOf (failureAt o₀)) (rowState (o₀ .state .units) (cellsOf store₀ (o₀ .state .cells)) (table rows₀))))
+parser·one-run-Inv-loop book index text store₀ rows₀ left minimum nonterminal called o₀ k₀ store rows o k = (k ≤ called .count) × (length store ≡ length store₀) × (length rows ≡ length rows₀) × (o .limit ≡ 0) × (Held text store₀ (o₀ .state .cells) → Going text store (o .state .cells) (variantsRows (bookIn book index) text (innerRunner (bookIn book index) text left) left minimum (called .count - k) (called .first + k) (failureOf (failureAt o)) (rowState (o .state .units) (cellsOf store (o .state .cells)) (table rows))) (variantsRows (bookIn book index) text (innerRunner (bookIn book index) text left) left minimum (called .count) (called .first) (failureOf (failureAt o₀)) (rowState (o₀ .state .units) (cellsOf store₀ (o₀ .state .cells)) (table rows₀))))
 
 abbrev parser·one-run-μ-loop : parser·one-run-lts.MeasureT-loop
 parser·one-run-μ-loop book index text store₀ rows₀ left minimum nonterminal called o₀ k₀ store rows o k = called .count - k
@@ -781,9 +781,9 @@ parser·steps-Inv-loop book index text store₀ rows₀ left from step₀ remain
     × InRange (bookIn book index) (further from step remaining at items)
     × (6 * remaining + rankOf doing ≤ 6 * remaining₀ + rankOf doing₀)
     × (Held text store₀ (o₀ .state .cells) → Going text store (o .state .cells)
-    (goesOn left (further from step remaining at items) doing (bookIn book index) text
+    (proceeds left (further from step remaining at items) doing (bookIn book index) text
     (given o (cellsOf store (o .state .cells)) (table rows)))
-    (goesOn left (further from step₀ remaining₀ at₀ items₀) doing₀ (bookIn book index) text
+    (proceeds left (further from step₀ remaining₀ at₀ items₀) doing₀ (bookIn book index) text
     (given o₀ (cellsOf store₀ (o₀ .state .cells)) (table rows₀))))
 
 abbrev parser·steps-μ-loop : parser·steps-lts.MeasureT-loop
@@ -999,8 +999,8 @@ parser·variant-returns-2 t c =
     let if1 = c .before .before .before .before .before .before .before .before .before .before .before .before .before .before .before .before .before .if1 in
     let begin-variant = c .before .before .before .before .before .before .before .before .before .before .before .before .before .before .begin-variant in
     let steps = c .before .before .before .before .before .steps in
-    let counted = c .counted in
-    variant-ran _ _ _ _ _ _ _ (variant .ensures) _ _ (if1 .left) _ _ _ _ _ _ _ (begin-variant .ensures) (steps .ensures) (counted .ensures)
+    let after-variant = c .after-variant in
+    variant-ran _ _ _ _ _ _ _ (variant .ensures) _ _ (if1 .left) _ _ _ _ _ _ _ (begin-variant .ensures) (steps .ensures) (after-variant .ensures)
 
 pub +left-recursion·enter+left-recursion·rounds+left-recursion·run-call+parser·choice+parser·descend+parser·follow+parser·one-run+parser·steps+parser·variant-spec :
     {M : Type 1} → statement M
@@ -1040,7 +1040,7 @@ pub +left-recursion·enter+left-recursion·rounds+left-recursion·run-call+parse
     (left-recursion·rounds-add-round t)
     (left-recursion·rounds-loop-less t)
     (left-recursion·rounds-loop-again t)
-    (left-recursion·rounds-at-limit-requires t)
+    (left-recursion·rounds-without-failure-requires t)
     (left-recursion·rounds-same-length-3 t)
     (left-recursion·rounds-same-length-4 t)
     (left-recursion·rounds-returns-2 t))

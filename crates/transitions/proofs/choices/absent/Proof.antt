@@ -16,7 +16,7 @@ returns c =
     let absent = c .before .before .before .before .before .before .absent in
     let make = c .before .before .before .before .before .make in
     let if1 = c .before .if1 in
-    absent-limit book text store _ (here .variant) (here .at) (here .items) (args .state) _
+    absent-limit book text store _ (here .variant) (here .place) (here .items) (args .state) _
     (make .ensures Cell.absent (absent .ensures)) _ (if1 .taken) (c .reached-with .ensures)
 
 returns-2 : tie.Need-returns-2
@@ -30,7 +30,7 @@ returns-2 c =
     let make = c .before .before .before .before .before .before .before .before .before .before .make in
     let if1 = c .before .before .before .before .before .before .if1 in
     let with-cell = c .before .before .before .with-cell in
-    absent-goes book text store _ (here .variant) (here .at) (here .items) (args .state) _
+    absent-goes book text store _ (here .variant) (here .place) (here .items) (args .state) _
     (make .ensures Cell.absent (absent .ensures)) _ _ _ (if1 .left) (with-cell .ensures) (c .reached-with2 .ensures)
 
 pub absent-spec : {M : Type 1} → statement M

@@ -17,7 +17,7 @@ returns c =
     let here = args .here in
     let enum-told = c .before .before .before .before .enum-told in
     let absent = c .before .before .absent in
-    first-next book text store _ (here .variant) (here .at) (here .items) (args .next) _ (args .state) _
+    first-next book text store _ (here .variant) (here .place) (here .items) (args .next) _ (args .state) _
     (enum-told .given .1) (absent .ensures)
 
 returns-2 : tie.Need-returns-2
@@ -29,7 +29,7 @@ returns-2 c =
     let here = args .here in
     let next = c .before .before .before .before .before .next in
     let first-stop = c .before .before .first-stop in
-    first-next book text store _ (here .variant) (here .at) (here .items) (args .next) _ (args .state) _
+    first-next book text store _ (here .variant) (here .place) (here .items) (args .next) _ (args .state) _
     (next .given .1) (first-stop .ensures)
 
 pub first-side-spec : {M : Type 1} → statement M

@@ -14,7 +14,7 @@ returns c =
     let here = args .here in
     let spend = c .before .before .before .spend in
     let if1 = c .before .if1 in
-    side-limit book text store (here .variant) (here .at) (here .items) (args .list) (args .state) _
+    side-limit book text store (here .variant) (here .place) (here .items) (args .list) (args .state) _
     (spend .ensures) _ (if1 .taken) (c .ended .ensures)
 
 stop-requires : tie.Need-stop-requires
@@ -30,7 +30,7 @@ returns-2 c =
     let spend = c .before .before .before .before .before .before .before .spend in
     let if1 = c .before .before .before .before .before .if1 in
     let stop = c .before .before .stop in
-    side-stops book text store (here .variant) (here .at) (here .items) (args .list) (args .state) _
+    side-stops book text store (here .variant) (here .place) (here .items) (args .list) (args .state) _
     (spend .ensures) _ _ (if1 .left) (stop .ensures)
 
 pub first-stop-spec : {M : Type 1} → statement M

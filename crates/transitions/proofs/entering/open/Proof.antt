@@ -11,9 +11,9 @@ returns : tie.Need-returns
 returns c =
     let args = c .before .before .before .before .before .before .before .before .args in
     let if1 = c .before .before .if1 in
-    let at-limit = c .before .at-limit in
-    opens-deep (bookIn (args .book .now) (args .index .now)) (args .text .now) (args .n) (args .nonterminal) (args .u) (args .minimum) (args .state) _
-    (args .store .now) (table (args .rows .now)) _ (if1 .taken) (at-limit .ensures) (c .without-runs .ensures)
+    let without-failure = c .before .without-failure in
+    opens-deep (bookIn (args .book .now) (args .index .now)) (args .text .now) (args .row) (args .nonterminal) (args .at) (args .minimum) (args .state) _
+    (args .store .now) (table (args .rows .now)) _ (if1 .taken) (without-failure .ensures) (c .without-runs .ensures)
 
 returns-2 : tie.Need-returns-2
 returns-2 c =
@@ -22,7 +22,7 @@ returns-2 c =
     let is-identifier = c .before .before .before .before .before .before .before .before .before .is-identifier in
     let if2 = c .before .before .before .before .before .before .before .before .if2 in
     let run-identifier = c .before .before .before .before .before .run-identifier in
-    opens-identifier (bookIn (args .book .now) (args .index .now)) (args .text .now) (args .n) (args .nonterminal) (args .u) (args .minimum)
+    opens-identifier (bookIn (args .book .now) (args .index .now)) (args .text .now) (args .row) (args .nonterminal) (args .at) (args .minimum)
     (args .state) _ (args .store .now) _ (table (args .rows .now)) _ _ _ (if1 .left) (is-identifier .ensures) (if2 .taken) (run-identifier .ensures)
     (c .without-runs2 .ensures)
 
@@ -32,7 +32,7 @@ returns-3 c =
     let if1 = c .before .before .before .if1 in
     let is-identifier = c .before .before .is-identifier in
     let if2 = c .before .if2 in
-    opens-runs (bookIn (args .book .now) (args .index .now)) (args .text .now) (args .n) (args .nonterminal) (args .u) (args .minimum) (args .state) _
+    opens-runs (bookIn (args .book .now) (args .index .now)) (args .text .now) (args .row) (args .nonterminal) (args .at) (args .minimum) (args .state) _
     (args .store .now) (table (args .rows .now)) _ _ (if1 .left) (is-identifier .ensures) (if2 .left) (c .done .ensures) refl
 
 pub open-spec : {M : Type 1} → statement M

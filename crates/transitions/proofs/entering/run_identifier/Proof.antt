@@ -20,8 +20,8 @@ returns c =
     let claimed = c .before .before .before .claimed in
     let if1 = c .before .before .if1 in
     let no-parse = c .before .no-parse in
-    identifier-claimed (bookIn (args .book .now) (args .index .now)) (args .text .now) (args .store .now) (table (args .rows .now)) _ _ (args .n)
-    (args .nonterminal) (args .u) (args .state) _ (table-below (args .rows .now) (args .n) (pre .0)) (clear-set .ensures) (end-call .ensures)
+    identifier-claimed (bookIn (args .book .now) (args .index .now)) (args .text .now) (args .store .now) (table (args .rows .now)) _ _ (args .row)
+    (args .nonterminal) (args .at) (args .state) _ (table-below (args .rows .now) (args .row) (pre .0)) (clear-set .ensures) (end-call .ensures)
     (claimed .ensures) (no-parse .result) _ (if1 .taken) (no-parse .ensures) (c .done .ensures)
 
 returns-2 : tie.Need-returns-2
@@ -35,8 +35,8 @@ returns-2 c =
     let free-end = c .before .before .before .before .free-end in
     let enum-told = c .before .before .enum-told in
     let no-parse2 = c .before .no-parse2 in
-    identifier-nothing (bookIn (args .book .now) (args .index .now)) (args .text .now) (args .store .now) (table (args .rows .now)) _ _ (args .n)
-    (args .nonterminal) (args .u) (args .state) _ (table-below (args .rows .now) (args .n) (pre .0)) (clear-set .ensures) (end-call .ensures)
+    identifier-nothing (bookIn (args .book .now) (args .index .now)) (args .text .now) (args .store .now) (table (args .rows .now)) _ _ (args .row)
+    (args .nonterminal) (args .at) (args .state) _ (table-below (args .rows .now) (args .row) (pre .0)) (clear-set .ensures) (end-call .ensures)
     (claimed .ensures) _ (no-parse2 .result) _ (if1 .left) (free-end .ensures) (enum-told .given .1) (no-parse2 .ensures) (c .done2 .ensures)
 
 cast-name : tie.Need-cast-name
@@ -48,7 +48,7 @@ cast-name c =
     let length = c .before .length in
     omega (
       arith,
-      free-end-fits (bookIn (args .book .now) (args .index .now)) (args .text .now) (args .u) _
+      free-end-fits (bookIn (args .book .now) (args .index .now)) (args .text .now) (args .at) _
           (pre .2 .short) (sym (sym (ap endOf (end .given .1)) ∙ free-end .ensures)),
       length .ensures,
     )
@@ -73,10 +73,10 @@ returns-3 c =
     let name = c .before .before .before .before .before .before .before .name in
     let make = c .before .before .before .before .before .before .make in
     let if2 = c .before .if2 in
-    identifier-full (bookIn (args .book .now) (args .index .now)) (args .text .now) (args .store .now) (table (args .rows .now)) _ _ (args .n)
-    (args .nonterminal) (args .u) (args .state) _ (table-below (args .rows .now) (args .n) (pre .0)) (clear-set .ensures) (end-call .ensures)
+    identifier-full (bookIn (args .book .now) (args .index .now)) (args .text .now) (args .store .now) (table (args .rows .now)) _ _ (args .row)
+    (args .nonterminal) (args .at) (args .state) _ (table-below (args .rows .now) (args .row) (pre .0)) (clear-set .ensures) (end-call .ensures)
     (claimed .ensures) _ _ _ _ _ _ (if1 .left) (free-end .ensures) (end .given .1) (length .ensures) (name .ensures) (make .ensures) _ (if2 .taken)
-    (c .at-limit .ensures)
+    (c .without-failure .ensures)
 
 cast-t29 : tie.Need-cast-t29
 cast-t29 c =
@@ -86,7 +86,7 @@ cast-t29 c =
     let end = c .before .before .before .before .before .before .before .before .before .before .before .end in
     omega (
       arith,
-      free-end-fits (bookIn (args .book .now) (args .index .now)) (args .text .now) (args .u) _
+      free-end-fits (bookIn (args .book .now) (args .index .now)) (args .text .now) (args .at) _
           (pre .2 .short) (sym (sym (ap endOf (end .given .1)) ∙ free-end .ensures)),
     )
 
@@ -119,8 +119,8 @@ returns-4 c =
     let make = c .before .before .before .before .before .before .before .before .before .before .make in
     let if2 = c .before .before .before .before .before .if2 in
     let put-one = c .before .before .before .put-one in
-    identifier-named (bookIn (args .book .now) (args .index .now)) (args .text .now) (args .store .now) (table (args .rows .now)) _ _ (args .n)
-    (args .nonterminal) (args .u) (args .state) _ (table-below (args .rows .now) (args .n) (pre .0)) (clear-set .ensures) (end-call .ensures)
+    identifier-named (bookIn (args .book .now) (args .index .now)) (args .text .now) (args .store .now) (table (args .rows .now)) _ _ (args .row)
+    (args .nonterminal) (args .at) (args .state) _ (table-below (args .rows .now) (args .row) (pre .0)) (clear-set .ensures) (end-call .ensures)
     (claimed .ensures) _ _ _ _ _ _ (if1 .left) (free-end .ensures) (end .given .1) (length .ensures) (name .ensures) (make .ensures) _ _ (if2 .left)
     (put-one .ensures) (c .done3 .ensures)
 

@@ -12,7 +12,7 @@ returns c =
     let found = c .before .before .before .found in
     let if1 = c .before .before .if1 in
     let no-parse = c .before .no-parse in
-    stored-none (table (args .rows .now)) _ (args .governor) (args .n) (args .nonterminal) (args .u) _ _ (answer .ensures) (found .ensures)
+    stored-none (table (args .rows .now)) _ (args .governor) (args .row) (args .nonterminal) (args .at) _ _ (answer .ensures) (found .ensures)
     (no-parse .result) _ (if1 .taken) (no-parse .ensures) (c .done .ensures)
 
 returns-2 : tie.Need-returns-2
@@ -21,7 +21,7 @@ returns-2 c =
     let answer = c .before .before .before .before .before .before .answer in
     let found = c .before .before .found in
     let if1 = c .before .if1 in
-    stored-some (table (args .rows .now)) _ (args .governor) (args .n) (args .nonterminal) (args .u) _ _ (answer .ensures) (found .ensures) _
+    stored-some (table (args .rows .now)) _ (args .governor) (args .row) (args .nonterminal) (args .at) _ _ (answer .ensures) (found .ensures) _
     (if1 .left) (c .done2 .ensures)
 
 pub stored-spec : {M : Type 1} → statement M

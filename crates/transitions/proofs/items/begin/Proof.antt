@@ -11,9 +11,9 @@ returns c =
     let book = bookIn (args .book .now) (args .index .now) in
     let text = args .text .now in
     let store = args .store .now in
-    let passes = c .before .before .passes in
+    let is-passing = c .before .before .is-passing in
     let if1 = c .before .if1 in
-    begin-passing book text (args .j) _ (passes .ensures) (args .state) _ store (if1 .taken) (c .got .ensures)
+    begin-passing book text (args .j) _ (is-passing .ensures) (args .state) _ store (if1 .taken) (c .got .ensures)
 
 returns-2 : tie.Need-returns-2
 returns-2 c =
@@ -21,11 +21,11 @@ returns-2 c =
     let book = bookIn (args .book .now) (args .index .now) in
     let text = args .text .now in
     let store = args .store .now in
-    let passes = c .before .before .before .before .before .before .passes in
+    let is-passing = c .before .before .before .before .before .before .is-passing in
     let if1 = c .before .before .before .before .before .if1 in
     let empty = c .before .before .before .empty in
     let make = c .before .before .make in
-    begin-made book text (args .j) _ (passes .ensures) (args .state) _ store _ _ (if1 .left) (make .ensures) (empty .ensures)
+    begin-made book text (args .j) _ (is-passing .ensures) (args .state) _ store _ _ (if1 .left) (make .ensures) (empty .ensures)
 
 pub begin-spec : {M : Type 1} → statement M
 begin-spec =

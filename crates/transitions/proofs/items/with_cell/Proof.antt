@@ -11,9 +11,9 @@ returns c =
     let book = bookIn (args .book .now) (args .index .now) in
     let text = args .text .now in
     let store = args .store .now in
-    let passes = c .before .before .passes in
+    let is-passing = c .before .before .is-passing in
     let if1 = c .before .if1 in
-    with-passing book text (args .j) _ (passes .ensures) (args .state) _ store (args .items) (args .item) (if1 .taken) (c .got .ensures)
+    with-passing book text (args .j) _ (is-passing .ensures) (args .state) _ store (args .items) (args .item) (if1 .taken) (c .got .ensures)
 
 returns-2 : tie.Need-returns-2
 returns-2 c =
@@ -21,11 +21,11 @@ returns-2 c =
     let book = bookIn (args .book .now) (args .index .now) in
     let text = args .text .now in
     let store = args .store .now in
-    let passes = c .before .before .before .before .before .before .passes in
+    let is-passing = c .before .before .before .before .before .before .is-passing in
     let if1 = c .before .before .before .before .before .if1 in
     let chain = c .before .before .before .chain in
     let make = c .before .before .make in
-    with-made book text (args .j) _ (passes .ensures) (args .state) _ store _ (args .items) (args .item) _ (if1 .left) (make .ensures) (chain .ensures)
+    with-made book text (args .j) _ (is-passing .ensures) (args .state) _ store _ (args .items) (args .item) _ (if1 .left) (make .ensures) (chain .ensures)
 
 pub with-cell-spec : {M : Type 1} → statement M
 with-cell-spec =

@@ -6,7 +6,7 @@ use Rattle.transitions.proofs.outcomes.done.Tie as tie
 
 returns : tie.Need-returns
 returns c =
-    done-nothing _ _ _ (c .before .enum-told .given .1) (c .at-limit .ensures)
+    done-nothing _ _ _ (c .before .enum-told .given .1) (c .without-failure .ensures)
 
 returns-2 : tie.Need-returns-2
 returns-2 c =

@@ -9,7 +9,7 @@ returns : tie.Need-returns
 returns c =
     let args = c .before .before .before .args in
     let if1 = c .before .if1 in
-    no-unit (args .state) _ (if1 .taken) (c .at-limit .ensures)
+    no-unit (args .state) _ (if1 .taken) (c .without-failure .ensures)
 
 returns-2 : tie.Need-returns-2
 returns-2 c =

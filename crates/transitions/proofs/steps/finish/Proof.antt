@@ -16,8 +16,8 @@ returns c =
     let here = args .here in
     let value = c .before .before .before .before .before .before .value in
     let if1 = c .before .if1 in
-    finish-limit book text store _ (here .call) (here .variant) (here .at) (here .items) (args .state) _
-    (value .ensures) rows _ (if1 .taken) (c .at-limit .ensures)
+    finish-limit book text store _ (here .call) (here .variant) (here .place) (here .items) (args .state) _
+    (value .ensures) rows _ (if1 .taken) (c .without-failure .ensures)
 
 parse-of-requires : tie.Need-parse-of-requires
 parse-of-requires c κs =
@@ -48,9 +48,9 @@ returns-2 c =
     let parse-of = c .before .before .before .before .before .parse-of in
     let add-run = c .before .before .before .before .add-run in
     let if2 = c .before .if2 in
-    finish-added book text store _ (here .call) (here .variant) (here .at) (here .items) (args .state) _
+    finish-added book text store _ (here .call) (here .variant) (here .place) (here .items) (args .state) _
     (value .ensures) rows _ _ _
-    (parse-of-variant book text (here .variant) (here .at) _ _ _ (variant .ensures) (parse-of .ensures))
+    (parse-of-variant book text (here .variant) (here .place) _ _ _ (variant .ensures) (parse-of .ensures))
     (add-run .ensures) (if1 .left) _ (if2 .taken) (c .done .ensures)
 
 returns-3 : tie.Need-returns-3
@@ -67,10 +67,10 @@ returns-3 c =
     let parse-of = c .before .before .before .before .before .parse-of in
     let add-run = c .before .before .before .before .add-run in
     let if2 = c .before .if2 in
-    finish-full book text store _ (here .call) (here .variant) (here .at) (here .items) (args .state) _
+    finish-full book text store _ (here .call) (here .variant) (here .place) (here .items) (args .state) _
     (value .ensures) rows _ _ _
-    (parse-of-variant book text (here .variant) (here .at) _ _ _ (variant .ensures) (parse-of .ensures))
-    (add-run .ensures) (if1 .left) _ (if2 .left) (c .at-limit2 .ensures)
+    (parse-of-variant book text (here .variant) (here .place) _ _ _ (variant .ensures) (parse-of .ensures))
+    (add-run .ensures) (if1 .left) _ (if2 .left) (c .without-failure2 .ensures)
 
 pub finish-spec : {M : Type 1} → statement M
 finish-spec =

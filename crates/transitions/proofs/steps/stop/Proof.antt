@@ -20,7 +20,7 @@ returns c =
     let if1 = c .before .if1 in
     let args = start .args in
     stop-limit (bookIn (args .book .now) (args .index .now)) (args .text .now) (args .store .now) _ (args .here .variant) (args .values)
-    (args .closing) (args .at) (args .here .items) (args .state) _ (make .ensures (Cell.list (args .values)) (list .ensures)) _
+    (args .closing) (args .place) (args .here .items) (args .state) _ (make .ensures (Cell.list (args .values)) (list .ensures)) _
     (if1 .taken) (c .reached-with .ensures)
 
 returns-2 : tie.Need-returns-2
@@ -36,7 +36,7 @@ returns-2 c =
     let done = c .before .done in
     let args = start .args in
     stop-unclosed (bookIn (args .book .now) (args .index .now)) (args .text .now) (args .store .now) _ (args .here .variant) (args .values)
-    (args .closing) (args .at) (args .here .items) (args .state) _ (make .ensures (Cell.list (args .values)) (list .ensures))
+    (args .closing) (args .place) (args .here .items) (args .state) _ (make .ensures (Cell.list (args .values)) (list .ensures))
     (if1 .left) _ (closed .ensures) _ _ _ (enum-told .given .1)
     (closing-error .ensures ∙ ap (λ x. error x 1 (closingOf (closingIn (args .closing)))) (skipped .ensures)) (done .ensures) (c .ended .ensures)
 
@@ -47,7 +47,7 @@ cast-reached-with c =
     let next = c .before .before .before .before .before .next in
     let args = start .args in
     let closes = sym (closed .ensures) ∙ ap endOf (next .given .1) in
-    omega (arith, closed-fits (args .text .now) (closingIn (args .closing)) (args .at) _ (start .pre .short) (omega (arith, start .good)) closes)
+    omega (arith, closed-fits (args .text .now) (closingIn (args .closing)) (args .place) _ (start .pre .short) (omega (arith, start .good)) closes)
 
 returns-3 : tie.Need-returns-3
 returns-3 c =
@@ -60,7 +60,7 @@ returns-3 c =
     let with-cell = c .before .before .before .with-cell in
     let args = start .args in
     stop-closed (bookIn (args .book .now) (args .index .now)) (args .text .now) (args .store .now) _ (args .here .variant) (args .values)
-    (args .closing) (args .at) (args .here .items) (args .state) _ (make .ensures (Cell.list (args .values)) (list .ensures))
+    (args .closing) (args .place) (args .here .items) (args .state) _ (make .ensures (Cell.list (args .values)) (list .ensures))
     (if1 .left) _ (closed .ensures) _ _ _ _ (next .given .1) (with-cell .ensures) (c .reached-with2 .ensures)
 
 pub stop-spec : {M : Type 1} → statement M

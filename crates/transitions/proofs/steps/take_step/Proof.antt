@@ -18,8 +18,8 @@ returns c =
     let ended = c .before .ended in
     let args = start .args in
     let here = args .here in
-    at-step _ _ _ _ (here .variant) (args .state) _ (here .at) (here .items) _ _ (step .ensures)
-    (step-limit _ _ _ (here .variant) (args .state) (here .at) (here .items) _ _ (step-unit .ensures) _ _ (if1 .taken) (ended .ensures) (c .then-steps .ensures))
+    at-step _ _ _ _ (here .variant) (args .state) _ (here .place) (here .items) _ _ (step .ensures)
+    (step-limit _ _ _ (here .variant) (args .state) (here .place) (here .items) _ _ (step-unit .ensures) _ _ (if1 .taken) (ended .ensures) (c .then-steps .ensures))
 
 cast-take-token : tie.Need-cast-take-token
 cast-take-token c =
@@ -68,8 +68,8 @@ returns-2 c =
     let args = start .args in
     let here = args .here in
     let book = bookIn (args .book .now) (args .index .now) in
-    at-step _ _ _ _ (here .variant) (args .state) _ (here .at) (here .items) _ _ (step .ensures)
-    (step-fails _ _ _ (here .variant) (args .state) (here .at) (here .items) _ _ (step-unit .ensures)
+    at-step _ _ _ _ (here .variant) (args .state) _ (here .place) (here .items) _ _ (step .ensures)
+    (step-fails _ _ _ (here .variant) (args .state) (here .place) (here .items) _ _ (step-unit .ensures)
     (if1 .left) _ (step-at .ensures) _ _ _ _ (enum-told .given .1)
     (step-error .ensures ∙ ap (λ x. stepError book (args .text .now) (step .result) x) (skipped .ensures)) (done .ensures) (ended2 .ensures)
     (c .then-steps2 .ensures))
@@ -85,8 +85,8 @@ returns-3 c =
     let take-token = c .before .before .before .take-token in
     let args = start .args in
     let here = args .here in
-    at-step _ _ _ _ (here .variant) (args .state) _ (here .at) (here .items) _ _ (step .ensures)
-    (step-reads _ _ _ (here .variant) (args .state) (here .at) (here .items) _ _ (step-unit .ensures)
+    at-step _ _ _ _ (here .variant) (args .state) _ (here .place) (here .items) _ _ (step .ensures)
+    (step-reads _ _ _ (here .variant) (args .state) (here .place) (here .items) _ _ (step-unit .ensures)
     (if1 .left) _ (step-at .ensures) _ _ _ _ _ (next .given .1) (take-token .ensures) (c .then-steps3 .ensures))
 
 returns-4 : tie.Need-returns-4
@@ -99,8 +99,8 @@ returns-4 c =
     let nonterminal = c .before .before .nonterminal in
     let args = start .args in
     let here = args .here in
-    at-step _ _ _ _ (here .variant) (args .state) _ (here .at) (here .items) _ _ (step .ensures)
-    (step-descends _ _ _ (here .variant) (args .state) (here .at) (here .items) _ _ (step-unit .ensures)
+    at-step _ _ _ _ (here .variant) (args .state) _ (here .place) (here .items) _ _ (step .ensures)
+    (step-descends _ _ _ (here .variant) (args .state) (here .place) (here .items) _ _ (step-unit .ensures)
     (if1 .left) _ (step-at .ensures) _ _ (nonterminal .given .1) (c .then-child .ensures))
 
 returns-5 : tie.Need-returns-5
@@ -113,8 +113,8 @@ returns-5 c =
     let nonterminal2 = c .before .before .nonterminal2 in
     let args = start .args in
     let here = args .here in
-    at-step _ _ _ _ (here .variant) (args .state) _ (here .at) (here .items) _ _ (step .ensures)
-    (step-chooses _ _ _ (here .variant) (args .state) (here .at) (here .items) _ _ (step-unit .ensures)
+    at-step _ _ _ _ (here .variant) (args .state) _ (here .place) (here .items) _ _ (step .ensures)
+    (step-chooses _ _ _ (here .variant) (args .state) (here .place) (here .items) _ _ (step-unit .ensures)
     (if1 .left) _ (step-at .ensures) _ _ (nonterminal2 .given .1) (c .then-child2 .ensures))
 
 returns-6 : tie.Need-returns-6
@@ -128,8 +128,8 @@ returns-6 c =
     let begin-list = c .before .before .begin-list in
     let args = start .args in
     let here = args .here in
-    at-step _ _ _ _ (here .variant) (args .state) _ (here .at) (here .items) _ _ (step .ensures)
-    (step-lists _ _ _ (here .variant) (args .state) (here .at) (here .items) _ _ (step-unit .ensures)
+    at-step _ _ _ _ (here .variant) (args .state) _ (here .place) (here .items) _ _ (step .ensures)
+    (step-lists _ _ _ (here .variant) (args .state) (here .place) (here .items) _ _ (step-unit .ensures)
     (if1 .left) _ (step-at .ensures) _ _ _ _ _ _ (comma .given .1) (begin-list .ensures _))
 
 returns-7 : tie.Need-returns-7
@@ -143,8 +143,8 @@ returns-7 c =
     let unopened = c .before .before .before .unopened in
     let args = start .args in
     let here = args .here in
-    at-step _ _ _ _ (here .variant) (args .state) _ (here .at) (here .items) _ _ (step .ensures)
-    (step-unopens _ _ _ (here .variant) (args .state) (here .at) (here .items) _ _ (step-unit .ensures)
+    at-step _ _ _ _ (here .variant) (args .state) _ (here .place) (here .items) _ _ (step .ensures)
+    (step-unopens _ _ _ (here .variant) (args .state) (here .place) (here .items) _ _ (step-unit .ensures)
     (if1 .left) _ (step-at .ensures) _ _ _ _ (place .given .1) (unopened .ensures) (c .then-steps4 .ensures))
 
 pub take-step-spec : {M : Type 1} → statement M

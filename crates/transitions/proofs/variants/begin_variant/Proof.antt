@@ -6,8 +6,8 @@ use Rattle.book.specs.declared.records.Variant.{Variant}
 use Rattle.book.specs.Index.{bookIn}
 use Rattle.calls.specs.Table.{table}
 use Rattle.transitions.specs.EndingLaws.{variant-begins}
-use Rattle.transitions.proofs.entering.begin_variant.Statement.{statement}
-use Rattle.transitions.proofs.entering.begin_variant.Tie as tie
+use Rattle.transitions.proofs.variants.begin_variant.Statement.{statement}
+use Rattle.transitions.proofs.variants.begin_variant.Tie as tie
 
 cast-take-variant : tie.Need-cast-take-variant
 cast-take-variant c =
@@ -23,7 +23,7 @@ returns c =
     let variant = c .before .before .before .before .before .before .before .before .before .before .variant in
     let begin = c .before .before .before .before .before .before .before .before .begin in
     let take-variant = c .before .before .before .take-variant in
-    variant-begins (bookIn (args .book .now) (args .index .now)) (args .text .now) (args .store .now) _ (table (args .rows .now)) _ (args .n)
+    variant-begins (bookIn (args .book .now) (args .index .now)) (args .text .now) (args .store .now) _ (table (args .rows .now)) _ (args .row)
     (args .j) (args .state) _ (begin .ensures) _ _ _ (start-of .ensures) (variant .ensures) (take-variant .ensures) (c .reached-with .ensures)
 
 pub begin-variant-spec : {M : Type 1} → statement M
