@@ -38,8 +38,8 @@ abbrev pub noAllowance : ℕ → Bool
 noAllowance allowance = eqb allowance 0 || ltb mostUnits allowance
 
 -- a place of the text, where it is one
-abbrev pub within : List ℕ → ℕ → Option ℕ
-within text i = cond (ltb i (length text)) (some i) none
+abbrev pub placeIn : List ℕ → ℕ → Option ℕ
+placeIn text i = cond (ltb i (length text)) (some i) none
 
 -- ---- Whole parses
 -- one value more

@@ -25,7 +25,7 @@ fn clear(lent: &mut [u32], size: usize)
 }
 
 // The first `size` numbers of a lent list become the first `used` of another, and zeros.
-fn written(lent: &mut [u32], size: usize, source: &[u32], used: usize)
+fn write(lent: &mut [u32], size: usize, source: &[u32], used: usize)
     requires { ⌜ (size ≤ length (now lent)) × (used ≤ size) × (used ≤ length (now source)) ⌝ }
     ensures { λ _. ⌜ Writes lent size (take used (now (source .entry))) ⌝ }
 {
@@ -38,7 +38,7 @@ fn written(lent: &mut [u32], size: usize, source: &[u32], used: usize)
 }
 
 // The first 256 numbers of a lent list become the parses that the outermost row found, and zeros.
-fn parses_written(parses: &mut [u32], rows: &[u32])
+fn write_parses(parses: &mut [u32], rows: &[u32])
     requires { ⌜ HasParses parses rows ⌝ }
     ensures { λ _. ⌜ WritesParses parses rows ⌝ }
 {
@@ -52,7 +52,7 @@ fn parses_written(parses: &mut [u32], rows: &[u32])
 }
 
 // 20 to 23 and 30.
-pub fn cleared(cells: &mut [u32], parses: &mut [u32])
+pub fn clear_lists(cells: &mut [u32], parses: &mut [u32])
     requires { ⌜ LongLists cells parses ⌝ }
     ensures { λ _. ⌜ Writes cells cellsSize [] × Writes parses parsesSize [] ⌝ }
 {
@@ -61,10 +61,10 @@ pub fn cleared(cells: &mut [u32], parses: &mut [u32])
 }
 
 // The cells of the store, and what the outermost row found.
-pub fn filled(cells: &mut [u32], parses: &mut [u32], store: &[u32], rows: &[u32], count: u32)
+pub fn fill_lists(cells: &mut [u32], parses: &mut [u32], store: &[u32], rows: &[u32], count: u32)
     requires { ⌜ CanFill cells parses store rows count ⌝ }
     ensures { λ _. ⌜ Writes cells cellsSize (take (3 * count) (now (store .entry))) × WritesParses parses rows ⌝ }
 {
-    written(cells, CELLS_SIZE, store, 3 * count as usize);
-    parses_written(parses, rows);
+    write(cells, CELLS_SIZE, store, 3 * count as usize);
+    write_parses(parses, rows);
 }

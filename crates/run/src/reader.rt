@@ -12,12 +12,13 @@ ghost use Rattle.semantics.specs.Answer as answers;
 ghost use Rattle.semantics.specs.Answer.{answer, firstHigh, answerOf};
 ghost use Rattle.transitions.specs.Fit.{Fits};
 ghost use Rattle.run.specs.Promise.{answerIn, noRoom, Read, ReadIn};
-ghost use Rattle.run.specs.Reading.{short, noAllowance, within, endAnswer, seenOf, Gives};
+ghost use Rattle.run.specs.Reading.{short, noAllowance, placeIn, endAnswer, seenOf, Gives};
 ghost use Rattle.run.specs.Reading.{CanEnd, CanStart, CanRead, HasRoom, RunsText};
-use crate::lists::cleared;
-use crate::lists::filled;
+use crate::lists::clear_lists;
+use crate::lists::fill_lists;
 use crate::refusals::BAD_ALLOWANCE;
 use crate::refusals::DIFFERENT_VALUES;
+use crate::refusals::FIRST_HIGH_BYTE;
 use crate::refusals::HIGH_BYTE;
 use crate::refusals::LONG_TEXT;
 use crate::refusals::LONGEST_TEXT;
@@ -141,17 +142,17 @@ fn ending(
     let state = outcome.state;
     let work = gone(allowance, state.units);
     if outcome.limit != 0 {
-        cleared(cells, parses);
+        clear_lists(cells, parses);
         return at_end(outcome.limit, work, 0, 0);
     }
     let failure = failure_of(outcome);
     match failure {
         Failure::At(e) => {
-            cleared(cells, parses);
+            clear_lists(cells, parses);
             failed(e, work)
         }
         Failure::None => {
-            filled(cells, parses, store, rows, state.cells);
+            fill_lists(cells, parses, store, rows, state.cells);
             let values = whole_values(text, rows);
             let number = found(rows, MOST_NESTING) as u32;
             by_values(values, work, number)
@@ -192,11 +193,11 @@ fn run(
 // ---- The text and the start
 // The place of the first byte of 128 or more, or the text's length.
 fn first_high(text: &[u8]) -> usize
-    ensures { λ r. ⌜ within (now (text .entry)) r ≡ firstHigh 0 (now (text .entry)) ⌝ }
+    ensures { λ r. ⌜ placeIn (now (text .entry)) r ≡ firstHigh 0 (now (text .entry)) ⌝ }
 {
     let mut i = 0;
     while i < text.len() {
-        if 128 <= text[i] {
+        if FIRST_HIGH_BYTE <= text[i] {
             return i;
         }
         i += 1;

@@ -20,6 +20,8 @@ pub const LONGEST_TEXT: u32 = 4096;
 // "byte 128 or more"
 pub const HIGH_BYTE: u32 = 11;
 
+pub const FIRST_HIGH_BYTE: u8 = 128;
+
 // "no parse; kind and argument filled"
 pub const NO_PARSE: u32 = 30;
 

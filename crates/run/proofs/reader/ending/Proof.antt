@@ -12,8 +12,8 @@ returns c =
     let args = c .before .before .before .before .before .before .before .before .before .before .before .before .before .before .before .before .before .args in
     let gone = c .before .before .before .before .before .before .before .before .before .before .gone in
     let if1 = c .before .before .before .before .before .before .before .before .if1 in
-    let cleared = c .before .before .before .before .before .cleared in
-    end-limit _ _ _ _ _ _ _ _ _ (args .outcome) (c .at-end .result) (gone .ensures) (if1 .taken) (cleared .ensures) (c .at-end .ensures)
+    let clear-lists = c .before .before .before .before .before .clear-lists in
+    end-limit _ _ _ _ _ _ _ _ _ (args .outcome) (c .at-end .result) (gone .ensures) (if1 .taken) (clear-lists .ensures) (c .at-end .ensures)
 
 cast-number : tie.Need-cast-number
 cast-number c =
@@ -27,8 +27,8 @@ returns-2 c =
     let if1 = c .before .before .before .before .before .before .before .before .before .before .before .before .if1 in
     let failure-of = c .before .before .before .before .before .before .before .before .before .before .before .failure-of in
     let failure = c .before .before .before .before .before .before .before .before .before .failure in
-    let cleared2 = c .before .before .before .before .before .cleared2 in
-    end-failed _ _ _ _ _ _ _ _ _ (args .outcome) (c .failed .result) (gone .ensures) _ (if1 .left) (sym (failure-of .ensures) ∙ failure .given .1) (cleared2 .ensures) (c .failed .ensures)
+    let clear-lists2 = c .before .before .before .before .before .clear-lists2 in
+    end-failed _ _ _ _ _ _ _ _ _ (args .outcome) (c .failed .result) (gone .ensures) _ (if1 .left) (sym (failure-of .ensures) ∙ failure .given .1) (clear-lists2 .ensures) (c .failed .ensures)
 
 returns-3 : tie.Need-returns-3
 returns-3 c =
@@ -38,10 +38,10 @@ returns-3 c =
     let if1 = c .before .before .before .before .before .before .before .before .before .before .before .before .before .if1 in
     let failure-of = c .before .before .before .before .before .before .before .before .before .before .before .before .failure-of in
     let enum-told = c .before .before .before .before .before .before .before .before .before .before .enum-told in
-    let filled = c .before .before .before .before .before .before .before .filled in
+    let fill-lists = c .before .before .before .before .before .before .before .fill-lists in
     let whole-values = c .before .before .whole-values in
     let found = c .before .found in
-    end-found _ _ _ _ _ _ _ _ _ (args .outcome) (c .by-values .result) (gone .ensures) _ _ (if1 .left) (sym (failure-of .ensures) ∙ enum-told .given .1) (pre .3) (filled .ensures) (whole-values .ensures) (found .ensures) (c .by-values .ensures)
+    end-found _ _ _ _ _ _ _ _ _ (args .outcome) (c .by-values .result) (gone .ensures) _ _ (if1 .left) (sym (failure-of .ensures) ∙ enum-told .given .1) (pre .3) (fill-lists .ensures) (whole-values .ensures) (found .ensures) (c .by-values .ensures)
 
 pub ending-spec : {M : Type 1} → statement M
 ending-spec =

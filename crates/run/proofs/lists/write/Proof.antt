@@ -1,4 +1,4 @@
--- `run::written` meets its contract. The invariant: from a cleared list, the first i numbers are the source's.
+-- `run::write` meets its contract. The invariant: from a cleared list, the first i numbers are the source's.
 use mathlib.Core.List.{List, []}
 use mathlib.Core.Path.{_≡_, refl, ap, _∙_}
 use Prim.Native.Nat.{ℕ, _-_, _≤_}
@@ -7,8 +7,8 @@ use lib.ListN.{length, getD, set, take, length-set}
 use borrow.Author.Needs.{needs}
 use Rattle.semantics.specs.Answer as answers
 use Rattle.run.specs.ListLaws.{copy-again}
-use Rattle.run.proofs.lists.written.Statement.{statement}
-use Rattle.run.proofs.lists.written.Tie as tie
+use Rattle.run.proofs.lists.write.Statement.{statement}
+use Rattle.run.proofs.lists.write.Tie as tie
 
 abbrev Inv-loop : tie.InvT-loop
 Inv-loop lent₀ size source used i₀ lent i = (i ≤ used) × (length lent ≡ length lent₀) × ((l : List ℕ) → lent₀ ≡ answers.written size [] l → lent ≡ answers.written size (take i source) l)
@@ -76,8 +76,8 @@ returns c =
     let e : loop .i ≡ args .used = omega (arith, loop .inv .0, c .loop-test .left) in
     loop .inv .2 _ (clear .ensures) ∙ ap (λ (n : ℕ). answers.written (args .size) (take n (args .source .now)) (args .lent .now)) e
 
-pub written-spec : {M : Type 1} → statement M
-written-spec =
+pub write-spec : {M : Type 1} → statement M
+write-spec =
     tie.close
     (tie.spec
     Inv-loop

@@ -1,4 +1,4 @@
--- `run::parses_written` meets its contract. The invariant: from a cleared list, the first i parses stand in it.
+-- `run::write_parses` meets its contract. The invariant: from a cleared list, the first i parses stand in it.
 use mathlib.Core.List.{List, []}
 use mathlib.Core.Path.{_≡_, refl, ap, _∙_}
 use Prim.Native.Nat.{ℕ, _-_, _*_}
@@ -11,8 +11,8 @@ use Rattle.sets.specs.Sets.{parseOf}
 use Rattle.sets.specs.Sets as sets
 use Rattle.calls.specs.Table.{table}
 use Rattle.run.specs.ListLaws.{parses-first, parses-again, parses-end, found-few}
-use Rattle.run.proofs.lists.parses_written.Statement.{statement}
-use Rattle.run.proofs.lists.parses_written.Tie as tie
+use Rattle.run.proofs.lists.write_parses.Statement.{statement}
+use Rattle.run.proofs.lists.write_parses.Tie as tie
 
 abbrev Inv-loop : tie.InvT-loop
 Inv-loop parses₀ rows count i₀ parses i = (length parses ≡ length parses₀) × ((l : List ℕ) → parses₀ ≡ answers.written 256 [] l → parses ≡ answers.written 256 (parseNumbers (take i (rowOf (table rows) 200 .set))) l)
@@ -94,8 +94,8 @@ returns c =
     let loop = c .before .loop in
     loop .inv .1 _ (clear .ensures) ∙ parses-end 256 _ (rowOf (table (args .rows .now)) 200 .set) (loop .i) (omega (arith, c .loop-test .left, found .ensures))
 
-pub parses-written-spec : {M : Type 1} → statement M
-parses-written-spec =
+pub write-parses-spec : {M : Type 1} → statement M
+write-parses-spec =
     tie.close
     (tie.spec
     Inv-loop
