@@ -2,16 +2,17 @@
 use mathlib.Core.Path.{_≡_}
 use mathlib.Core.Bool.{Bool, true, false, cond, _||_}
 use mathlib.Core.List.{List, [], _∷_}
-use Prim.Native.Nat.{ℕ, _+_, _-_, _*_, _^_, _<_}
+use Prim.Native.Nat.{ℕ, _+_, _-_, _*_, _<_}
 use lib.Dec.{ltb, eqb}
 use lib.ListN.{length, getD, drop}
 use Rattle.characters.specs.Slices.{Lent, atEntry}
 use Rattle.characters.specs.Spelling.{partOf}
 use Rattle.book.specs.Book.{Entry, nthEntry}
 use Rattle.book.specs.Index.{bookIn}
+use Rattle.semantics.specs.Numbers.{half, absentForm}
 use Rattle.semantics.specs.Cells.{Cell, cellOf, cellsIn, Meaning, treeIn, treesIn, nthMeaning, meanings}
 use Rattle.cells.specs.declared.numbers.Numbers.{Numbers}
-use Rattle.printing.specs.Printing.{decimal, printed, spaced}
+use Rattle.printing.specs.Printing.{space, dollar, hyphen, decimal, printed, spaced}
 
 -- the names of the book that an index gives
 abbrev pub namesIn : Lent → Lent → List Entry
@@ -23,9 +24,10 @@ cellIn numbers n =
     cond (eqb n 0 || ltb (length numbers) (n * 3)) Cell.absent
     (cellOf (getD numbers (n * 3 - 3) 0) (getD numbers (n * 3 - 3 + 1) 0) (getD numbers (n * 3 - 3 + 2) 0))
 
-pub record Read (numbers : List ℕ) (n : ℕ) (c : Numbers) : Type 0 where
+-- the code's numbers of cell n
+pub record CellRead (numbers : List ℕ) (n : ℕ) (c : Numbers) : Type 0 where
   pub is : cellOf (c .form) (c .a) (c .b) ≡ cellIn numbers n
-  pub placed : (c .form ≡ 7 → ⊥) → 0 < n
+  pub placed : (c .form ≡ absentForm → ⊥) → 0 < n
 
 -- a cell that cell n may refer to; any other is none
 abbrev pub olderThan : ℕ → ℕ → ℕ
@@ -49,14 +51,14 @@ spellingOf names text (Cell.list c) = []
 
 -- an item without items
 unfoldable pub plainBytes : List Entry → List ℕ → Cell → List ℕ
-plainBytes names text Cell.empty = 45 ∷ []
-plainBytes names text (Cell.chain c item) = 45 ∷ []
-plainBytes names text (Cell.variant j c) = 45 ∷ []
+plainBytes names text Cell.empty = hyphen ∷ []
+plainBytes names text (Cell.chain c item) = hyphen ∷ []
+plainBytes names text (Cell.variant j c) = hyphen ∷ []
 plainBytes names text (Cell.name place size) = partOf text place size
-plainBytes names text (Cell.number high low) = decimal (high * 2 ^ 32 + low)
-plainBytes names text (Cell.variable i kind) = 36 ∷ nthEntry names i .spelling
-plainBytes names text Cell.absent = 45 ∷ []
-plainBytes names text (Cell.list c) = 45 ∷ []
+plainBytes names text (Cell.number high low) = decimal (high * half + low)
+plainBytes names text (Cell.variable i kind) = dollar ∷ nthEntry names i .spelling
+plainBytes names text Cell.absent = hyphen ∷ []
+plainBytes names text (Cell.list c) = hyphen ∷ []
 
 abbrev pub itemBytes : List Entry → List ℕ → List ℕ → ℕ → List ℕ
 itemBytes names text numbers n = printed names (treeIn (stands text numbers n))
@@ -79,4 +81,4 @@ isChain (Cell.list c) = false
 
 -- what stands between the items of a chain and the next item
 abbrev pub gapBytes : List ℕ → Bool → ℕ → List ℕ
-gapBytes numbers inList n = cond inList (cond (isChain (cellIn numbers n)) (32 ∷ []) []) (32 ∷ [])
+gapBytes numbers inList n = cond inList (cond (isChain (cellIn numbers n)) (space ∷ []) []) (space ∷ [])

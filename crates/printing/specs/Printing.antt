@@ -7,15 +7,49 @@ use lib.ListN.{take, drop}
 use Rattle.book.specs.Book.{Entry, nthEntry}
 use Rattle.semantics.specs.Values.{Tree, Trees, no-trees, _▸_}
 use Rattle.semantics.specs.Cells.{cellsIn, treeAt}
+use Rattle.semantics.specs.Numbers.{cellsSize, highByte, noParse}
 use Rattle.semantics.specs.Answer.{Answer}
+
+-- ---- The characters that a value is written with
+abbrev pub lineFeed : ℕ
+lineFeed = 10
+
+abbrev pub space : ℕ
+space = 32
+
+-- `$`
+abbrev pub dollar : ℕ
+dollar = 36
+
+-- `(` and `)`
+abbrev pub openParenthesis : ℕ
+openParenthesis = 40
+
+abbrev pub closeParenthesis : ℕ
+closeParenthesis = 41
+
+-- `-`
+abbrev pub hyphen : ℕ
+hyphen = 45
+
+-- `0`
+abbrev pub zeroDigit : ℕ
+zeroDigit = 48
+
+-- `[` and `]`
+abbrev pub openBracket : ℕ
+openBracket = 91
+
+abbrev pub closeBracket : ℕ
+closeBracket = 93
 
 -- ---- "numbers without leading zeros"
 -- the digits of a tenth of the number, if that is not 0, and then its last digit. As many turns as the number are more
 -- than enough
 unfoldable pub digits : ℕ → ℕ → List ℕ
-digits zero n = (48 + n) ∷ []
+digits zero n = (zeroDigit + n) ∷ []
 digits (suc turns) n =
-    elim (ltb n 10) [ true ↦ (48 + n) ∷ [] | false ↦ digits turns (n / 10) ++ ((48 + n % 10) ∷ []) ]
+    elim (ltb n 10) [ true ↦ (zeroDigit + n) ∷ [] | false ↦ digits turns (n / 10) ++ ((zeroDigit + n % 10) ∷ []) ]
 
 abbrev pub decimal : ℕ → List ℕ
 decimal n = digits n n
@@ -25,35 +59,35 @@ unfoldable mutual
   -- "variant as `(number items)`, list `[items]`, one space before each item but a list's first, .. absent `-`,
   -- variable `$` and spelling"
   pub printed : List Entry → Tree → List ℕ
-  printed names (Tree.variant j items) = 40 ∷ (decimal j ++ (spaced names items ++ (41 ∷ [])))
+  printed names (Tree.variant j items) = openParenthesis ∷ (decimal j ++ (spaced names items ++ (closeParenthesis ∷ [])))
   printed names (Tree.name spelling) = spelling
   printed names (Tree.number n) = decimal n
-  printed names (Tree.variable i kind) = 36 ∷ nthEntry names i .spelling
-  printed names Tree.absent = 45 ∷ []
-  printed names (Tree.list items) = 91 ∷ (drop 1 (spaced names items) ++ (93 ∷ []))
+  printed names (Tree.variable i kind) = dollar ∷ nthEntry names i .spelling
+  printed names Tree.absent = hyphen ∷ []
+  printed names (Tree.list items) = openBracket ∷ (drop 1 (spaced names items) ++ (closeBracket ∷ []))
 
   -- trees in order, a space before each
   pub spaced : List Entry → Trees → List ℕ
   spaced names no-trees = []
-  spaced names (items ▸ item) = spaced names items ++ (32 ∷ printed names item)
+  spaced names (items ▸ item) = spaced names items ++ (space ∷ printed names item)
 
 -- the value of a cell; a run has at most 4,096 cells, so what stands past their numbers is none. Every list of numbers
 -- has a value: what is no cell is absent
 abbrev pub valueBytes : List Entry → List ℕ → List ℕ → ℕ → List ℕ
-valueBytes names text numbers n = printed names (treeAt text (cellsIn (take 12288 numbers)) n)
+valueBytes names text numbers n = printed names (treeAt text (cellsIn (take cellsSize numbers)) n)
 
 -- ---- "For 11 and 30, L is 1 plus line feeds before the place, C is 1 plus bytes since the last; else both 0"
 unfoldable pub lineFeeds : List ℕ → ℕ
 lineFeeds [] = 0
-lineFeeds (b ∷ bs) = cond (eqb b 10) (suc (lineFeeds bs)) (lineFeeds bs)
+lineFeeds (b ∷ bs) = cond (eqb b lineFeed) (suc (lineFeeds bs)) (lineFeeds bs)
 
 -- bytes since the last line feed, or since the start, n of them before these bytes
 unfoldable pub sinceLineFeed : ℕ → List ℕ → ℕ
 sinceLineFeed n [] = n
-sinceLineFeed n (b ∷ bs) = sinceLineFeed (cond (eqb b 10) 0 (suc n)) bs
+sinceLineFeed n (b ∷ bs) = sinceLineFeed (cond (eqb b lineFeed) 0 (suc n)) bs
 
 abbrev pub hasLine : Answer → Bool
-hasLine a = eqb (a .refusal) 11 || eqb (a .refusal) 30
+hasLine a = eqb (a .refusal) highByte || eqb (a .refusal) noParse
 
 abbrev pub lineOf : List ℕ → Answer → ℕ
 lineOf text a = cond (hasLine a) (suc (lineFeeds (take (a .place) text))) 0
@@ -98,10 +132,10 @@ refusedLine text a =
     ++ (kindWord ++ (decimal (a .kind)
     ++ (argumentWord ++ (decimal (a .argument)
     ++ (lineWord ++ (decimal (lineOf text a)
-    ++ (columnWord ++ (decimal (columnOf text a) ++ (10 ∷ []))))))))))))
+    ++ (columnWord ++ (decimal (columnOf text a) ++ (lineFeed ∷ []))))))))))))
 
 -- "Success: `value ` and the value"; "One line feed ends each"
 unfoldable pub lineBytes : List Entry → List ℕ → List ℕ → Answer → List ℕ
 lineBytes names text numbers a =
     elim (eqb (a .refusal) 0)
-    [ true ↦ valueWord ++ (valueBytes names text numbers (a .value) ++ (10 ∷ [])) | false ↦ refusedLine text a ]
+    [ true ↦ valueWord ++ (valueBytes names text numbers (a .value) ++ (lineFeed ∷ [])) | false ↦ refusedLine text a ]

@@ -1,7 +1,7 @@
 // Cells by their numbers, and the spelling that a cell names.
 ghost use mathlib.Core.Path.{_≡_};
 ghost use Rattle.semantics.specs.Cells.{cellOf};
-ghost use Rattle.printing.specs.Cells.{namesIn, Read, olderThan, spellingOf};
+ghost use Rattle.printing.specs.Cells.{namesIn, CellRead, olderThan, spellingOf};
 use book::name;
 use cells::NAME_FORM;
 use cells::Numbers;
@@ -11,7 +11,7 @@ use characters::part;
 
 // Cell n, and absent where there is none.
 pub fn cell_at(cells: &[u32], n: u32) -> Numbers
-    ensures { λ r. ⌜ Read (now (cells .entry)) n r ⌝ }
+    ensures { λ r. ⌜ CellRead (now (cells .entry)) n r ⌝ }
 {
     if n == 0 {
         return absent();
