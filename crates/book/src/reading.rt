@@ -72,6 +72,11 @@ fn step_of(kind: u8, a: u32, b: u32, c: u32) -> Step
     }
 }
 
+// The kinds for which "the choices replace the step's unit".
+pub const MANY: usize = 10;
+
+pub const COMMA_LIST: usize = 11;
+
 // The number of a step's kind.
 pub fn step_number(step: Step) -> usize
     ensures { λ r. ⌜ r ≡ stepNumber step ⌝ }
@@ -87,8 +92,8 @@ pub fn step_number(step: Step) -> usize
         Step::RejectReserved => 7,
         Step::Nonterminal(_) => 8,
         Step::Optional(_) => 9,
-        Step::Many(_) => 10,
-        Step::CommaList(_) => 11,
+        Step::Many(_) => MANY,
+        Step::CommaList(_) => COMMA_LIST,
         Step::Delimited {
             nonterminal: _,
             opening: _,
@@ -103,7 +108,7 @@ pub fn step_number(step: Step) -> usize
 }
 
 // The byte k places after `at`, and 0 past the end.
-pub fn byte_after(book: &[u8], at: usize, k: usize) -> u8
+fn byte_after(book: &[u8], at: usize, k: usize) -> u8
     requires { ⌜ k ≤ 3 ⌝ }
     ensures { λ r. ⌜ r ≡ getD (now (book .entry)) (at + k) 0 ⌝ }
 {

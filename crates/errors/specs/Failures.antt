@@ -10,6 +10,7 @@ use mathlib.Core.Option.{Option, none, some}
 use mathlib.Core.Path.{_≡_, refl}
 use Prim.Native.Nat.{ℕ}
 use Rattle.book.specs.Book.{Book, nthVariant}
+use Rattle.semantics.specs.Numbers.{nonterminalWanted, moreWanted}
 use Rattle.semantics.specs.Errors.{Error, error, join, beyond, choiceError}
 use Rattle.semantics.specs.Run as run
 
@@ -20,7 +21,7 @@ counted committed start (some e) = cond committed (beyond start e) none
 
 -- what a call of nonterminal N without a parse gives
 unfoldable pub failedCall : ℕ → ℕ → Option Error → Error
-failedCall start N none = error start 11 N
+failedCall start N none = error start nonterminalWanted N
 failedCall start N (some e) = e
 
 -- the failure of both sides of a choice at a place, in a variant of nonterminal N
@@ -55,7 +56,7 @@ chosen-run c at none b = refl
 chosen-run c at (some a) b = chosen-both c at a b (b .failure) refl
 
 -- ---- Errors that consumed nothing since a choice drop; another stays
-pub choice-drops : (at N : ℕ) (a b : Error) → beyond at (join a b) ≡ none → choiceError at N a b ≡ error at 12 N
+pub choice-drops : (at N : ℕ) (a b : Error) → beyond at (join a b) ≡ none → choiceError at N a b ≡ error at moreWanted N
 unfolding choiceError
 choice-drops at N a b e = rw (e, choiceError)
 

@@ -10,6 +10,7 @@ use Rattle.book.specs.Book.{Entry}
 use Rattle.book.specs.Check.{checkBook, Outcome}
 use Rattle.book.specs.Index.{verdict}
 use Rattle.book.specs.declared.checking.Verdict.{Verdict}
+use Rattle.semantics.specs.Numbers.{mostCells, noParse, differentValues, notAccepted, isLimit}
 use Rattle.semantics.specs.Answer.{Answer, answer, answerOf}
 use Rattle.run.specs.Promise.{Reads}
 use Rattle.run.specs.declared.reader.Answer as code
@@ -41,11 +42,11 @@ pub record ReadInto (bytes text : List ℕ) (start allowance : ℕ)
 -- ---- Numbers that are an answer
 -- a refusal of the table of "The answer"
 abbrev pub isRefusal : ℕ → Bool
-isRefusal n = between 1 11 n || (between 20 23 n || between 30 32 n)
+isRefusal n = notAccepted n || (isLimit n || between noParse differentValues n)
 
 -- "from cell 1", and "a 4,097th cell" is refused: a cell that a run can make and the list holds
 abbrev pub hasCell : List ℕ → ℕ → Bool
-hasCell cells n = between 1 4096 n && leb (3 * n) (length cells)
+hasCell cells n = between 1 mostCells n && leb (3 * n) (length cells)
 
 abbrev pub isAccepted : Verdict → Bool
 isAccepted Verdict.Accepted = true

@@ -9,6 +9,12 @@ use book::Verdict;
 use cells::MOST_CELLS;
 use printing::Length;
 use run::Answer;
+use run::DIFFERENT_VALUES;
+use run::HIGH_BYTE;
+use run::NO_PARSE;
+use run::SHORT_LISTS;
+use transitions::NO_UNIT;
+use transitions::TOO_MANY_CELLS;
 
 pub const NUMBERS: usize = 7;
 
@@ -65,13 +71,13 @@ fn has_cell(cells: &[u32], n: u32) -> bool
 fn is_refusal(n: u32) -> bool
     ensures { λ r. ⌜ r ≡ isRefusal n ⌝ }
 {
-    if is_between(1, 11, n) {
+    if is_between(SHORT_LISTS, HIGH_BYTE, n) {
         return true;
     }
-    if is_between(20, 23, n) {
+    if is_between(NO_UNIT, TOO_MANY_CELLS, n) {
         return true;
     }
-    is_between(30, 32, n)
+    is_between(NO_PARSE, DIFFERENT_VALUES, n)
 }
 
 // A value is one of an accepted book and has its cell; a refusal is one of document 01.

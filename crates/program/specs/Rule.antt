@@ -3,12 +3,13 @@ use mathlib.Core.Path.{_≡_}
 use mathlib.Core.List.{List}
 use Prim.Native.Nat.{ℕ}
 use lib.ListN.{replicate}
+use Rattle.semantics.specs.Numbers.{cellsSize, parsesSize, mostUnits}
 use Rattle.semantics.specs.Answer.{Answer, Answered, answerOf}
 use Rattle.run.specs.Promise.{answerIn}
 use Rattle.run.specs.declared.reader.Answer as code
 
 abbrev pub ruleAnswer : List ℕ → List ℕ → Answered
-ruleAnswer book text = answerOf (replicate 12288 0) (replicate 256 0) book text 0 1000000
+ruleAnswer book text = answerOf (replicate cellsSize 0) (replicate parsesSize 0) book text 0 mostUnits
 
 abbrev pub Answers : List ℕ → List ℕ → code.Answer → Type 0
 Answers book text a = answerIn a ≡ ruleAnswer book text .answer

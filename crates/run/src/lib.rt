@@ -17,6 +17,8 @@ pub use calls::ROWS_SIZE;
 pub use reader::Answer;
 pub use reader::read;
 pub use reader::read_in;
+pub use refusals::DIFFERENT_VALUES;
 pub use refusals::HIGH_BYTE;
 pub use refusals::MOST_UNITS;
 pub use refusals::NO_PARSE;
+pub use refusals::SHORT_LISTS;

@@ -20,6 +20,7 @@ use crate::outcomes::done;
 use crate::outcomes::spend;
 use crate::outcomes::without_failure;
 use book::Associativity;
+use book::DEFAULT_LEVEL;
 use book::Mark;
 use calls::Governor;
 use errors::Error;
@@ -92,7 +93,7 @@ fn claimed(book: &[u8], index: &[usize], text: &[u8], rows: &[u32], row: usize, 
     }
 }
 
-// "`identifier_nonterminal`": level 255, Both.
+// "`identifier_nonterminal`": the default level, Both.
 fn run_identifier(
     book: &[u8],
     index: &[usize],
@@ -126,7 +127,7 @@ fn run_identifier(
         row,
         Parse {
             rest: end as u32,
-            level: 255,
+            level: DEFAULT_LEVEL as u32,
             associativity: Associativity::Both,
             value: m.cell,
         },

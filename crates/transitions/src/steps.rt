@@ -125,10 +125,10 @@ fn step_unit(step: Step, state: State) -> Outcome
     ensures { λ r. ⌜ StepSpent r step state ⌝ }
 {
     let kind = book::step_number(step);
-    if kind == 10 {
+    if kind == book::MANY {
         return done(Failure::None, state);
     }
-    if kind == 11 {
+    if kind == book::COMMA_LIST {
         return done(Failure::None, state);
     }
     spend(state)

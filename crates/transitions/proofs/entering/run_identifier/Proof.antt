@@ -151,6 +151,7 @@ run-identifier-spec =
     same-length-4
     returns-3
     cast-t29
+    (λ c. search needs)
     put-one-requires
     (λ c κs. search needs)
     (λ c. search needs)
