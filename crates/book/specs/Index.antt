@@ -7,7 +7,7 @@ use mathlib.Core.Path.{_≡_}
 use Prim.Native.Nat.{ℕ, zero, suc, _+_, _-_, _*_, _%_, _≤_, _<_}
 use lib.Dec.{leb, ltb, eqb}
 use lib.ListN.{length, getD}
-use Rattle.characters.specs.Slices.{Lent, atEntry, indexSize}
+use Rattle.characters.specs.Slices.{Lent, atEntry}
 use Rattle.characters.specs.Classes.{between}
 use Rattle.characters.specs.Spelling.{partOf}
 use Rattle.book.specs.Book.{Entry, Book}
@@ -71,7 +71,7 @@ recordFrom Sort.Nonterminal book at first = nonterminalFrom book at first
 recordFrom Sort.Variant book at first = (at, variantFrom book at first)
 recordFrom (Sort.Step words nonterminals) book at first = stepFrom book at
 
--- ---- The index: where each section's region begins (`indexSize` of Slices is how many numbers it has in all)
+-- ---- The index: where each section's region begins, and how many numbers it has in all
 abbrev pub wordsAt : ℕ
 wordsAt = 0
 
@@ -86,6 +86,9 @@ variantsAt = 323
 
 abbrev pub stepsAt : ℕ
 stepsAt = 580
+
+abbrev pub indexSize : ℕ
+indexSize = 1091
 
 -- the values of f below n, in order
 unfoldable pub upTo : {A : Type 0} → ℕ → (ℕ → A) → List A

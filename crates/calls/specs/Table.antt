@@ -2,12 +2,12 @@
 use mathlib.Core.Path.{_≡_}
 use mathlib.Core.Bool.{Bool, cond}
 use mathlib.Core.List.{List, [], _∷_}
-use Prim.Native.Nat.{ℕ, zero, suc, _+_, _<_, _≤_}
+use Prim.Native.Nat.{ℕ, zero, suc, _+_, _*_, _<_, _≤_}
 use lib.Dec.{eqb}
 use lib.ListN.{getD, length}
 use denote.Ref.{now}
 use mathlib.Core.Option.{Option, none, some}
-use Rattle.characters.specs.Slices.{Slice, Lent, atEntry, atExit, rowsSize}
+use Rattle.characters.specs.Slices.{Slice, Lent, atEntry, atExit}
 use Rattle.book.specs.Book.{Book}
 use Rattle.semantics.specs.Numbers.{mostNesting, tooManyParses}
 use Rattle.semantics.specs.Values.{Parse}
@@ -39,6 +39,9 @@ rowSize = runPlace + setSize
 -- one row for each level of nesting left, 0 too
 abbrev pub rowCount : ℕ
 rowCount = mostNesting + 1
+
+abbrev pub rowsSize : ℕ
+rowsSize = rowCount * rowSize
 
 -- ---- What a list of numbers says: every list gives a table
 unfoldable pub rowAt : List ℕ → ℕ → Row

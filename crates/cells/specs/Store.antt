@@ -9,7 +9,6 @@ use mathlib.Core.List.{List, [], _∷_, _++_}
 use Prim.Native.Nat.{ℕ, zero, suc, _+_, _-_, _*_, _%_, _≤_, _<_}
 use lib.Dec.{eqb, ltb}
 use lib.ListN.{length, getD, set, take}
-use Rattle.characters.specs.Slices.{storeSize}
 use Rattle.characters.specs.Spelling.{partOf, same}
 use Rattle.semantics.specs.Numbers.{cellsSize, mostCells, tooManyCells, nameForm}
 use Rattle.semantics.specs.Cells.{Cell, numbersOf, identityOf, cellsIn}
@@ -29,6 +28,9 @@ heads = cellsSize + mostCells
 -- how many hashes there are, and so heads
 abbrev pub hashes : ℕ
 hashes = 1024
+
+abbrev pub storeSize : ℕ
+storeSize = heads + hashes
 
 -- ---- The numbers of one cell
 abbrev pub listed : Numbers → List ℕ
