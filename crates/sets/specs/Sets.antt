@@ -24,10 +24,6 @@ parse rest level associativity value =
 abbrev pub parseOf : code.Parse → Parse ℕ
 parseOf p = parse (p .rest) (p .level) (p .associativity) (p .value)
 
--- what stands for a parse that a set has not
-abbrev pub noParse : Parse ℕ
-noParse = parse 0 0 Associativity.Left 0
-
 -- the numbers of a set: its count, and four for each parse
 abbrev pub setSize : ℕ
 setSize = 1 + 4 * mostParses

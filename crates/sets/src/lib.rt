@@ -17,9 +17,10 @@ ghost use Prim.Native.Nat.{_+_, _≤_};
 ghost use lib.ListN.{getD, length};
 ghost use Rattle.book.specs.Book.{associativityNumber};
 ghost use Rattle.book.specs.Check.{associativityOf};
+ghost use Rattle.semantics.specs.Values.{absentParse};
 ghost use Rattle.semantics.specs.Uses.{keepsLevel};
 ghost use Rattle.semantics.specs.Run as run;
-ghost use Rattle.sets.specs.Sets.{parseOf, noParse, setSize, parseAt, setAt, written, keepEnd};
+ghost use Rattle.sets.specs.Sets.{parseOf, setSize, parseAt, setAt, written, keepEnd};
 ghost use Rattle.sets.specs.Sets.{Apart, Becomes, Appended, Added, AllAdded, Kept};
 use book::Associativity;
 
@@ -122,7 +123,7 @@ pub fn size(numbers: &[u32], place: usize) -> usize
 // The i-th parse of a set, and a parse of zeros past its end.
 pub fn item(numbers: &[u32], place: usize, i: usize) -> Parse
     requires { ⌜ place + setSize ≤ length (now numbers) ⌝ }
-    ensures { λ r. ⌜ parseOf r ≡ getD (setAt (now (numbers .entry)) place) i noParse ⌝ }
+    ensures { λ r. ⌜ parseOf r ≡ getD (setAt (now (numbers .entry)) place) i absentParse ⌝ }
 {
     if i < size(numbers, place) {
         return parse_at(numbers, place + 1 + 4 * i);
