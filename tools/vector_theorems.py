@@ -98,7 +98,7 @@ def imports(names):
     """Use lines for every definition that has to be unfolded; its names are added to `names`."""
     lines = []
     for crate, prefix, modules in (
-        ("characters", "Rattle.characters.specs.", ["Classes", "Skipping", "Tokens", "Spelling"]),
+        ("characters", "Rattle.characters.specs.", ["Classes", "Skipping", "Lexemes", "Spelling"]),
         ("book", "Rattle.book.specs.", ["Book", "Check"]),
         ("semantics", "Rattle.semantics.specs.", ["Uses", "Tokens", "Steps", "Cells", "Errors", "Run", "Answer"]),
     ):

@@ -7,7 +7,7 @@ use mathlib.Core.Path.{_≡_}
 use Prim.Native.Nat.{ℕ, zero, suc, _+_, _-_, _*_, _%_, _≤_, _<_}
 use lib.Dec.{leb, ltb, eqb}
 use lib.ListN.{length, getD}
-use Rattle.characters.specs.Slices.{Lent, atEntry, indexSize}
+use Rattle.characters.specs.Slices.{Lent, atEntry}
 use Rattle.characters.specs.Classes.{between}
 use Rattle.characters.specs.Spelling.{partOf}
 use Rattle.book.specs.Book.{Entry, Book}
@@ -71,7 +71,7 @@ recordFrom Sort.Nonterminal book at first = nonterminalFrom book at first
 recordFrom Sort.Variant book at first = (at, variantFrom book at first)
 recordFrom (Sort.Step words nonterminals) book at first = stepFrom book at
 
--- ---- The index: where each section's region begins (`indexSize` of Slices is how many numbers it has in all)
+-- ---- The index: where each section's region begins, and how many numbers it has in all
 abbrev pub wordsAt : ℕ
 wordsAt = 0
 
@@ -86,6 +86,9 @@ variantsAt = 323
 
 abbrev pub stepsAt : ℕ
 stepsAt = 580
+
+abbrev pub indexSize : ℕ
+indexSize = 1091
 
 -- the values of f below n, in order
 unfoldable pub upTo : {A : Type 0} → ℕ → (ℕ → A) → List A
@@ -172,9 +175,9 @@ Small (Part.Read value next) = value ≤ 255
 Small (Part.Refused number place) = Unit {0}
 
 -- a list is as it was, but for the numbers from `low` up to, and not including, `high`
-pub record Kept (low high : ℕ) (f g : List ℕ) : Type 0 where
-  pub below : (k : ℕ) → k < low → getD g k 0 ≡ getD f k 0
-  pub above : (k : ℕ) → high ≤ k → getD g k 0 ≡ getD f k 0
+pub record Kept (low high : ℕ) (before after : List ℕ) : Type 0 where
+  pub below : (k : ℕ) → k < low → getD after k 0 ≡ getD before k 0
+  pub above : (k : ℕ) → high ≤ k → getD after k 0 ≡ getD before k 0
 
 -- one record was read
 pub record One (sort : Sort) (book : List ℕ) (at : ℕ) (part : Part) : Type 0 where
@@ -183,10 +186,11 @@ pub record One (sort : Sort) (book : List ℕ) (at : ℕ) (part : Part) : Type 0
   pub small : Small part
 
 -- a row of records was read, and its numbers stand in the index
-pub record Row (sort : Sort) (book : List ℕ) (at count base : ℕ) (f g : List ℕ) (part : Part) : Type 0 where
-  pub reads : row (sizeOf sort) (oneOf sort) count 0 book at ≡ readingOf part (λ v. recordsIn sort book g base count)
-  pub valued : Valued part (total (sizeOf sort) (recordsIn sort book g base count))
-  pub kept : Kept (base + 1) (base + 1 + 2 * count) f g
+pub record Row (sort : Sort) (book : List ℕ) (at count base : ℕ) (before after : List ℕ) (part : Part) : Type 0 where
+  pub reads :
+      row (sizeOf sort) (oneOf sort) count 0 book at ≡ readingOf part (λ v. recordsIn sort book after base count)
+  pub valued : Valued part (total (sizeOf sort) (recordsIn sort book after base count))
+  pub kept : Kept (base + 1) (base + 1 + 2 * count) before after
 
 -- where something was read, n is at most `high`
 abbrev pub Few : Part → ℕ → ℕ → Type 0
@@ -194,14 +198,14 @@ Few (Part.Read value next) n high = n ≤ high
 Few (Part.Refused number place) n high = Unit {0}
 
 -- a section was read: its count, which passes a test and is at most `high`, and its row
-pub record Section (sort : Sort) (fits : ℕ → Bool) (book : List ℕ) (at high base : ℕ) (f g : List ℕ) (part : Part) :
-    Type 0 where
+pub record Section (sort : Sort) (fits : ℕ → Bool) (book : List ℕ) (at high base : ℕ) (before after : List ℕ)
+    (part : Part) : Type 0 where
   pub reads :
       section fits (sizeOf sort) (oneOf sort) book at ≡
-      readingOf part (λ v. recordsIn sort book g base (countIn g base))
-  pub valued : Valued part (total (sizeOf sort) (recordsIn sort book g base (countIn g base)))
-  pub few : Few part (countIn g base) high
-  pub kept : Kept base (base + 1 + 2 * high) f g
+      readingOf part (λ v. recordsIn sort book after base (countIn after base))
+  pub valued : Valued part (total (sizeOf sort) (recordsIn sort book after base (countIn after base)))
+  pub few : Few part (countIn after base) high
+  pub kept : Kept base (base + 1 + 2 * high) before after
 
 -- ---- Sections one after the other
 -- what follows a part that was read
@@ -220,15 +224,16 @@ heads book K =
     andThen (section (between 1 mostNonterminals) (λ n. n .count) nonterminal book q) (λ nonterminals r.
     K words names nonterminals r)))
 
-pub record HeadsRead (book f g : List ℕ) (part : Part) : Type 0 where
+pub record HeadsRead (book before after : List ℕ) (part : Part) : Type 0 where
   pub reads :
       (K : Heads) →
-      heads book K ≡ followed part (K (entriesIn book g wordsAt) (entriesIn book g namesAt) (nonterminalsIn book g))
-  pub valued : Valued part (total (λ n. n .count) (nonterminalsIn book g))
-  pub few-words : Few part (countIn g wordsAt) mostWords
-  pub few-names : Few part (countIn g namesAt) mostNames
-  pub few-nonterminals : Few part (countIn g nonterminalsAt) mostNonterminals
-  pub kept : Kept 0 variantsAt f g
+      heads book K ≡
+      followed part (K (entriesIn book after wordsAt) (entriesIn book after namesAt) (nonterminalsIn book after))
+  pub valued : Valued part (total (λ n. n .count) (nonterminalsIn book after))
+  pub few-words : Few part (countIn after wordsAt) mostWords
+  pub few-names : Few part (countIn after namesAt) mostNames
+  pub few-nonterminals : Few part (countIn after nonterminalsAt) mostNonterminals
+  pub kept : Kept 0 variantsAt before after
 
 abbrev pub Sections : Type 0
 Sections = List Entry → List Entry → List Nonterminal → List (ℕ × Variant) → List Step → ℕ → Checked Book
@@ -244,14 +249,14 @@ fiveSections book K =
     book q) (λ steps r.
     K words names nonterminals variants steps r)))
 
-pub record SectionsRead (book f g : List ℕ) (part : Part) : Type 0 where
+pub record SectionsRead (book before after : List ℕ) (part : Part) : Type 0 where
   pub reads :
       (K : Sections) →
       fiveSections book K ≡
       followed part
-      (K (entriesIn book g wordsAt) (entriesIn book g namesAt) (nonterminalsIn book g) (placedIn book g)
-      (stepsIn book g))
-  pub kept : Kept 0 indexSize f g
+      (K (entriesIn book after wordsAt) (entriesIn book after namesAt) (nonterminalsIn book after) (placedIn book after)
+      (stepsIn book after))
+  pub kept : Kept 0 indexSize before after
 
 -- ---- Verdicts
 abbrev pub verdictOf : Part → Verdict
@@ -279,10 +284,10 @@ pub record Says (o : Outcome) (r : Verdict) : Type 0 where
   pub case : r ≡ verdict o
 
 -- what the check promises: the verdict; the book, where it is accepted; and nothing beyond the index is stored
-pub record Checks (book f g : List ℕ) (r : Verdict) : Type 0 where
+pub record Checks (book before after : List ℕ) (r : Verdict) : Type 0 where
   pub says : Says (checkBook book) r
-  pub gives : r ≡ Verdict.Accepted → checkBook book ≡ Outcome.book (bookIn book g)
-  pub kept : Kept 0 indexSize f g
+  pub gives : r ≡ Verdict.Accepted → checkBook book ≡ Outcome.book (bookIn book after)
+  pub kept : Kept 0 indexSize before after
 
 -- the outcome of the check with an index: one that is too short is refused as 1
 abbrev pub checkWith : List ℕ → List ℕ → Outcome
@@ -290,8 +295,8 @@ checkWith book index = cond (ltb (length index) indexSize) (Outcome.refusal shor
 
 -- The public promise. An index that is too short is left as it is. Where the book is refused, the index holds what was
 -- read before the refusal, of which nothing is said: whoever reads by it has the verdict
-pub record CheckedInto (book f g : List ℕ) (r : Verdict) : Type 0 where
-  pub says : Says (checkWith book f) r
-  pub gives : r ≡ Verdict.Accepted → checkBook book ≡ Outcome.book (bookIn book g)
-  pub beyond : (k : ℕ) → indexSize ≤ k → getD g k 0 ≡ getD f k 0
-  pub short : length f < indexSize → g ≡ f
+pub record CheckedInto (book before after : List ℕ) (r : Verdict) : Type 0 where
+  pub says : Says (checkWith book before) r
+  pub gives : r ≡ Verdict.Accepted → checkBook book ≡ Outcome.book (bookIn book after)
+  pub beyond : (k : ℕ) → indexSize ≤ k → getD after k 0 ≡ getD before k 0
+  pub short : length before < indexSize → after ≡ before

@@ -1,14 +1,13 @@
--- The table of rows in a list of numbers: 201 rows of 522 numbers. A row is eight numbers and two sets of 257 numbers,
--- the stored one and the run's.
+-- The table of rows in a list of numbers. A row is eight numbers and two sets, the stored one and the run's.
 use mathlib.Core.Path.{_≡_}
 use mathlib.Core.Bool.{Bool, cond}
 use mathlib.Core.List.{List, [], _∷_}
-use Prim.Native.Nat.{ℕ, zero, suc, _+_, _<_, _≤_}
+use Prim.Native.Nat.{ℕ, zero, suc, _+_, _*_, _<_, _≤_}
 use lib.Dec.{eqb}
 use lib.ListN.{getD, length}
 use denote.Ref.{now}
 use mathlib.Core.Option.{Option, none, some}
-use Rattle.characters.specs.Slices.{Slice, Lent, atEntry, atExit, rowsSize}
+use Rattle.characters.specs.Slices.{Slice, Lent, atEntry, atExit}
 use Rattle.book.specs.Book.{Book}
 use Rattle.semantics.specs.Numbers.{mostNesting, tooManyParses}
 use Rattle.semantics.specs.Values.{Parse}
@@ -18,24 +17,47 @@ use Rattle.semantics.specs.Run.{Result, met, ok, State, add, addAll, kept, fail
 use Rattle.run_model.specs.Rows.{Row, row, rowOf, onRow, useAt, ended, wasAsked, withSet, withRun, RowGovernor, minimum}
 use Rattle.run_model.specs.Rows.{same-start}
 use Rattle.run_model.specs.Model.{RowState, rowState, Outcome, outcome, bareCall, settle, settleFirst}
-use Rattle.sets.specs.Sets.{setAt, result}
+use Rattle.sets.specs.Sets.{setSize, setAt, result}
 use Rattle.calls.specs.declared.Governor.{Governor}
 use Rattle.calls.specs.declared.Settled.{Settled}
 
+-- ---- The layout
+-- the numbers of a row before its sets
+abbrev pub fieldCount : ℕ
+fieldCount = 8
+
+-- where the stored set and the run's begin in a row
+abbrev pub setPlace : ℕ
+setPlace = fieldCount
+
+abbrev pub runPlace : ℕ
+runPlace = setPlace + setSize
+
+abbrev pub rowSize : ℕ
+rowSize = runPlace + setSize
+
+-- one row for each level of nesting left, 0 too
+abbrev pub rowCount : ℕ
+rowCount = mostNesting + 1
+
+abbrev pub rowsSize : ℕ
+rowsSize = rowCount * rowSize
+
 -- ---- What a list of numbers says: every list gives a table
 unfoldable pub rowAt : List ℕ → ℕ → Row
-rowAt f b =
-    row (getD f b 0) (getD f (b + 1) 0) (getD f (b + 2) 0) (getD f (b + 3) 0) (getD f (b + 4) 0) (getD f (b + 5) 0)
-    (getD f (b + 6) 0) (getD f (b + 7) 0)
-    (setAt f (b + 8)) (setAt f (b + 265))
+rowAt numbers place =
+    row (getD numbers place 0) (getD numbers (place + 1) 0) (getD numbers (place + 2) 0) (getD numbers (place + 3) 0)
+    (getD numbers (place + 4) 0) (getD numbers (place + 5) 0) (getD numbers (place + 6) 0)
+    (getD numbers (place + 7) 0)
+    (setAt numbers (place + setPlace)) (setAt numbers (place + runPlace))
 
--- k rows from place b on
+-- k rows from a place on
 unfoldable pub rowsFrom : List ℕ → ℕ → ℕ → List Row
-rowsFrom f b zero = []
-rowsFrom f b (suc k) = rowAt f b ∷ rowsFrom f (b + 522) k
+rowsFrom numbers place zero = []
+rowsFrom numbers place (suc k) = rowAt numbers place ∷ rowsFrom numbers (place + rowSize) k
 
 unfoldable pub table : List ℕ → List Row
-table f = rowsFrom f 0 201
+table numbers = rowsFrom numbers 0 rowCount
 
 -- ---- The slice that a function is lent
 -- the slice has its table, and the row is one of it
@@ -44,7 +66,7 @@ InTable row rows = (row ≤ mostNesting) × (rowsSize ≤ length (now rows))
 
 -- the same, with another number besides
 abbrev pub NumberIn : ℕ → ℕ → Slice → Type 0
-NumberIn row number rows = (row ≤ mostNesting) × (number < 8) × (rowsSize ≤ length (now rows))
+NumberIn row number rows = (row ≤ mostNesting) × (number < fieldCount) × (rowsSize ≤ length (now rows))
 
 -- row `from` is one of the table, and `into` one below it
 abbrev pub Below : ℕ → ℕ → Slice → Type 0
@@ -58,11 +80,11 @@ tableAfter rows = table (atExit rows)
 
 -- a row at entry
 abbrev pub rowIn : Lent → ℕ → Row
-rowIn rows i = rowOf (tableAt rows) i
+rowIn rows row = rowOf (tableAt rows) row
 
 -- one row changes
 abbrev pub Changes : Lent → ℕ → (Row → Row) → Type 0
-Changes rows i f = tableAfter rows ≡ onRow (tableAt rows) i f
+Changes rows row change = tableAfter rows ≡ onRow (tableAt rows) row change
 
 -- ---- The numbers of a row
 -- a row whose j-th number is x
@@ -78,15 +100,15 @@ fieldOf j r =
     (cond (eqb j 4) (r .level) (cond (eqb j 5) (r .associativity) (cond (eqb j 6) (r .child) (r .asked)))))))
 
 -- ---- What a function does to the table
--- a parse joins the run's set of row c; where it is a 65th, nothing is said of that set
-pub record RunAdded (r : Bool) (T U : List Row) (c : ℕ) (p : Parse ℕ) : Type 0 where
-  pub now : (s : State) → add s (rowOf T c .run) p ≡ result r (rowOf U c .run) s
-  pub only : U ≡ onRow T c (withRun (rowOf U c .run))
+-- a parse joins the run's set of a row; where it is a 65th, nothing is said of that set
+pub record RunAdded (r : Bool) (before after : List Row) (row : ℕ) (p : Parse ℕ) : Type 0 where
+  pub now : (s : State) → add s (rowOf before row .run) p ≡ result r (rowOf after row .run) s
+  pub only : after ≡ onRow before row (withRun (rowOf after row .run))
 
--- the run's set of row c joins the row's stored set
-pub record RunJoined (r : Bool) (T U : List Row) (c : ℕ) : Type 0 where
-  pub now : (s : State) → addAll s (rowOf T c .set) (rowOf T c .run) ≡ result r (rowOf U c .set) s
-  pub only : U ≡ onRow T c (withSet (rowOf U c .set))
+-- the run's set of a row joins the row's stored set
+pub record RunJoined (r : Bool) (before after : List Row) (row : ℕ) : Type 0 where
+  pub now : (s : State) → addAll s (rowOf before row .set) (rowOf before row .run) ≡ result r (rowOf after row .set) s
+  pub only : after ≡ onRow before row (withSet (rowOf after row .set))
 
 -- ---- The code's governor, as the model has it
 abbrev pub governorIn : Governor → RowGovernor
@@ -94,29 +116,34 @@ governorIn (Governor.Minimum m) = minimum m
 governorIn (Governor.SameStart g) = same-start g
 
 -- ---- A stored answer
--- what row n found are the parses that the call of row g has stored, filtered; row g is asked (`answered` of the model)
+-- what a row found are the parses that its governor's call has stored, filtered; the governor is asked (`answered` of
+-- the model)
 abbrev pub answeredIn : List Row → ℕ → ℕ → List Row
-answeredIn T n g = onRow (onRow T g wasAsked) n (λ t. ended (withSet (kept (useAt (rowOf T g)) (rowOf T g .set)) t))
+answeredIn rows row governor =
+    let stored = rowOf rows governor in
+    onRow (onRow rows governor wasAsked) row (λ t. ended (withSet (kept (useAt stored) (stored .set)) t))
 
 -- ---- The end of a run
--- how the call of row c goes on after a run, by the code's answer: it has failed, with what the variants' failure was,
+-- how the call of a row goes on after a run, by the code's answer: it has failed, with what the variants' failure was,
 -- it is over, it is run again, or it has met a limit
-abbrev pub goesOn : Settled → ℕ → (RowState → Result Outcome) → Option Error → RowState → Result Outcome
-goesOn Settled.Failed c again failure s =
-    ok (outcome (some (failedCall (bareCall (rowOf (s .rows) c .nonterminal) (rowOf (s .rows) c .start)) failure)) s)
-goesOn Settled.Over c again failure s = ok (outcome none s)
-goesOn Settled.Again c again failure s = again s
-goesOn Settled.Full c again failure s = met tooManyParses (s .units)
+abbrev pub afterRun : Settled → ℕ → (RowState → Result Outcome) → Option Error → RowState → Result Outcome
+afterRun Settled.Failed row again failure s =
+    let called = rowOf (s .rows) row in
+    ok (outcome (some (failedCall (bareCall (called .nonterminal) (called .start)) failure)) s)
+afterRun Settled.Over row again failure s = ok (outcome none s)
+afterRun Settled.Again row again failure s = again s
+afterRun Settled.Full row again failure s = met tooManyParses (s .units)
 
--- the first run of the call of row c is over
-pub record SettledFirst (r : Settled) (T U : List Row) (c : ℕ) : Type 0 where
+-- the first run of the call of a row is over
+pub record SettledFirst (r : Settled) (before after : List Row) (row : ℕ) : Type 0 where
   pub now : (book : Book) (text : List ℕ) (again : RowState → Result Outcome) (failure : Option Error)
       (units : ℕ) (cells : List Cell) →
-      settleFirst book text c again (outcome failure (rowState units cells T)) ≡
-      goesOn r c again failure (rowState units cells U)
+      settleFirst book text row again (outcome failure (rowState units cells before)) ≡
+      afterRun r row again failure (rowState units cells after)
 
 -- a further run of it is over
-pub record SettledNext (r : Settled) (T U : List Row) (c : ℕ) : Type 0 where
+pub record SettledNext (r : Settled) (before after : List Row) (row : ℕ) : Type 0 where
   pub now : (book : Book) (text : List ℕ) (again : RowState → Result Outcome) (failure : Option Error)
       (units : ℕ) (cells : List Cell) →
-      settle book text c again (rowState units cells T) ≡ goesOn r c again failure (rowState units cells U)
+      settle book text row again (rowState units cells before) ≡
+      afterRun r row again failure (rowState units cells after)

@@ -19,9 +19,10 @@ ghost use lib.ListN.{getD, length};
 ghost use Rattle.book.specs.Book.{associativityNumber};
 ghost use Rattle.book.specs.Index.{bookAt};
 ghost use Rattle.semantics.specs.Numbers.{mostNesting};
+ghost use Rattle.semantics.specs.Values.{absentParse};
 ghost use Rattle.semantics.specs.Uses.{hasMark, minimumOf};
 ghost use Rattle.semantics.specs.Run.{allIn, kept};
-ghost use Rattle.sets.specs.Sets.{parseOf, noParse};
+ghost use Rattle.sets.specs.Sets.{parseOf};
 ghost use Rattle.run_model.specs.Rows as model;
 ghost use Rattle.run_model.specs.Rows.{useAt, withSet};
 ghost use Rattle.calls.specs.Table.{InTable, NumberIn, Below, tableAt, tableAfter, rowIn, Changes};
@@ -152,7 +153,7 @@ pub fn found(rows: &[u32], row: usize) -> usize
 // The i-th parse that a row found, and a parse of zeros past the last.
 pub fn item(rows: &[u32], row: usize, i: usize) -> Parse
     requires { ⌜ InTable row rows ⌝ }
-    ensures { λ r. ⌜ parseOf r ≡ getD (rowIn rows row .set) i noParse ⌝ }
+    ensures { λ r. ⌜ parseOf r ≡ getD (rowIn rows row .set) i absentParse ⌝ }
 {
     sets::item(rows, row * WIDTH + SET, i)
 }

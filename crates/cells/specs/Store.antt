@@ -1,8 +1,8 @@
 -- Cells as numbers in a store, with an index by which the cell equal to a wanted one is found. This is no part of what
 -- document 01 says: `Makes` relates the store to the list of cells and to `make` of the definitions.
 --
--- The store has the three numbers of cell n at 3n - 3, its link at 12,287 + n, and the head of hash h at 16,384 + h. A
--- head is the newest cell of its hash, a link the next older one of the same hash, and 0 ends the chain.
+-- The store has the three numbers of cell n at 3n - 3, its link at `links` + n, and the head of hash h at `heads` + h.
+-- A head is the newest cell of its hash, a link the next older one of the same hash, and 0 ends the chain.
 use mathlib.Core.Path.{_≡_}
 use mathlib.Core.Bool.{Bool, cond}
 use mathlib.Core.List.{List, [], _∷_, _++_}
@@ -10,10 +10,27 @@ use Prim.Native.Nat.{ℕ, zero, suc, _+_, _-_, _*_, _%_, _≤_, _<_}
 use lib.Dec.{eqb, ltb}
 use lib.ListN.{length, getD, set, take}
 use Rattle.characters.specs.Spelling.{partOf, same}
+use Rattle.semantics.specs.Numbers.{cellsSize, mostCells, tooManyCells, nameForm}
 use Rattle.semantics.specs.Cells.{Cell, numbersOf, identityOf, cellsIn}
 use Rattle.semantics.specs.Run.{Result, met, ok, State, made, make}
 use Rattle.cells.specs.declared.numbers.Numbers.{Numbers}
 use Rattle.cells.specs.declared.store.Made.{Made}
+
+-- ---- The layout
+-- cells are numbered from 1, so that the first link stands right behind the cells
+abbrev pub links : ℕ
+links = cellsSize - 1
+
+-- behind the links of all cells
+abbrev pub heads : ℕ
+heads = cellsSize + mostCells
+
+-- how many hashes there are, and so heads
+abbrev pub hashes : ℕ
+hashes = 1024
+
+abbrev pub storeSize : ℕ
+storeSize = heads + hashes
 
 -- ---- The numbers of one cell
 abbrev pub listed : Numbers → List ℕ
@@ -21,14 +38,18 @@ listed c = c .form ∷ c .a ∷ c .b ∷ []
 
 -- `identityOf`, by the numbers
 unfoldable pub identityIn : List ℕ → Numbers → List ℕ
-identityIn text c = cond (eqb (c .form) 4) (4 ∷ partOf text (c .a) (c .b)) (listed c)
+identityIn text c = cond (eqb (c .form) nameForm) (nameForm ∷ partOf text (c .a) (c .b)) (listed c)
 
 -- equal cells, by their numbers
 abbrev pub sameIn : List ℕ → Numbers → Numbers → Bool
 sameIn text c d = same (identityIn text c) (identityIn text d)
 
+-- by which a hash is multiplied before the next number joins it
+abbrev pub multiplier : ℕ
+multiplier = 31
+
 abbrev pub mixed : ℕ → ℕ → ℕ
-mixed hash x = (hash * 31 + x) % 1024
+mixed hash x = (hash * multiplier + x) % hashes
 
 unfoldable pub hashFrom : ℕ → List ℕ → ℕ
 hashFrom hash [] = hash
@@ -44,10 +65,10 @@ numbersAt store n =
     record { form = getD store (n * 3 - 3) 0; a = getD store (n * 3 - 3 + 1) 0; b = getD store (n * 3 - 3 + 2) 0 }
 
 abbrev pub linkAt : List ℕ → ℕ → ℕ
-linkAt store n = getD store (12287 + n) 0
+linkAt store n = getD store (links + n) 0
 
 abbrev pub headAt : List ℕ → ℕ → ℕ
-headAt store hash = getD store (16384 + hash) 0
+headAt store hash = getD store (heads + hash) 0
 
 -- the first of at most k cells along the chain from n that is equal to c, or 0
 unfoldable pub findIn : List ℕ → List ℕ → Numbers → ℕ → ℕ → ℕ
@@ -59,16 +80,16 @@ findIn text store c (suc k) n =
 unfoldable pub pushed : List ℕ → Numbers → ℕ → ℕ → List ℕ
 pushed store c n hash =
     set
-    (set (set (set (set store (n * 3 - 3) (c .form)) (n * 3 - 3 + 1) (c .a)) (n * 3 - 3 + 2) (c .b)) (12287 + n)
+    (set (set (set (set store (n * 3 - 3) (c .form)) (n * 3 - 3 + 1) (c .a)) (n * 3 - 3 + 2) (c .b)) (links + n)
     (headAt store hash))
-    (16384 + hash)
+    (heads + hash)
     n
 
 -- what is made, and the store after it, where n is the equal cell that was found, if any
 abbrev pub madeAs : List ℕ → ℕ → Numbers → ℕ → ℕ → Made × List ℕ
 madeAs store count c hash n =
     cond (ltb 0 n) (Made.At n count, store)
-    (cond (ltb count 4096) (Made.At (count + 1) (count + 1), pushed store c (count + 1) hash) (Made.Full, store))
+    (cond (ltb count mostCells) (Made.At (count + 1) (count + 1), pushed store c (count + 1) hash) (Made.Full, store))
 
 abbrev pub madeIn : List ℕ → List ℕ → ℕ → Numbers → Made × List ℕ
 madeIn text store count c =
@@ -86,12 +107,12 @@ pub data Leads (store : List ℕ) : ℕ → ℕ → Type 0 where
 
 -- the store holds the cells, equal ones once, and its index leads to each
 pub record Holds (text store : List ℕ) (cells : List Cell) : Type 0 where
-  pub room : 17408 ≤ length store
-  pub few : length cells ≤ 4096
+  pub room : storeSize ≤ length store
+  pub few : length cells ≤ mostCells
   pub stored : (i : ℕ) → i < length cells → listed (numbersAt store (suc i)) ≡ numbersOf (getD cells i Cell.empty)
   pub once : (i k : ℕ) → i < length cells → k < length cells →
       identityOf text (getD cells i Cell.empty) ≡ identityOf text (getD cells k Cell.empty) → i ≡ k
-  pub heads : (hash : ℕ) → hash < 1024 → headAt store hash ≤ length cells
+  pub heads : (hash : ℕ) → hash < hashes → headAt store hash ≤ length cells
   pub older : (n : ℕ) → 0 < n → n ≤ length cells → linkAt store n < n
   pub reached : (n : ℕ) → 0 < n → n ≤ length cells → Leads store (headAt store (hashOf text (numbersAt store n))) n
 
@@ -108,7 +129,7 @@ countAfter Made.Full before = before
 abbrev pub given : Made → Cell → State → Result Rattle.semantics.specs.Run.Made
 given (Made.At n count) cell s =
     ok (made n (record { units = s .units; cells = cellsAfter (Made.At n count) (s .cells) cell; asked = s .asked }))
-given Made.Full cell s = met 23 (s .units)
+given Made.Full cell s = met tooManyCells (s .units)
 
 -- a cell was made of those that the store held
 pub record Making (text after : List ℕ) (cells : List Cell) (cell : Cell) (r : Made) : Type 0 where
@@ -120,12 +141,12 @@ pub record Making (text after : List ℕ) (cells : List Cell) (cell : Cell) (r :
 pub record Makes (text before after : List ℕ) (count : ℕ) (c : Numbers) (r : Made) : Type 0 where
   pub is : r ≡ madeIn text before count c .0
   pub store : after ≡ madeIn text before count c .1
-  pub beyond : (i : ℕ) → 17408 ≤ i → getD after i 0 ≡ getD before i 0
+  pub beyond : (i : ℕ) → storeSize ≤ i → getD after i 0 ≡ getD before i 0
   pub does : (cells : List Cell) (cell : Cell) → Holds text before cells → length cells ≡ count →
       listed c ≡ numbersOf cell → Making text after cells cell r
 
 -- what `clear` promises: no cells, for any text; and the heads alone are stored
 pub record Cleared (before after : List ℕ) : Type 0 where
-  pub holds : (text : List ℕ) → 17408 ≤ length before → Holds text after []
-  pub below : (i : ℕ) → i < 16384 → getD after i 0 ≡ getD before i 0
-  pub beyond : (i : ℕ) → 17408 ≤ i → getD after i 0 ≡ getD before i 0
+  pub holds : (text : List ℕ) → storeSize ≤ length before → Holds text after []
+  pub below : (i : ℕ) → i < heads → getD after i 0 ≡ getD before i 0
+  pub beyond : (i : ℕ) → storeSize ≤ i → getD after i 0 ≡ getD before i 0

@@ -2,7 +2,7 @@
 ghost use mathlib.Core.Path.{_≡_};
 ghost use Prim.Native.Nat.{_<_, _/_, _%_, _^_};
 ghost use Rattle.semantics.specs.Cells.{Cell, numbersOf};
-ghost use Rattle.cells.specs.Store.{listed, sameIn, mixed, hashFrom, hashOf};
+ghost use Rattle.cells.specs.Store.{hashes, listed, sameIn, mixed, hashFrom, hashOf};
 use characters::part;
 use characters::same_spelling;
 
@@ -33,6 +33,9 @@ pub const LIST_FORM: u32 = 8;
 
 // how many hashes there are, and so chains of cells with one hash
 pub const HASHES: usize = 1024;
+
+// by which a hash is multiplied before the next number joins it
+const MULTIPLIER: usize = 31;
 
 pub fn empty() -> Numbers
     ensures { λ r. ⌜ listed r ≡ numbersOf Cell.empty ⌝ }
@@ -139,15 +142,15 @@ pub fn same_cell(text: &[u8], c: Numbers, d: Numbers) -> bool
 
 // One number more in a hash.
 fn mix(hash: usize, x: usize) -> usize
-    requires { ⌜ (hash < 1024) × (x < 4294967296) ⌝ }
-    ensures { λ r. ⌜ (r ≡ mixed hash x) × (r < 1024) ⌝ }
+    requires { ⌜ (hash < hashes) × (x < 4294967296) ⌝ }
+    ensures { λ r. ⌜ (r ≡ mixed hash x) × (r < hashes) ⌝ }
 {
-    (hash * 31 + x) % HASHES
+    (hash * MULTIPLIER + x) % HASHES
 }
 
 fn mix_bytes(first: usize, bytes: &[u8]) -> usize
-    requires { ⌜ first < 1024 ⌝ }
-    ensures { λ r. ⌜ (r ≡ hashFrom first (now (bytes .entry))) × (r < 1024) ⌝ }
+    requires { ⌜ first < hashes ⌝ }
+    ensures { λ r. ⌜ (r ≡ hashFrom first (now (bytes .entry))) × (r < hashes) ⌝ }
 {
     let mut hash = first;
     let mut i = 0;
@@ -160,7 +163,7 @@ fn mix_bytes(first: usize, bytes: &[u8]) -> usize
 
 // A name's hash is one of its spelling, not of its place.
 pub fn hash(text: &[u8], cell: Numbers) -> usize
-    ensures { λ r. ⌜ (r ≡ hashOf (now (text .entry)) cell) × (r < 1024) ⌝ }
+    ensures { λ r. ⌜ (r ≡ hashOf (now (text .entry)) cell) × (r < hashes) ⌝ }
 {
     if cell.form == NAME_FORM {
         return mix_bytes(

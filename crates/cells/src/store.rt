@@ -3,7 +3,7 @@ ghost use mathlib.Core.Path.{_≡_};
 ghost use mathlib.Core.List.{List, []};
 ghost use Prim.Native.Nat.{ℕ, _≤_, _<_};
 ghost use lib.ListN.{length, getD, set};
-ghost use Rattle.cells.specs.Store.{numbersAt, findIn, pushed, Makes, Cleared};
+ghost use Rattle.cells.specs.Store.{hashes, numbersAt, findIn, pushed, Makes, Cleared};
 use crate::numbers::HASHES;
 use crate::numbers::Numbers;
 use crate::numbers::hash;
@@ -79,7 +79,7 @@ fn find(text: &[u8], store: &[u32], c: Numbers, count: u32, first: u32) -> u32
 
 // Cell n is c, the newest of its hash.
 fn push(store: &mut [u32], c: Numbers, n: u32, hash: usize)
-    requires { ⌜ (0 < n) × (hash < 1024) ⌝ }
+    requires { ⌜ (0 < n) × (hash < hashes) ⌝ }
     ensures { λ _. ⌜ now (store .exit) ≡ pushed (now (store .entry)) c n hash ⌝ }
 {
     let at = n as usize * 3 - 3;
@@ -118,7 +118,7 @@ pub fn clear(store: &mut [u32])
     ensures { λ _. ⌜ Cleared (now (store .entry)) (now (store .exit)) ⌝ }
 {
     let mut i = 0;
-    while i < 1024 {
+    while i < HASHES {
         put(store, HEADS + i, 0);
         i += 1;
     }

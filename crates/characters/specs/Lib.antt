@@ -1,4 +1,4 @@
--- Document 01, "Characters". The definitions: Classes, Skipping, Tokens, Spelling. The laws about each stand in a file
+-- Document 01, "Characters". The definitions: Classes, Skipping, Lexemes, Spelling. The laws about each stand in a file
 -- of their own. Slices has the words in which all contracts speak of a lent slice.
 pub mod Cases
 pub mod Slices
@@ -6,7 +6,7 @@ pub mod Classes
 pub mod ClassLaws
 pub mod Skipping
 pub mod SkippingLaws
-pub mod Tokens
-pub mod TokenLaws
+pub mod Lexemes
+pub mod LexemeLaws
 pub mod Spelling
 pub mod SpellingLaws

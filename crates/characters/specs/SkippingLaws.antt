@@ -7,7 +7,7 @@
 --   skip-        skipping: `skip-stop` and `skip-on` are document 01's sentence, without a number of rounds;
 --                where it ends nothing is left to skip
 --
--- Not here: what stands at a place (TokenLaws).
+-- Not here: what stands at a place (LexemeLaws).
 use mathlib.Core.Path.{_≡_, refl, sym, ap, _∙_}
 use mathlib.Core.Bool.{Bool, true, false, not}
 use mathlib.Core.List.{List, [], _∷_}

@@ -17,14 +17,3 @@ atEntry slice = now (slice .entry)
 
 abbrev pub atExit : Lent → List ℕ
 atExit slice = now (slice .exit)
-
--- ---- The sizes of the slices that a call works in
--- a book's index, the store of cells, the rows of calls
-abbrev pub indexSize : ℕ
-indexSize = 1091
-
-abbrev pub storeSize : ℕ
-storeSize = 17408
-
-abbrev pub rowsSize : ℕ
-rowsSize = 104922

@@ -1,7 +1,7 @@
 // What begins at a place: an identifier, a number, or neither. A token skips first, so callers ask at a skipped place.
 ghost use mathlib.Core.Path.{_≡_};
 ghost use Prim.Native.Nat.{_-_};
-ghost use Rattle.characters.specs.Tokens.{identifierAt, numberAt, decimal, numberOf};
+ghost use Rattle.characters.specs.Lexemes.{identifierAt, numberAt, decimal, numberOf};
 use crate::classes::Class;
 use crate::classes::byte_at;
 use crate::classes::is_of;

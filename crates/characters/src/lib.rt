@@ -4,8 +4,8 @@
 // and every place, a place beyond the end included. No public function has a `requires`. The crate relies on nothing
 // but `std`, and assumes nothing.
 //
-// specs/ has the definitions (Classes, Skipping, Tokens, Spelling) and, in files of their own, the laws that the layers
-// above cite; and the words in which the contracts of all crates speak of a lent slice (Slices).
+// specs/ has the definitions (Classes, Skipping, Lexemes, Spelling) and, in files of their own, the laws that the
+// layers above cite; and the words in which the contracts of all crates speak of a lent slice (Slices).
 mod classes;
 mod lexemes;
 mod skipping;

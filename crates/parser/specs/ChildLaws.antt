@@ -12,14 +12,14 @@ use native.Mathlib.Omega.{arith}
 use lib.ListN.{getD, length}
 use Rattle.characters.specs.Skipping.{skipFrom}
 use Rattle.book.specs.Book.{Book}
-use Rattle.semantics.specs.Values.{Parse}
+use Rattle.semantics.specs.Values.{Parse, absentParse}
 use Rattle.semantics.specs.Steps.{Todo}
 use Rattle.semantics.specs.Errors.{Error}
 use Rattle.semantics.specs.Cells.{Cell}
 use Rattle.semantics.specs.Run.{Result, met, _>>=_}
 use Rattle.run_model.specs.Rows.{Row, rowOf, onRow, withChild}
 use Rattle.run_model.specs.Model as model
-use Rattle.run_model.specs.Model.{RowState, rowState, outcome, RowRunner, RowNext, noParse, together}
+use Rattle.run_model.specs.Model.{RowState, rowState, outcome, RowRunner, RowNext, together}
 use Rattle.run_model.specs.Model.{enterRows, runnerRows, stepsRows, nestedRows, enterChildRows, followFrom, followedRows}
 use Rattle.errors.specs.Maps.{failureOf}
 use Rattle.transitions.specs.declared.outcomes.Outcome.{Outcome}
@@ -85,12 +85,12 @@ nested-some book text inner n s f run e = rw e
 
 follow-turn : (book : Book) (text : List ℕ) (n : ℕ) (next : RowNext) (k i : ℕ) (failure : Option Error) (s : RowState) → 0 < n →
     followFrom book text (runnerRows book text n) n next (suc k) i failure s ≡
-    (next (getD (rowOf (s .rows) n .set) i noParse) s (innerRunner book text n) >>= (λ o.
+    (next (getD (rowOf (s .rows) n .set) i absentParse) s (innerRunner book text n) >>= (λ o.
     followFrom book text (runnerRows book text n) n next k (suc i) (together i failure (o .failure)) (o .state)))
 unfolding followFrom
 follow-turn book text n next k i failure s h =
     ap (λ (x : Result model.Outcome). x >>= (λ o. followFrom book text (runnerRows book text n) n next k (suc i) (together i failure (o .failure)) (o .state)))
-    (nested-some book text (runnerRows book text n) n s (λ run. next (getD (rowOf (s .rows) n .set) i noParse) s run) (innerRunner book text n) (runner-some book text n h))
+    (nested-some book text (runnerRows book text n) n s (λ run. next (getD (rowOf (s .rows) n .set) i absentParse) s run) (innerRunner book text n) (runner-some book text n h))
 
 module _ (book : Book) (text : List ℕ) (n c j : ℕ) (rest : List (Todo ℕ)) (next : Next) (items k i : ℕ) (st0 : List ℕ) (c0 : ℕ) (z : Result model.Outcome)
     (st : List ℕ) (T : List Row) (o : Outcome)
@@ -107,7 +107,7 @@ module _ (book : Book) (text : List ℕ) (n c j : ℕ) (rest : List (Todo ℕ)) 
   unfolding followFrom nestedRows runnerRows _>>=_ given
   follow-deep r er l e held = let g = inv held in rw er (record { is = rw (sub-turn k i l, e) at (g .is); held = g .held })
 
-  module _ (l : i < k) (h : n ≡ 0 → ⊥) (q : Parse ℕ) (eq : q ≡ getD (rowOf T n .set) i noParse) (st1 st2 : List ℕ) (U : List Row) (g : Stage) (a all : Outcome)
+  module _ (l : i < k) (h : n ≡ 0 → ⊥) (q : Parse ℕ) (eq : q ≡ getD (rowOf T n .set) i absentParse) (st1 st2 : List ℕ) (U : List Row) (g : Stage) (a all : Outcome)
       (S : Stages book text st (o .state) st1 j g (λ inner n c rest s. nextRows book text c j rest next items q s (stepsRows book text inner n)))
       (R : Runs text st1 (g .outcome .state .cells) st2 U a (λ cells.
       resumes book text (runnerRows book text (n - 1)) (n - 1) c j rest (g .doing) (g .place) (g .items) (given (g .outcome) cells T)))

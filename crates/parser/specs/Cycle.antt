@@ -9,7 +9,7 @@ use Prim.Native.Nat.{ℕ, _+_, _≤_, _<_}
 use lib.Dec.{leb}
 use lib.ListN.{length}
 use denote.Ref.{now}
-use Rattle.characters.specs.Slices.{Slice, rowsSize}
+use Rattle.characters.specs.Slices.{Slice}
 use Rattle.book.specs.Book.{Book, nthVariant}
 use Rattle.book.specs.Index.{bookIn}
 use Rattle.semantics.specs.Numbers.{mostNesting, mostRounds}
@@ -22,6 +22,7 @@ use Rattle.run_model.specs.Model.{RowState, Outcome, outcome, RowRunner, makes,
 use Rattle.run_model.specs.Model.{followedRows, orChild}
 use Rattle.run_model.specs.Model.{oneRunRows, roundsRows, runCallRows, enterRows, runnerRows}
 use Rattle.errors.specs.Maps.{failureOf}
+use Rattle.calls.specs.Table.{rowsSize}
 use Rattle.transitions.specs.declared.outcomes.Outcome as code
 use Rattle.transitions.specs.declared.stages.Doing.{Doing}
 use Rattle.transitions.specs.declared.stages.Next.{Next}

@@ -19,12 +19,11 @@ use lib.Seq.{take-suc, drop-cons, length-take-le, take-all}
 use borrow.Author.Tests.{lt-ltb, le-ltb, le-leb, lt-leb}
 use Rattle.characters.specs.Cases.{by-test}
 use Rattle.book.specs.Book.{associativityNumber}
-use Rattle.semantics.specs.Values.{Parse, whole}
+use Rattle.semantics.specs.Values.{Parse, absentParse, whole}
 use Rattle.semantics.specs.Tokens.{when}
 use Rattle.semantics.specs.Run.{Parsed}
 use Rattle.semantics.specs.Answer.{answer, written, parseNumbers, wholeValues, allAre, firstHigh, filled, byValues}
 use Rattle.sets.specs.Sets as sets
-use Rattle.sets.specs.Sets.{noParse}
 use Rattle.sets.specs.PlaceLaws.{set-le}
 use Rattle.run_model.specs.Rows.{rowOf}
 use Rattle.calls.specs.Table.{table}
@@ -118,26 +117,26 @@ pub parses-first : (size : ℕ) (lent : List ℕ) (ps : List (Parse ℕ)) → wr
 unfolding parseNumbers
 parses-first size lent ps = refl
 
-pub parses-again : (size : ℕ) (lent : List ℕ) (ps : List (Parse ℕ)) (i : ℕ) (p : Parse ℕ) → i < length ps → 4 * i + 4 ≤ size → p ≡ getD ps i noParse →
+pub parses-again : (size : ℕ) (lent : List ℕ) (ps : List (Parse ℕ)) (i : ℕ) (p : Parse ℕ) → i < length ps → 4 * i + 4 ≤ size → p ≡ getD ps i absentParse →
     sets.written (written size (parseNumbers (take i ps)) lent) (4 * i) p ≡ written size (parseNumbers (take (i + 1) ps)) lent
 parses-again size lent ps i p h room e =
     let l : length (take i ps) ≡ i = length-take-le i ps (omega arith) in
     written-four size lent (parseNumbers (take i ps)) (4 * i) p (omega (arith, parse-numbers-length (take i ps))) room
     ∙ ap (λ (numbers : List ℕ). written size numbers lent)
-    (sym (parse-numbers-snoc (take i ps) p) ∙ ap (λ (q : Parse ℕ). parseNumbers (take i ps ++ (q ∷ []))) e ∙ ap parseNumbers (sym (take-suc ps i noParse h)))
+    (sym (parse-numbers-snoc (take i ps) p) ∙ ap (λ (q : Parse ℕ). parseNumbers (take i ps ++ (q ∷ []))) e ∙ ap parseNumbers (sym (take-suc ps i absentParse h)))
     ∙ rw (add-one i)
 
 pub parses-end : (size : ℕ) (lent : List ℕ) (ps : List (Parse ℕ)) (i : ℕ) → length ps ≤ i → written size (parseNumbers (take i ps)) lent ≡ written size (parseNumbers ps) lent
 parses-end size lent ps i h = rw (take-all i ps h)
 
 -- ---- Whole parses
-pub values-again : (text : List ℕ) (ps : List (Parse ℕ)) (i : ℕ) (values more : Values) (p : Parse ℕ) → i < length ps → p ≡ getD ps i noParse →
+pub values-again : (text : List ℕ) (ps : List (Parse ℕ)) (i : ℕ) (values more : Values) (p : Parse ℕ) → i < length ps → p ≡ getD ps i absentParse →
     more ≡ withParse text values p → withValues more (wholeValues text (drop (i + 1) ps)) ≡ withValues values (wholeValues text (drop i ps))
 unfolding wholeValues withValues
 values-again text ps i values more p h e t =
     by-test (whole text p)
-    (λ w. rw (add-one i, drop-cons ps i noParse h, ← e, t, w))
-    (λ w. rw (add-one i, drop-cons ps i noParse h, ← e, t, w))
+    (λ w. rw (add-one i, drop-cons ps i absentParse h, ← e, t, w))
+    (λ w. rw (add-one i, drop-cons ps i absentParse h, ← e, t, w))
 
 pub values-end : (text : List ℕ) (ps : List (Parse ℕ)) (i : ℕ) (values : Values) → length ps ≤ i → withValues values (wholeValues text (drop i ps)) ≡ values
 unfolding wholeValues withValues

@@ -7,14 +7,17 @@ use mathlib.Core.List.{List}
 use Prim.Native.Nat.{ℕ}
 use lib.Dec.{ltb}
 use lib.ListN.{length}
-use Rattle.characters.specs.Slices.{Lent, atEntry, atExit, indexSize, storeSize, rowsSize}
+use Rattle.characters.specs.Slices.{Lent, atEntry, atExit}
 use Rattle.book.specs.Book.{Book}
 use Rattle.book.specs.Check.{checkBook}
 use Rattle.book.specs.Check as check
+use Rattle.book.specs.Index.{indexSize}
 use Rattle.book.specs.Numbers.{shortLists}
 use Rattle.semantics.specs.Numbers.{notAccepted, isLimit}
 use Rattle.semantics.specs.Answer.{Answer, Answered, answer, untouched, answerOf}
 use Rattle.semantics.specs.Exact.{Exact}
+use Rattle.cells.specs.Store.{storeSize}
+use Rattle.calls.specs.Table.{rowsSize}
 use Rattle.run.specs.declared.reader.Answer as code
 
 -- ---- The answer

@@ -8,11 +8,11 @@ use Prim.Native.Nat.{ℕ, _≤_}
 use lib.Dec.{ltb, eqb}
 use lib.ListN.{length}
 use denote.Ref.{now}
-use Rattle.characters.specs.Slices.{Slice, Lent, atEntry, atExit, indexSize, storeSize, rowsSize}
+use Rattle.characters.specs.Slices.{Slice, Lent, atEntry, atExit}
 use Rattle.book.specs.Book.{Book}
 use Rattle.book.specs.Check.{checkBook}
 use Rattle.book.specs.Check as check
-use Rattle.book.specs.Index.{bookIn}
+use Rattle.book.specs.Index.{indexSize, bookIn}
 use Rattle.semantics.specs.Numbers.{cellsSize, parsesSize, mostUnits, mostNesting, mostCells, noneWhole}
 use Rattle.semantics.specs.Numbers.{differentValues}
 use Rattle.semantics.specs.Values.{Parse, whole}
@@ -20,7 +20,8 @@ use Rattle.semantics.specs.Run.{Result, Parsed}
 use Rattle.semantics.specs.Run as definition
 use Rattle.semantics.specs.Answer.{Answer, Answered, answer, written, parseNumbers}
 use Rattle.run_model.specs.Theorem.{seen}
-use Rattle.calls.specs.Table.{table, rowIn}
+use Rattle.cells.specs.Store.{storeSize}
+use Rattle.calls.specs.Table.{rowsSize, table, rowIn}
 use Rattle.transitions.specs.declared.outcomes.Outcome.{Outcome}
 use Rattle.transitions.specs.Outcomes.{cellsOf, Held, given}
 use Rattle.transitions.specs.Fit.{Fit}

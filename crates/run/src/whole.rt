@@ -2,12 +2,11 @@
 ghost use mathlib.Core.Path.{_≡_};
 ghost use Prim.Native.Nat.{_≤_};
 ghost use lib.ListN.{length};
-ghost use Rattle.characters.specs.Slices.{rowsSize};
 ghost use Rattle.semantics.specs.Answer.{wholeValues};
 ghost use Rattle.semantics.specs.Numbers.{mostNesting};
 ghost use Rattle.semantics.specs.Values.{whole as wholeIn};
 ghost use Rattle.sets.specs.Sets.{parseOf};
-ghost use Rattle.calls.specs.Table.{rowIn};
+ghost use Rattle.calls.specs.Table.{rowsSize, rowIn};
 ghost use Rattle.run.specs.Reading.{withValue, withValues, withParse};
 ghost use Rattle.run.specs.declared.whole.Values as values;
 use calls::MOST_NESTING;

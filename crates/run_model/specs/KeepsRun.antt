@@ -12,7 +12,7 @@ use Rattle.characters.specs.Classes.{between}
 use Rattle.characters.specs.Skipping.{skipFrom}
 use Rattle.book.specs.Book.{Book, nthVariant, stepNumber}
 use Rattle.book.specs.declared.records.Step.{Step}
-use Rattle.semantics.specs.Values.{Parse}
+use Rattle.semantics.specs.Values.{Parse, absentParse}
 use Rattle.semantics.specs.Uses.{hasMark}
 use Rattle.semantics.specs.Tokens.{when}
 use Rattle.semantics.specs.Steps.{stepAt, afterElement, closed, Todo, taking, elements, ending, todoOf}
@@ -20,7 +20,7 @@ use Rattle.semantics.specs.Cells.{Cell}
 use Rattle.semantics.specs.Errors.{Error}
 use Rattle.semantics.specs.Run.{Result, ok, _>>=_, allIn, addAll, begin}
 use Rattle.run_model.specs.Rows.{Row, opened, ended, withChild, wasAsked, withSet, withRun, copied, rowOf, onRow, governorOf}
-use Rattle.run_model.specs.Model.{RowState, rowState, Outcome, RowRunner, RowGo, RowNext, unmarked, atRow, spendRows, noParse, addRun, completeRows, takeVariant, variantsRows, oneRunRows, settle, roundsRows, settleFirst, runCallRows, namedRows, runIdentifierRows, plainNextRows, listNextRows, stopsRows, nestedRows, answered, storedRows, enterRows, enterChildRows, followFrom, followedRows, stepUnitRows, orChild, orAbsentRows, choiceRows, listingRows, stepsRows, runnerRows}
+use Rattle.run_model.specs.Model.{RowState, rowState, Outcome, RowRunner, RowGo, RowNext, unmarked, atRow, spendRows, addRun, completeRows, takeVariant, variantsRows, oneRunRows, settle, roundsRows, settleFirst, runCallRows, namedRows, runIdentifierRows, plainNextRows, listNextRows, stopsRows, nestedRows, answered, storedRows, enterRows, enterChildRows, followFrom, followedRows, stepUnitRows, orChild, orAbsentRows, choiceRows, listingRows, stepsRows, runnerRows}
 use Rattle.run_model.specs.Keeps.{Keeps, KeepsAt, Called, keeps-refl, keeps-then, keeps-put, keeps-mark, at-refl, at-then, at-put, at-of, at-less, run-refl, run-then, run-put, run-of, called-put, called-then, On, on-met, on-ok, on-bind, on-map, on-any, on-when, on-option, on-list, on-after, on-governor, on-taken, on-makes, on-spend, Beside, Ran, Calls, Fits, Keeping, Inner, last, more, on-nested}
 
 -- ---- A call at row n, whose variants run with row m = n - 1 free
@@ -153,7 +153,7 @@ module _ (book : Book) (text : List ℕ) (n : ℕ) (inner : Option RowRunner) (i
     unfolding followFrom
     keeps-follow next f zero i e s h = on-ok (Beside c n (s .rows)) at-refl
     keeps-follow next f (suc k) i e s h =
-        on-bind (Beside c n (s .rows)) (Beside c n (s .rows)) _ _ (keeps-one next f (getD (rowOf (s .rows) n .set) i noParse) s h)
+        on-bind (Beside c n (s .rows)) (Beside c n (s .rows)) _ _ (keeps-one next f (getD (rowOf (s .rows) n .set) i absentParse) s h)
         (λ o a. on-map (Beside c n (o .state .rows)) (Beside c n (s .rows)) _ (keeps-follow next f k (suc i) _ (o .state) (a .size ∙ h)) (λ p b. at-then a b))
 
     pub keeps-followed : (next : RowNext) → KeepsNext next → (o : Outcome) → length (o .state .rows) ≡ 201 →

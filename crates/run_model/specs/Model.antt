@@ -18,7 +18,7 @@ use Rattle.book.specs.declared.records.Associativity.{Associativity}
 use Rattle.book.specs.declared.records.Step.{Step}
 use Rattle.book.specs.Numbers.{defaultLevel}
 use Rattle.semantics.specs.Numbers.{mostNesting, mostRounds, tooDeep, tooManyParses, characterWanted, nonterminalWanted}
-use Rattle.semantics.specs.Values.{Parse}
+use Rattle.semantics.specs.Values.{Parse, absentParse}
 use Rattle.semantics.specs.Uses.{hasMark}
 use Rattle.semantics.specs.Tokens.{when, isSome, variableAt, freeEnd}
 use Rattle.semantics.specs.Steps.{Taken, stepAt, goes, halts, afterElement, closed, Todo, taking, elements, ending}
@@ -102,10 +102,6 @@ failsEmpty (p ∷ ps) e = none
 unfoldable pub together : ℕ → Option Error → Option Error → Option Error
 together zero before failure = failure
 together (suc i) before failure = either before failure
-
--- no parse, where none is asked for
-abbrev pub noParse : Parse ℕ
-noParse = record { rest = 0; level = 0; associativity = Associativity.Left; value = 0 }
 
 module _ (book : Book) (text : List ℕ) where
   -- ---- The end of a variant
@@ -252,7 +248,7 @@ module _ (book : Book) (text : List ℕ) (inner : Option RowRunner) (n : ℕ) wh
   unfoldable pub followFrom : RowNext → ℕ → ℕ → Option Error → RowState → Result Outcome
   followFrom next zero i failure s = ok (outcome failure s)
   followFrom next (suc k) i failure s = do
-    o ← nestedRows s (λ run. next (getD (rowOf (s .rows) n .set) i noParse) s run)
+    o ← nestedRows s (λ run. next (getD (rowOf (s .rows) n .set) i absentParse) s run)
     followFrom next k (suc i) (together i failure (o .failure)) (o .state)
 
   abbrev pub followRows : RowNext → RowState → Result Outcome

@@ -17,7 +17,7 @@ use Rattle.characters.specs.Skipping.{skipFrom}
 use Rattle.book.specs.Book.{Book, nthVariant, stepNumber}
 use Rattle.book.specs.ReadingLaws.{associativity-of-number}
 use Rattle.book.specs.declared.records.Step.{Step}
-use Rattle.semantics.specs.Values.{Parse}
+use Rattle.semantics.specs.Values.{Parse, absentParse}
 use Rattle.semantics.specs.Uses.{useOf}
 use Rattle.semantics.specs.Tokens.{when}
 use Rattle.semantics.specs.Steps.{Token, stepAt, afterElement, closed, Todo, taking, elements, ending}
@@ -25,7 +25,7 @@ use Rattle.semantics.specs.Cells.{Cell}
 use Rattle.semantics.specs.Errors.{Error}
 use Rattle.semantics.specs.Run.{Result, ok, _>>=_, State, Parsed, parsed, Call, call, Runner, Go, Next, add, spend, make, chosen, complete, withToken, plainNext, listNext, stops, nested, enterChild, followMore, follow, followed, stepUnit, orAbsent, choice, listing, steps, run}
 use Rattle.run_model.specs.Rows.{Row, withChild, withRun, rowOf, onRow, openAbove, useAt, askedAt, setAt, marksOf, pathOf, callOf}
-use Rattle.run_model.specs.Model.{RowState, rowState, Outcome, outcome, RowRunner, RowGo, RowNext, makes, spendRows, noParse, chosenFailure, together, valueCell, parseOf, addRun, completeRows, plainNextRows, listNextRows, stopsRows, nestedRows, enterChildRows, followFrom, followedRows, stepUnitRows, chosenRows, orChild, orAbsentRows, choiceRows, listingRows, stepsRows}
+use Rattle.run_model.specs.Model.{RowState, rowState, Outcome, outcome, RowRunner, RowGo, RowNext, makes, spendRows, chosenFailure, together, valueCell, parseOf, addRun, completeRows, plainNextRows, listNextRows, stopsRows, nestedRows, enterChildRows, followFrom, followedRows, stepUnitRows, chosenRows, orChild, orAbsentRows, choiceRows, listingRows, stepsRows}
 use Rattle.run_model.specs.Keeps.{row-put, KeepsAt, Called, at-put, Beside, Calls, Keeping, Inner}
 use Rattle.run_model.specs.KeepsRun.{keeps-child, child-leaves, KeepsNext, keeps-one, keeps-followed, keeps-plain-next, keeps-list-next, KeepsGo, keeps-stops, keeps-steps}
 use Rattle.run_model.specs.Views.{open-put, open-skips}
@@ -108,9 +108,9 @@ module _ (book : Book) (text : List ℕ) (n : ℕ) (inner : Option RowRunner) (i
       unfolding followMore followFrom together see
       sim-more Q zero i e units cells T f g h = let z : suc i ≡ length Q = omega arith in rw (z, drop-length Q)
       sim-more Q (suc k) i e units cells T f g h =
-          rw (drop-cons Q (suc i) noParse (omega arith), f)
-          (then-see (ranAt c) (ranAt c) (Beside c n T) _ _ _ _ (sim-one (getD Q (suc i) noParse) units cells T h)
-          (keeps-one book text n inner inners room c below within next keeps (getD Q (suc i) noParse) (rowState units cells T) (h .standing .size))
+          rw (drop-cons Q (suc i) absentParse (omega arith), f)
+          (then-see (ranAt c) (ranAt c) (Beside c n T) _ _ _ _ (sim-one (getD Q (suc i) absentParse) units cells T h)
+          (keeps-one book text n inner inners room c below within next keeps (getD Q (suc i) absentParse) (rowState units cells T) (h .standing .size))
           (λ o a. sim-more Q k (suc i) _ (o .state .units) (o .state .cells) (o .state .rows) (set-stays T (o .state .rows) a ∙ f) (omega arith)
           (here-keeps book C c n j T (o .state .rows) h a)))
 

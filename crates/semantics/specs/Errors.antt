@@ -5,7 +5,7 @@ use mathlib.Core.Option.{Option, none, some}
 use Prim.Native.Nat.{ℕ}
 use lib.Dec.{leb, ltb, eqb}
 use lib.ListN.{length}
-use Rattle.characters.specs.Tokens.{numberAt}
+use Rattle.characters.specs.Lexemes.{numberAt}
 use Rattle.characters.specs.declared.lexemes.Number.{Number}
 use Rattle.book.specs.Book.{Book}
 use Rattle.book.specs.declared.records.Step.{Step}

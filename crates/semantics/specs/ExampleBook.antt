@@ -8,7 +8,7 @@ use Rattle.semantics.specs.Numbers.{cellsSize, parsesSize, mostUnits}
 use Rattle.semantics.specs.Values.{Tree, no-trees, _▸_}
 use Rattle.characters.specs.Classes.{classOf}
 use Rattle.characters.specs.Skipping.{leading, spanEnd, commentAt, commentEnd, roundEnd, skipRounds, skipFrom}
-use Rattle.characters.specs.Tokens.{identifierAt, decimal, numberOf, numberAt}
+use Rattle.characters.specs.Lexemes.{identifierAt, decimal, numberOf, numberAt}
 use Rattle.characters.specs.Spelling.{same}
 use Rattle.book.specs.Book.{isReserved, lookupFrom}
 use Rattle.book.specs.Check.{checked, row, spelling, entry, nonterminal, variant, stepOf, step, allPass, ended}

@@ -8,7 +8,7 @@ use lib.Dec.{eqb}
 use lib.ListN.{take, drop}
 use Rattle.characters.specs.Skipping.{skipFrom}
 use Rattle.characters.specs.Spelling.{same}
-use Rattle.characters.specs.Tokens.{numberAt}
+use Rattle.characters.specs.Lexemes.{numberAt}
 use Rattle.characters.specs.declared.lexemes.Number.{Number}
 use Rattle.book.specs.Book.{Book, nthEntry}
 use Rattle.book.specs.declared.records.Step.{Step}

@@ -8,7 +8,7 @@ use lib.Dec.{ltb, eqb}
 use lib.ListN.{length, getD}
 use Rattle.characters.specs.Skipping.{skipFrom}
 use Rattle.characters.specs.Spelling.{partOf}
-use Rattle.characters.specs.Tokens.{identifierAt}
+use Rattle.characters.specs.Lexemes.{identifierAt}
 use Rattle.characters.specs.declared.lexemes.Identifier.{Identifier}
 use Rattle.book.specs.Book.{Book, isReserved, lookupName}
 use Rattle.book.specs.declared.names.Found.{Found}

@@ -32,6 +32,10 @@ pub record Parse (Value : Type 0) : Type 0 where
   pub associativity : Associativity
   pub value : Value
 
+-- what stands for a parse where a list has none
+abbrev pub absentParse : Parse ℕ
+absentParse = record { rest = 0; level = 0; associativity = Associativity.Left; value = 0 }
+
 -- "A parse is whole, and its derivation reaches the end, when skipping from its rest gives the text's length"
 abbrev pub whole : {Value : Type 0} → List ℕ → Parse Value → Bool
 whole text p = eqb (skipFrom text (p .rest)) (length text)

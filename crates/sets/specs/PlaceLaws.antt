@@ -19,8 +19,8 @@ use lib.Seq.{getD-set-same, getD-set-other}
 use borrow.Author.Tests.{ltb-true, ltb-false}
 use Rattle.book.specs.Book.{associativityNumber}
 use Rattle.book.specs.ReadingLaws.{associativity-of-number}
-use Rattle.semantics.specs.Values.{Parse}
-use Rattle.sets.specs.Sets.{noParse, parseAt, listAt, countOf, setAt, written, Only}
+use Rattle.semantics.specs.Values.{Parse, absentParse}
+use Rattle.sets.specs.Sets.{parseAt, listAt, countOf, setAt, written, Only}
 
 -- ---- Only
 pub only-refl : {f : List ℕ} {b m : ℕ} → Only f f b m
@@ -71,7 +71,7 @@ unfolding listAt
 list-snoc f b zero p h = let e : p ≡ b = omega arith in rw e
 list-snoc f b (suc k) p h = let e : suc k + 1 ≡ suc (k + 1) = omega arith in rw e (rw (list-snoc f (b + 4) k p (omega arith)))
 
-pub list-item : (f : List ℕ) (b k i p : ℕ) → i < k → p ≡ b + 4 * i → getD (listAt f b k) i noParse ≡ parseAt f p
+pub list-item : (f : List ℕ) (b k i p : ℕ) → i < k → p ≡ b + 4 * i → getD (listAt f b k) i absentParse ≡ parseAt f p
 unfolding listAt
 list-item f b zero i p h e = absurd (omega arith)
 list-item f b (suc k) zero p h e = let q : p ≡ b = omega arith in rw q
@@ -119,7 +119,7 @@ pub set-none : (f : List ℕ) (b : ℕ) → b < length f → setAt (set f b 0) b
 unfolding setAt listAt
 set-none f b h = rw (getD-set-same f b 0 0 h)
 
-pub set-item : (f : List ℕ) (b i p : ℕ) → i < length (setAt f b) → p ≡ b + 1 + 4 * i → getD (setAt f b) i noParse ≡ parseAt f p
+pub set-item : (f : List ℕ) (b i p : ℕ) → i < length (setAt f b) → p ≡ b + 1 + 4 * i → getD (setAt f b) i absentParse ≡ parseAt f p
 set-item f b i p h e = rw (set-list f b (length (setAt f b)) refl) (list-item f (b + 1) (length (setAt f b)) i p h e)
 
 -- ---- A parse that is written, number by number

@@ -17,9 +17,10 @@ ghost use Prim.Native.Nat.{_+_, _≤_};
 ghost use lib.ListN.{getD, length};
 ghost use Rattle.book.specs.Book.{associativityNumber};
 ghost use Rattle.book.specs.Check.{associativityOf};
+ghost use Rattle.semantics.specs.Values.{absentParse};
 ghost use Rattle.semantics.specs.Uses.{keepsLevel};
 ghost use Rattle.semantics.specs.Run as run;
-ghost use Rattle.sets.specs.Sets.{parseOf, noParse, parseAt, setAt, written, keepEnd};
+ghost use Rattle.sets.specs.Sets.{parseOf, setSize, parseAt, setAt, written, keepEnd};
 ghost use Rattle.sets.specs.Sets.{Apart, Becomes, Appended, Added, AllAdded, Kept};
 use book::Associativity;
 
@@ -108,7 +109,7 @@ pub fn put_parse(numbers: &mut [u32], at: usize, p: Parse)
 
 // ---- A set
 pub fn size(numbers: &[u32], place: usize) -> usize
-    requires { ⌜ place + 257 ≤ length (now numbers) ⌝ }
+    requires { ⌜ place + setSize ≤ length (now numbers) ⌝ }
     ensures { λ r. ⌜ r ≡ length (setAt (now (numbers .entry)) place) ⌝ }
 {
     let count = numbers[place] as usize;
@@ -121,8 +122,8 @@ pub fn size(numbers: &[u32], place: usize) -> usize
 
 // The i-th parse of a set, and a parse of zeros past its end.
 pub fn item(numbers: &[u32], place: usize, i: usize) -> Parse
-    requires { ⌜ place + 257 ≤ length (now numbers) ⌝ }
-    ensures { λ r. ⌜ parseOf r ≡ getD (setAt (now (numbers .entry)) place) i noParse ⌝ }
+    requires { ⌜ place + setSize ≤ length (now numbers) ⌝ }
+    ensures { λ r. ⌜ parseOf r ≡ getD (setAt (now (numbers .entry)) place) i absentParse ⌝ }
 {
     if i < size(numbers, place) {
         return parse_at(numbers, place + 1 + 4 * i);
@@ -136,14 +137,14 @@ pub fn item(numbers: &[u32], place: usize, i: usize) -> Parse
 }
 
 pub fn clear(numbers: &mut [u32], place: usize)
-    requires { ⌜ place + 257 ≤ length (now numbers) ⌝ }
+    requires { ⌜ place + setSize ≤ length (now numbers) ⌝ }
     ensures { λ _. ⌜ Becomes (now (numbers .entry)) (now (numbers .exit)) place [] ⌝ }
 {
     numbers[place] = 0;
 }
 
 fn has(numbers: &[u32], place: usize, p: Parse) -> bool
-    requires { ⌜ place + 257 ≤ length (now numbers) ⌝ }
+    requires { ⌜ place + setSize ≤ length (now numbers) ⌝ }
     ensures { λ r. ⌜ r ≡ run.has (setAt (now (numbers .entry)) place) (parseOf p) ⌝ }
 {
     let mut at = place + 1;
@@ -160,7 +161,7 @@ fn has(numbers: &[u32], place: usize, p: Parse) -> bool
 
 // One parse more at the end of a set, unless it has 64; false if it has.
 pub fn append(numbers: &mut [u32], place: usize, p: Parse) -> bool
-    requires { ⌜ place + 257 ≤ length (now numbers) ⌝ }
+    requires { ⌜ place + setSize ≤ length (now numbers) ⌝ }
     ensures { λ r. ⌜ Appended r (now (numbers .entry)) (now (numbers .exit)) place (parseOf p) ⌝ }
 {
     let parses = size(numbers, place);
@@ -175,7 +176,7 @@ pub fn append(numbers: &mut [u32], place: usize, p: Parse) -> bool
 
 // A parse joins a set; false for a 65th.
 pub fn add(numbers: &mut [u32], place: usize, p: Parse) -> bool
-    requires { ⌜ place + 257 ≤ length (now numbers) ⌝ }
+    requires { ⌜ place + setSize ≤ length (now numbers) ⌝ }
     ensures { λ r. ⌜ Added r (now (numbers .entry)) (now (numbers .exit)) place (parseOf p) ⌝ }
 {
     if has(numbers, place, p) {
@@ -187,7 +188,7 @@ pub fn add(numbers: &mut [u32], place: usize, p: Parse) -> bool
 // ---- Two sets
 // The parses of the set at `from` are all in the set at `into`.
 pub fn all_in(numbers: &[u32], into: usize, from: usize) -> bool
-    requires { ⌜ (into + 257 ≤ length (now numbers)) × (from + 257 ≤ length (now numbers)) ⌝ }
+    requires { ⌜ (into + setSize ≤ length (now numbers)) × (from + setSize ≤ length (now numbers)) ⌝ }
     ensures { λ r. ⌜ r ≡ run.allIn (setAt (now (numbers .entry)) into) (setAt (now (numbers .entry)) from) ⌝ }
 {
     let mut at = from + 1;
@@ -204,7 +205,7 @@ pub fn all_in(numbers: &[u32], into: usize, from: usize) -> bool
 
 // The set at `from` joins the set at `into`; false for a 65th.
 pub fn add_all(numbers: &mut [u32], into: usize, from: usize) -> bool
-    requires { ⌜ (into + 257 ≤ length (now numbers)) × (from + 257 ≤ length (now numbers)) × Apart into from ⌝ }
+    requires { ⌜ (into + setSize ≤ length (now numbers)) × (from + setSize ≤ length (now numbers)) × Apart into from ⌝ }
     ensures { λ r. ⌜ AllAdded r (now (numbers .entry)) (now (numbers .exit)) into from ⌝ }
 {
     let mut at = from + 1;
@@ -222,7 +223,7 @@ pub fn add_all(numbers: &mut [u32], into: usize, from: usize) -> bool
 
 // The set at `into` becomes the set at `from`.
 pub fn copy(numbers: &mut [u32], into: usize, from: usize)
-    requires { ⌜ (into + 257 ≤ length (now numbers)) × (from + 257 ≤ length (now numbers)) × Apart into from ⌝ }
+    requires { ⌜ (into + setSize ≤ length (now numbers)) × (from + setSize ≤ length (now numbers)) × Apart into from ⌝ }
     ensures { λ _. ⌜ Becomes (now (numbers .entry)) (now (numbers .exit)) into (setAt (now (numbers .entry)) from) ⌝ }
 {
     let most = 1 + 4 * size(numbers, from);
@@ -248,7 +249,7 @@ fn keeps_level(associativity: Associativity, level: u32, found: u32) -> bool
 
 // A parse goes to the end of a set, if it is kept.
 fn keep(numbers: &mut [u32], place: usize, associativity: Associativity, level: u32, p: Parse)
-    requires { ⌜ place + 257 ≤ length (now numbers) ⌝ }
+    requires { ⌜ place + setSize ≤ length (now numbers) ⌝ }
     ensures { λ _. ⌜ Becomes (now (numbers .entry)) (now (numbers .exit)) place
         (keepEnd (keepsLevel associativity level (p .level)) (setAt (now (numbers .entry)) place) (parseOf p)) ⌝ }
 {
@@ -259,7 +260,7 @@ fn keep(numbers: &mut [u32], place: usize, associativity: Associativity, level: 
 
 // The set at `into` becomes what a use of this associativity and level keeps of the set at `from`.
 pub fn kept(numbers: &mut [u32], into: usize, from: usize, associativity: Associativity, level: u32)
-    requires { ⌜ (into + 257 ≤ length (now numbers)) × (from + 257 ≤ length (now numbers)) × Apart into from ⌝ }
+    requires { ⌜ (into + setSize ≤ length (now numbers)) × (from + setSize ≤ length (now numbers)) × Apart into from ⌝ }
     ensures { λ _. ⌜ Kept (now (numbers .entry)) (now (numbers .exit)) into from associativity level ⌝ }
 {
     clear(numbers, into);

@@ -11,7 +11,7 @@ use mathlib.Core.Option.{Option}
 use Prim.Native.Nat.{ℕ, _≤_}
 use lib.ListN.{length}
 use denote.Ref.{now}
-use Rattle.characters.specs.Slices.{Slice, Lent, atEntry, atExit, rowsSize}
+use Rattle.characters.specs.Slices.{Slice, Lent, atEntry, atExit}
 use Rattle.book.specs.Book.{Book, nthStep}
 use Rattle.book.specs.Index.{bookIn, bookAt}
 use Rattle.semantics.specs.Numbers.{mostNesting, longestText}
@@ -21,7 +21,7 @@ use Rattle.semantics.specs.Run as run
 use Rattle.semantics.specs.Run.{Result}
 use Rattle.run_model.specs.Model.{RowState, rowState, Outcome, runIdentifierRows, completeRows}
 use Rattle.run_model.specs.Model.{stopsRows, listingRows, stepsRows}
-use Rattle.calls.specs.Table.{tableAt, tableAfter}
+use Rattle.calls.specs.Table.{rowsSize, tableAt, tableAfter}
 use Rattle.tokens.specs.Maps.{closingIn}
 use Rattle.tokens.specs.declared.steps.Closing.{Closing}
 use Rattle.transitions.specs.declared.outcomes.Outcome as code

@@ -17,7 +17,7 @@ use Rattle.run_model.specs.Model.{RowState, rowState, Outcome, outcome, RowRunn
 use Rattle.run_model.specs.Model.{settle, settleFirst}
 use Rattle.run_model.specs.Model.{runCallRows, runIdentifierRows, nestedRows, storedRows, enterRows, stepsRows}
 use Rattle.run_model.specs.Model.{runnerRows}
-use Rattle.calls.specs.Table.{goesOn}
+use Rattle.calls.specs.Table.{afterRun}
 use Rattle.calls.specs.declared.Settled.{Settled}
 use Rattle.errors.specs.Maps.{failureOf}
 use Rattle.errors.specs.declared.Failure.{Failure}
@@ -78,7 +78,7 @@ goesAgain again e cells T =
 
 pub record EndedBy (T : List Row) (n : ℕ) (how : Settled) (failure : Failure) (s : State) (e : Ended) : Type 0 where
   pub is : (again : RowState → Result Outcome) (cells : List Cell) →
-      goesAgain again e cells T ≡ goesOn how n again (failureOf failure) (rowState (s .units) cells T)
+      goesAgain again e cells T ≡ afterRun how n again (failureOf failure) (rowState (s .units) cells T)
   pub cells : e .outcome .state .cells ≡ s .cells
 
 -- the first run is over

@@ -20,8 +20,8 @@ use borrow.Author.Tests.{ltb-true, ltb-false}
 use Rattle.characters.specs.Cases.{by-test}
 use Rattle.characters.specs.Skipping.{skipFrom}
 use Rattle.characters.specs.SkippingLaws.{skip-within, skip-out}
-use Rattle.characters.specs.Tokens.{identifierAt, numberAt}
-use Rattle.characters.specs.TokenLaws.{identifier-bounds, number-bounds}
+use Rattle.characters.specs.Lexemes.{identifierAt, numberAt}
+use Rattle.characters.specs.LexemeLaws.{identifier-bounds, number-bounds}
 use Rattle.characters.specs.declared.lexemes.Identifier.{Identifier}
 use Rattle.characters.specs.declared.lexemes.Number.{Number}
 use Rattle.characters.specs.Spelling.{same}

@@ -5,7 +5,7 @@ use Prim.Native.Nat.{ℕ}
 use lib.ListN.{replicate}
 use Rattle.characters.specs.Classes.{classOf}
 use Rattle.characters.specs.Skipping.{leading, spanEnd, commentAt, commentEnd, roundEnd, skipRounds, skipFrom}
-use Rattle.characters.specs.Tokens.{identifierAt, decimal, numberOf, numberAt}
+use Rattle.characters.specs.Lexemes.{identifierAt, decimal, numberOf, numberAt}
 use Rattle.characters.specs.Spelling.{same}
 use Rattle.book.specs.Book.{isReserved, lookupFrom}
 use Rattle.book.specs.Check.{checked, row, spelling, entry, nonterminal, variant, stepOf, step, allPass, ended, entireBook, checkBook}

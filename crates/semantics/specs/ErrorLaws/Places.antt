@@ -13,8 +13,8 @@ use Rattle.characters.specs.Cases.{by-test}
 use Rattle.characters.specs.Skipping.{skipFrom}
 use Rattle.characters.specs.SkippingLaws.{skip-forward}
 use Rattle.characters.specs.Spelling.{same}
-use Rattle.characters.specs.Tokens.{numberAt}
-use Rattle.characters.specs.TokenLaws.{number-bounds}
+use Rattle.characters.specs.Lexemes.{numberAt}
+use Rattle.characters.specs.LexemeLaws.{number-bounds}
 use Rattle.characters.specs.declared.lexemes.Number.{Number}
 use Rattle.book.specs.Book.{Book, nthEntry, lookupName}
 use Rattle.book.specs.declared.names.Found.{Found}

@@ -10,8 +10,8 @@ use lib.ListN.{length}
 use Rattle.characters.specs.Cases.{by-test}
 use Rattle.characters.specs.Skipping.{skipFrom}
 use Rattle.characters.specs.Spelling.{same}
-use Rattle.characters.specs.Tokens.{identifierAt, numberAt}
-use Rattle.characters.specs.TokenLaws.{identifier-bounds, number-bounds}
+use Rattle.characters.specs.Lexemes.{identifierAt, numberAt}
+use Rattle.characters.specs.LexemeLaws.{identifier-bounds, number-bounds}
 use Rattle.characters.specs.declared.lexemes.Identifier.{Identifier}
 use Rattle.characters.specs.declared.lexemes.Number.{Number}
 use Rattle.book.specs.Book.{Book, nthEntry}

@@ -1,7 +1,7 @@
 -- `characters::identifier_at` meets its contract: past the end no letter stands.
 use mathlib.Core.Path.{sym, ap, _∙_}
 use borrow.Author.Needs.{needs}
-use Rattle.characters.specs.TokenLaws.{identifier-letter, identifier-none, identifier-out}
+use Rattle.characters.specs.LexemeLaws.{identifier-letter, identifier-none, identifier-out}
 use Rattle.characters.specs.declared.lexemes.Identifier.{Identifier}
 use Rattle.characters.proofs.lexemes.identifier_at.Statement.{statement}
 use Rattle.characters.proofs.lexemes.identifier_at.Tie as tie

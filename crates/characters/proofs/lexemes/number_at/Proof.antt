@@ -3,7 +3,7 @@ use mathlib.Core.Path.{sym, _∙_}
 use native.Mathlib.Omega.{arith}
 use borrow.Author.Needs.{needs}
 use Rattle.characters.specs.SkippingLaws.{span-forward}
-use Rattle.characters.specs.TokenLaws.{number-none, number-some}
+use Rattle.characters.specs.LexemeLaws.{number-none, number-some}
 use Rattle.characters.specs.declared.skipping.Span.the-variants.{Digits}
 use Rattle.characters.proofs.lexemes.number_at.Statement.{statement}
 use Rattle.characters.proofs.lexemes.number_at.Tie as tie

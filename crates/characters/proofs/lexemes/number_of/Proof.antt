@@ -5,8 +5,8 @@ use Prim.Native.Nat.{_+_, _-_, _*_, _<_, _≤_}
 use native.Mathlib.Omega.{arith}
 use lib.ListN.{length, getD, drop}
 use borrow.Author.Needs.{needs}
-use Rattle.characters.specs.TokenLaws.{decimal-large, decimal-on, decimal-end, number-fits, number-large}
-use Rattle.characters.specs.Tokens.{decimal, largest}
+use Rattle.characters.specs.LexemeLaws.{decimal-large, decimal-on, decimal-end, number-fits, number-large}
+use Rattle.characters.specs.Lexemes.{decimal, largest}
 use Rattle.characters.proofs.lexemes.number_of.Statement.{statement}
 use Rattle.characters.proofs.lexemes.number_of.Tie as tie
 

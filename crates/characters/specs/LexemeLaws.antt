@@ -20,7 +20,7 @@ use Rattle.characters.specs.Classes.{isOf, classOf}
 use Rattle.characters.specs.Skipping.{spanEnd}
 use Rattle.characters.specs.SkippingLaws.{span-forward, span-within, span-out}
 use Rattle.characters.specs.Spelling.{partOf}
-use Rattle.characters.specs.Tokens.{identifierAt, decimal, largest, numberOf, numberAt}
+use Rattle.characters.specs.Lexemes.{identifierAt, decimal, largest, numberOf, numberAt}
 use Rattle.characters.specs.declared.classes.Class.the-variants.{Letter}
 use Rattle.characters.specs.declared.skipping.Span.the-variants.{Word, Digits}
 use Rattle.characters.specs.declared.lexemes.Identifier.{Identifier}
