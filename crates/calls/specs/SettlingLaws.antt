@@ -20,12 +20,12 @@ use Rattle.semantics.specs.Run.{met, ok, _>>=_, allIn, kept}
 use Rattle.run_model.specs.Rows.{Row, rowOf, onRow, useAt, ended, wasAsked, withSet, copied}
 use Rattle.run_model.specs.Model.{rowState, outcome, addRun, settle, settleFirst}
 use Rattle.calls.specs.declared.Settled.{Settled}
-use Rattle.calls.specs.Table.{RunAdded, RunJoined, answeredIn, SettledFirst, SettledNext}
+use Rattle.calls.specs.Table.{RunAdded, RunJoined, withStoredIn, SettledFirst, SettledNext}
 use Rattle.calls.specs.CallLaws.{row-after, then-row}
 
 -- ---- A stored answer
 pub answer-law : (T T1 T2 T3 : List Row) (n g : ℕ) → n < length T → g < length T → T1 ≡ onRow T g wasAsked →
-    T2 ≡ onRow T1 n (withSet (kept (useAt (rowOf T1 g)) (rowOf T1 g .set))) → T3 ≡ onRow T2 n ended → T3 ≡ answeredIn T n g
+    T2 ≡ onRow T1 n (withSet (kept (useAt (rowOf T1 g)) (rowOf T1 g .set))) → T3 ≡ onRow T2 n ended → T3 ≡ withStoredIn T n g
 answer-law T T1 T2 T3 n g h k e1 e2 e3 =
     let r : rowOf T1 g ≡ wasAsked (rowOf T g) = rw e1 (row-after T g (wasAsked (rowOf T g)) k) in
     let l : n < length T1 = rw e1 (simp length-set h) in

@@ -116,10 +116,10 @@ governorIn (Governor.Minimum m) = minimum m
 governorIn (Governor.SameStart g) = same-start g
 
 -- ---- A stored answer
--- what a row found are the parses that its governor's call has stored, filtered; the governor is asked (`answered` of
+-- what a row found are the parses that its governor's call has stored, filtered; the governor is asked (`withStored` of
 -- the model)
-abbrev pub answeredIn : List Row → ℕ → ℕ → List Row
-answeredIn rows row governor =
+abbrev pub withStoredIn : List Row → ℕ → ℕ → List Row
+withStoredIn rows row governor =
     let stored = rowOf rows governor in
     onRow (onRow rows governor wasAsked) row (λ t. ended (withSet (kept (useAt stored) (stored .set)) t))
 

@@ -7,8 +7,8 @@
 // written before it is read.
 //
 // Each function equals the definition of the crate run_model that its contract names (specs/Rows.antt and
-// specs/Model.antt there), on the table that the slice gives, and changes at most one row of it, `answer` two. It asks
-// only that the slice has its numbers and that the row is one of the table (`InTable`).
+// specs/Model.antt there), on the table that the slice gives, and changes at most one row of it, `take_stored` two. It
+// asks only that the slice has its numbers and that the row is one of the table (`InTable`).
 //
 // The crate relies on the promises of sets and book and on the definitions of book, semantics and run_model, and
 // assumes nothing. specs/ has the definitions (Table) and laws.
@@ -27,7 +27,7 @@ ghost use Rattle.run_model.specs.Rows as model;
 ghost use Rattle.run_model.specs.Rows.{useAt, withSet};
 ghost use Rattle.calls.specs.Table.{InTable, NumberIn, Below, tableAt, tableAfter, rowIn, Changes};
 ghost use Rattle.calls.specs.Table.{field, fieldOf};
-ghost use Rattle.calls.specs.Table.{RunAdded, RunJoined, governorIn, answeredIn, SettledFirst, SettledNext};
+ghost use Rattle.calls.specs.Table.{RunAdded, RunJoined, governorIn, withStoredIn, SettledFirst, SettledNext};
 use book::Associativity;
 use book::Mark;
 use sets::Parse;
@@ -37,7 +37,7 @@ use sets::SET_SIZE;
 pub const MOST_NESTING: usize = 200;
 
 // the numbers of the table
-pub const ROWS_SIZE: usize = (MOST_NESTING + 1) * WIDTH;
+pub const ROWS_SIZE: usize = (MOST_NESTING + 1) * ROW_SIZE;
 
 // the numbers of a row
 const LIVE: usize = 0;
@@ -57,11 +57,11 @@ const CHILD: usize = 6;
 const ASKED: usize = 7;
 
 // its sets
-const SET: usize = 8;
+const STORED_SET: usize = 8;
 
-const RUN: usize = SET + SET_SIZE;
+const RUN_SET: usize = STORED_SET + SET_SIZE;
 
-const WIDTH: usize = RUN + SET_SIZE;
+const ROW_SIZE: usize = RUN_SET + SET_SIZE;
 
 // What the governor of a use says: the minimum, or, for a child at the governor's own start, the governor's row.
 pub enum Governor {
@@ -86,14 +86,14 @@ fn get(rows: &[u32], row: usize, number: usize) -> u32
     requires { ⌜ NumberIn row number rows ⌝ }
     ensures { λ r. ⌜ r ≡ fieldOf number (rowIn rows row) ⌝ }
 {
-    rows[row * WIDTH + number]
+    rows[row * ROW_SIZE + number]
 }
 
 fn put(rows: &mut [u32], row: usize, number: usize, x: u32)
     requires { ⌜ NumberIn row number rows ⌝ }
     ensures { λ _. ⌜ Changes rows row (field number x) ⌝ }
 {
-    rows[row * WIDTH + number] = x;
+    rows[row * ROW_SIZE + number] = x;
 }
 
 pub fn nonterminal_of(rows: &[u32], row: usize) -> u32
@@ -115,14 +115,14 @@ pub fn clear_set(rows: &mut [u32], row: usize)
     requires { ⌜ InTable row rows ⌝ }
     ensures { λ _. ⌜ Changes rows row (withSet []) ⌝ }
 {
-    sets::clear(rows, row * WIDTH + SET);
+    sets::clear(rows, row * ROW_SIZE + STORED_SET);
 }
 
 pub fn clear_run(rows: &mut [u32], row: usize)
     requires { ⌜ InTable row rows ⌝ }
     ensures { λ _. ⌜ Changes rows row (model.withRun []) ⌝ }
 {
-    sets::clear(rows, row * WIDTH + RUN);
+    sets::clear(rows, row * ROW_SIZE + RUN_SET);
 }
 
 // A row's set becomes one parse.
@@ -130,8 +130,8 @@ pub fn put_one(rows: &mut [u32], row: usize, p: Parse)
     requires { ⌜ InTable row rows ⌝ }
     ensures { λ _. ⌜ Changes rows row (withSet (parseOf p ∷ [])) ⌝ }
 {
-    sets::clear(rows, row * WIDTH + SET);
-    sets::append(rows, row * WIDTH + SET, p);
+    sets::clear(rows, row * ROW_SIZE + STORED_SET);
+    sets::append(rows, row * ROW_SIZE + STORED_SET, p);
 }
 
 // The row's set becomes what its run found.
@@ -139,23 +139,23 @@ fn copy_run(rows: &mut [u32], row: usize)
     requires { ⌜ InTable row rows ⌝ }
     ensures { λ _. ⌜ Changes rows row model.copied ⌝ }
 {
-    sets::copy(rows, row * WIDTH + SET, row * WIDTH + RUN);
+    sets::copy(rows, row * ROW_SIZE + STORED_SET, row * ROW_SIZE + RUN_SET);
 }
 
 // How many parses a row found.
-pub fn found(rows: &[u32], row: usize) -> usize
+pub fn parse_count(rows: &[u32], row: usize) -> usize
     requires { ⌜ InTable row rows ⌝ }
     ensures { λ r. ⌜ r ≡ length (rowIn rows row .set) ⌝ }
 {
-    sets::size(rows, row * WIDTH + SET)
+    sets::size(rows, row * ROW_SIZE + STORED_SET)
 }
 
 // The i-th parse that a row found, and a parse of zeros past the last.
-pub fn item(rows: &[u32], row: usize, i: usize) -> Parse
+pub fn nth_parse(rows: &[u32], row: usize, i: usize) -> Parse
     requires { ⌜ InTable row rows ⌝ }
     ensures { λ r. ⌜ parseOf r ≡ getD (rowIn rows row .set) i absentParse ⌝ }
 {
-    sets::item(rows, row * WIDTH + SET, i)
+    sets::nth_parse(rows, row * ROW_SIZE + STORED_SET, i)
 }
 
 // A parse joins the run's set; false for a 65th.
@@ -163,7 +163,7 @@ pub fn add_run(rows: &mut [u32], row: usize, p: Parse) -> bool
     requires { ⌜ InTable row rows ⌝ }
     ensures { λ r. ⌜ RunAdded r (tableAt rows) (tableAfter rows) row (parseOf p) ⌝ }
 {
-    sets::add(rows, row * WIDTH + RUN, p)
+    sets::add(rows, row * ROW_SIZE + RUN_SET, p)
 }
 
 // The run added nothing to the row's set.
@@ -171,7 +171,7 @@ fn run_in_set(rows: &[u32], row: usize) -> bool
     requires { ⌜ InTable row rows ⌝ }
     ensures { λ r. ⌜ r ≡ allIn (rowIn rows row .set) (rowIn rows row .run) ⌝ }
 {
-    sets::all_in(rows, row * WIDTH + SET, row * WIDTH + RUN)
+    sets::all_in(rows, row * ROW_SIZE + STORED_SET, row * ROW_SIZE + RUN_SET)
 }
 
 // The run's set joins the row's set; false for a 65th.
@@ -179,7 +179,7 @@ fn add_run_to_set(rows: &mut [u32], row: usize) -> bool
     requires { ⌜ InTable row rows ⌝ }
     ensures { λ r. ⌜ RunJoined r (tableAt rows) (tableAfter rows) row ⌝ }
 {
-    sets::add_all(rows, row * WIDTH + SET, row * WIDTH + RUN)
+    sets::add_all(rows, row * ROW_SIZE + STORED_SET, row * ROW_SIZE + RUN_SET)
 }
 
 // ---- Open calls
@@ -246,10 +246,10 @@ fn minimum_of(associativity: Associativity, level: u32) -> usize
     }
 }
 
-// The call of a row is open, of the nonterminal and the base's scope, and its current child begins at u.
-fn governs(rows: &[u32], row: usize, nonterminal: u32, u: u32) -> bool
+// The call of a row is open, of the nonterminal and the base's scope, and its current child begins at the place.
+fn governs(rows: &[u32], row: usize, nonterminal: u32, at: u32) -> bool
     requires { ⌜ InTable row rows ⌝ }
-    ensures { λ r. ⌜ r ≡ model.governs (rowIn rows row) nonterminal u ⌝ }
+    ensures { λ r. ⌜ r ≡ model.governs (rowIn rows row) nonterminal at ⌝ }
 {
     if get(rows, row, LIVE) != 1 {
         return false;
@@ -260,38 +260,38 @@ fn governs(rows: &[u32], row: usize, nonterminal: u32, u: u32) -> bool
     if get(rows, row, SCOPE) != 0 {
         return false;
     }
-    get(rows, row, CHILD) == u
+    get(rows, row, CHILD) == at
 }
 
-// The newest row above n that governs, or 201.
-fn newest_governor(rows: &[u32], n: usize, nonterminal: u32, u: u32) -> usize
-    requires { ⌜ InTable n rows ⌝ }
-    ensures { λ r. ⌜ r ≡ model.newestGovernor (tableAt rows) nonterminal u (mostNesting - n) (suc n) ⌝ }
+// The newest row above a row that governs, or 201.
+fn newest_governor(rows: &[u32], row: usize, nonterminal: u32, at: u32) -> usize
+    requires { ⌜ InTable row rows ⌝ }
+    ensures { λ r. ⌜ r ≡ model.newestGovernor (tableAt rows) nonterminal at (mostNesting - row) (suc row) ⌝ }
 {
-    let mut row = n + 1;
-    while row <= MOST_NESTING {
-        if governs(rows, row, nonterminal, u) {
-            return row;
+    let mut above = row + 1;
+    while above <= MOST_NESTING {
+        if governs(rows, above, nonterminal, at) {
+            return above;
         }
-        row += 1;
+        above += 1;
     }
-    row
+    above
 }
 
-// The governor of a use of the nonterminal at u, in row n.
-pub fn governor_of(rows: &[u32], n: usize, nonterminal: u32, u: u32) -> Governor
-    requires { ⌜ InTable n rows ⌝ }
-    ensures { λ r. ⌜ governorIn r ≡ model.governorOf (tableAt rows) n nonterminal u ⌝ }
+// The governor of a use of the nonterminal at a place, in a row.
+pub fn governor_of(rows: &[u32], row: usize, nonterminal: u32, at: u32) -> Governor
+    requires { ⌜ InTable row rows ⌝ }
+    ensures { λ r. ⌜ governorIn r ≡ model.governorOf (tableAt rows) row nonterminal at ⌝ }
 {
-    let row = newest_governor(rows, n, nonterminal, u);
-    if MOST_NESTING < row {
+    let governor = newest_governor(rows, row, nonterminal, at);
+    if MOST_NESTING < governor {
         return Governor::Minimum(0);
     }
-    if get(rows, row, START) == u {
-        return Governor::SameStart(row);
+    if get(rows, governor, START) == at {
+        return Governor::SameStart(governor);
     }
-    let associativity = sets::associativity_of(get(rows, row, ASSOCIATIVITY));
-    Governor::Minimum(minimum_of(associativity, get(rows, row, LEVEL)))
+    let associativity = sets::associativity_of(get(rows, governor, ASSOCIATIVITY));
+    Governor::Minimum(minimum_of(associativity, get(rows, governor, LEVEL)))
 }
 
 // The set of row `into` becomes what the use of row `from` keeps of that row's set.
@@ -303,21 +303,21 @@ fn kept_of(rows: &mut [u32], into: usize, from: usize)
     let level = get(rows, from, LEVEL);
     sets::kept(
         rows,
-        into * WIDTH + SET,
-        from * WIDTH + SET,
+        into * ROW_SIZE + STORED_SET,
+        from * ROW_SIZE + STORED_SET,
         associativity,
         level,
     );
 }
 
-// What row n found are the parses that its governor has stored, filtered; the governor is asked.
-pub fn answer(rows: &mut [u32], n: usize, governor: usize)
-    requires { ⌜ Below n governor rows ⌝ }
-    ensures { λ _. ⌜ tableAfter rows ≡ answeredIn (tableAt rows) n governor ⌝ }
+// What a row found are the parses that its governor has stored, filtered; the governor is asked.
+pub fn take_stored(rows: &mut [u32], row: usize, governor: usize)
+    requires { ⌜ Below row governor rows ⌝ }
+    ensures { λ _. ⌜ tableAfter rows ≡ withStoredIn (tableAt rows) row governor ⌝ }
 {
     mark(rows, governor);
-    kept_of(rows, n, governor);
-    end_call(rows, n);
+    kept_of(rows, row, governor);
+    end_call(rows, row);
 }
 
 // ---- The end of a run
@@ -328,7 +328,7 @@ pub fn settle_first(rows: &mut [u32], row: usize) -> Settled
     ensures { λ r. ⌜ SettledFirst r (tableAt rows) (tableAfter rows) row ⌝ }
 {
     copy_run(rows, row);
-    if found(rows, row) == 0 {
+    if parse_count(rows, row) == 0 {
         end_call(rows, row);
         return Settled::Failed;
     }
@@ -368,15 +368,15 @@ fn is_variable(book: &[u8], index: &[usize], nonterminal: usize) -> bool
     }
 }
 
-// The call of a row is open, of mark 1 and the base's scope, and begins at u.
-fn claims(book: &[u8], index: &[usize], rows: &[u32], row: usize, u: u32) -> bool
+// The call of a row is open, of mark 1 and the base's scope, and begins at the place.
+fn claims(book: &[u8], index: &[usize], rows: &[u32], row: usize, at: u32) -> bool
     requires { ⌜ InTable row rows ⌝ }
-    ensures { λ r. ⌜ r ≡ model.claims (bookAt book index) (rowIn rows row) u ⌝ }
+    ensures { λ r. ⌜ r ≡ model.claims (bookAt book index) (rowIn rows row) at ⌝ }
 {
     if get(rows, row, LIVE) != 1 {
         return false;
     }
-    if get(rows, row, START) != u {
+    if get(rows, row, START) != at {
         return false;
     }
     if get(rows, row, SCOPE) != 0 {
@@ -385,17 +385,17 @@ fn claims(book: &[u8], index: &[usize], rows: &[u32], row: usize, u: u32) -> boo
     is_variable(book, index, get(rows, row, NONTERMINAL) as usize)
 }
 
-// A call above row n claims.
-pub fn any_claims(book: &[u8], index: &[usize], rows: &[u32], n: usize, u: u32) -> bool
-    requires { ⌜ InTable n rows ⌝ }
-    ensures { λ r. ⌜ r ≡ model.anyClaims (bookAt book index) (tableAt rows) u (mostNesting - n) (suc n) ⌝ }
+// A call above a row claims.
+pub fn any_claims(book: &[u8], index: &[usize], rows: &[u32], row: usize, at: u32) -> bool
+    requires { ⌜ InTable row rows ⌝ }
+    ensures { λ r. ⌜ r ≡ model.anyClaims (bookAt book index) (tableAt rows) at (mostNesting - row) (suc row) ⌝ }
 {
-    let mut row = n + 1;
-    while row <= MOST_NESTING {
-        if claims(book, index, rows, row, u) {
+    let mut above = row + 1;
+    while above <= MOST_NESTING {
+        if claims(book, index, rows, above, at) {
             return true;
         }
-        row += 1;
+        above += 1;
     }
     false
 }

@@ -146,7 +146,7 @@ fn follow(
     if !goes_on(child) {
         return child;
     }
-    let parses = calls::found(rows, row);
+    let parses = calls::parse_count(rows, row);
     let mut all = child;
     let mut i = 0;
     while i < parses {
@@ -154,7 +154,7 @@ fn follow(
         if row == 0 {
             return without_failure(TOO_DEEP, s);
         }
-        let q = calls::item(rows, row, i);
+        let q = calls::nth_parse(rows, row, i);
         let g = next_of(book, index, text, store, here, next, q, s);
         let doing = g.doing;
         let there = Progress {

@@ -6,8 +6,8 @@ ghost use lib.ListN.{length, take};
 ghost use Rattle.semantics.specs.Numbers.{cellsSize, parsesSize};
 ghost use Rattle.run.specs.Reading.{LongLists, HasParses, CanFill, Writes, WritesParses};
 use calls::MOST_NESTING;
-use calls::found;
-use calls::item;
+use calls::nth_parse;
+use calls::parse_count;
 use cells::CELLS_SIZE;
 use sets::PARSES_SIZE;
 use sets::put_parse;
@@ -43,10 +43,10 @@ fn write_parses(parses: &mut [u32], rows: &[u32])
     ensures { λ _. ⌜ WritesParses parses rows ⌝ }
 {
     clear(parses, PARSES_SIZE);
-    let count = found(rows, MOST_NESTING);
+    let count = parse_count(rows, MOST_NESTING);
     let mut i = 0;
     while i < count {
-        put_parse(parses, 4 * i, item(rows, MOST_NESTING, i));
+        put_parse(parses, 4 * i, nth_parse(rows, MOST_NESTING, i));
         i += 1;
     }
 }

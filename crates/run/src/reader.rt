@@ -34,7 +34,7 @@ use book::Verdict;
 use book::check_into;
 use calls::MOST_NESTING;
 use calls::ROWS_SIZE;
-use calls::found;
+use calls::parse_count;
 use cells::CELLS_SIZE;
 use cells::STORE_SIZE;
 use characters::skip;
@@ -154,7 +154,7 @@ fn ending(
         Failure::None => {
             fill_lists(cells, parses, store, rows, state.cells);
             let values = whole_values(text, rows);
-            let number = found(rows, MOST_NESTING) as u32;
+            let number = parse_count(rows, MOST_NESTING) as u32;
             by_values(values, work, number)
         }
     }

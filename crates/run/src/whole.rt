@@ -10,8 +10,8 @@ ghost use Rattle.calls.specs.Table.{rowsSize, rowIn};
 ghost use Rattle.run.specs.Reading.{withValue, withValues, withParse};
 ghost use Rattle.run.specs.declared.whole.Values as values;
 use calls::MOST_NESTING;
-use calls::found;
-use calls::item;
+use calls::nth_parse;
+use calls::parse_count;
 use characters::skip;
 use sets::Parse;
 
@@ -63,11 +63,11 @@ pub fn whole_values(text: &[u8], rows: &[u32]) -> Values
     ensures { λ r. ⌜ r ≡ withValues values.Values.Nothing
         (wholeValues (now (text .entry)) (rowIn rows mostNesting .set)) ⌝ }
 {
-    let count = found(rows, MOST_NESTING);
+    let count = parse_count(rows, MOST_NESTING);
     let mut values = Values::Nothing;
     let mut i = 0;
     while i < count {
-        values = with_parse(text, values, item(rows, MOST_NESTING, i));
+        values = with_parse(text, values, nth_parse(rows, MOST_NESTING, i));
         i += 1;
     }
     values

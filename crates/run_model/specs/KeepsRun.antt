@@ -20,7 +20,7 @@ use Rattle.semantics.specs.Cells.{Cell}
 use Rattle.semantics.specs.Errors.{Error}
 use Rattle.semantics.specs.Run.{Result, ok, _>>=_, allIn, addAll, begin}
 use Rattle.run_model.specs.Rows.{Row, opened, ended, withChild, wasAsked, withSet, withRun, copied, rowOf, onRow, governorOf}
-use Rattle.run_model.specs.Model.{RowState, rowState, Outcome, RowRunner, RowGo, RowNext, unmarked, atRow, spendRows, addRun, completeRows, takeVariant, variantsRows, oneRunRows, settle, roundsRows, settleFirst, runCallRows, namedRows, runIdentifierRows, plainNextRows, listNextRows, stopsRows, nestedRows, answered, storedRows, enterRows, enterChildRows, followFrom, followedRows, stepUnitRows, orChild, orAbsentRows, choiceRows, listingRows, stepsRows, runnerRows}
+use Rattle.run_model.specs.Model.{RowState, rowState, Outcome, RowRunner, RowGo, RowNext, unmarked, atRow, spendRows, addRun, completeRows, takeVariant, variantsRows, oneRunRows, settle, roundsRows, settleFirst, runCallRows, namedRows, runIdentifierRows, plainNextRows, listNextRows, stopsRows, nestedRows, withStored, storedRows, enterRows, enterChildRows, followFrom, followedRows, stepUnitRows, orChild, orAbsentRows, choiceRows, listingRows, stepsRows, runnerRows}
 use Rattle.run_model.specs.Keeps.{Keeps, KeepsAt, Called, keeps-refl, keeps-then, keeps-put, keeps-mark, at-refl, at-then, at-put, at-of, at-less, run-refl, run-then, run-put, run-of, called-put, called-then, On, on-met, on-ok, on-bind, on-map, on-any, on-when, on-option, on-list, on-after, on-governor, on-taken, on-makes, on-spend, Beside, Ran, Calls, Fits, Keeping, Inner, last, more, on-nested}
 
 -- ---- A call at row n, whose variants run with row m = n - 1 free
@@ -109,8 +109,8 @@ keeps-identifier book text n N u s h =
 
 -- ---- One level of nesting
 module _ (book : Book) (text : List ℕ) (n : ℕ) (inner : Option RowRunner) (inners : Inner n inner) (room : n ≤ 200) where
-  keeps-answered : (g : ℕ) (s : RowState) → length (s .rows) ≡ 201 → Called n (s .rows) (answered book text inner n g s .rows)
-  keeps-answered g s h =
+  keeps-stored : (g : ℕ) (s : RowState) → length (s .rows) ≡ 201 → Called n (s .rows) (withStored book text inner n g s .rows)
+  keeps-stored g s h =
       let l : length (onRow (s .rows) g wasAsked) ≡ length (s .rows) = length-set (s .rows) g (wasAsked (rowOf (s .rows) g)) in
       called-put n (s .rows) (onRow (s .rows) g wasAsked) _ (omega arith) (keeps-mark (suc n) g (s .rows)) refl
 
@@ -123,7 +123,7 @@ module _ (book : Book) (text : List ℕ) (n : ℕ) (inner : Option RowRunner) (i
       (λ least. on-nested Q book text n inner inners _ _
       (λ m S e keeping. on-when Q (hasMark book 2 N) _ _ (keeps-identifier book text n N u (rowState units cells (s .rows)) (omega arith))
       (keeps-run-call book text m S keeping n e room least N u (rowState units cells (s .rows)) h)))
-      (λ g. on-ok Q (keeps-answered g (rowState units cells (s .rows)) h)))
+      (λ g. on-ok Q (keeps-stored g (rowState units cells (s .rows)) h)))
 
   -- ---- Steps of the call of row c
   module _ (c : ℕ) (below : n < c) (within : c ≤ 200) where

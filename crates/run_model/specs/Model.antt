@@ -223,13 +223,13 @@ module _ (book : Book) (text : List ℕ) (inner : Option RowRunner) (n : ℕ) wh
   nestedRows s f = elim inner [ some run ↦ f run | none ↦ met tooDeep (s .units) ]
 
   -- what row n found are the parses that its governor has stored, filtered; the governor is asked
-  abbrev pub answered : ℕ → RowState → RowState
-  answered g s =
+  abbrev pub withStored : ℕ → RowState → RowState
+  withStored g s =
       let r = rowOf (s .rows) g in atRow n (λ t. ended (withSet (kept (useAt r) (r .set)) t)) (atRow g wasAsked s)
 
   unfoldable pub storedRows : ℕ → ℕ → ℕ → RowState → Outcome
   storedRows g N u s =
-      outcome (failsEmpty (rowOf (answered g s .rows) n .set) (error u nonterminalWanted N)) (answered g s)
+      outcome (failsEmpty (rowOf (withStored g s .rows) n .set) (error u nonterminalWanted N)) (withStored g s)
 
   unfoldable pub enterRows : ℕ → ℕ → RowState → Result Outcome
   enterRows N u s₀ = do

@@ -121,7 +121,7 @@ pub fn size(numbers: &[u32], place: usize) -> usize
 }
 
 // The i-th parse of a set, and a parse of zeros past its end.
-pub fn item(numbers: &[u32], place: usize, i: usize) -> Parse
+pub fn nth_parse(numbers: &[u32], place: usize, i: usize) -> Parse
     requires { ⌜ place + setSize ≤ length (now numbers) ⌝ }
     ensures { λ r. ⌜ parseOf r ≡ getD (setAt (now (numbers .entry)) place) i absentParse ⌝ }
 {

@@ -30,7 +30,7 @@ use Rattle.run_model.specs.Rows.{Row, rowOf, onRow, withSet, ended, RowGovernor
 use Rattle.run_model.specs.Model.{rowState, Outcome, outcome, RowRunner, spendRows, failsEmpty}
 use Rattle.run_model.specs.Model.{claimedRows, namedRows, runIdentifierRows, runCallRows, nestedRows, storedRows, enterRows, runnerRows}
 use Rattle.calls.specs.CallLaws.{then-row}
-use Rattle.calls.specs.Table.{governorIn, answeredIn}
+use Rattle.calls.specs.Table.{governorIn, withStoredIn}
 use Rattle.calls.specs.declared.Governor.{Governor}
 use Rattle.cells.specs.Store.{listed}
 use Rattle.cells.specs.declared.numbers.Numbers.{Numbers}
@@ -60,7 +60,7 @@ unfolding failsEmpty
 some-passes [] x h = absurd (h refl)
 some-passes (p ∷ ps) x h = refl
 
-module _ (T U : List Row) (g n N u : ℕ) (s : State) (k : ℕ) (e : U ≡ answeredIn T n g) (ek : k ≡ length (rowOf U n .set)) where
+module _ (T U : List Row) (g n N u : ℕ) (s : State) (k : ℕ) (e : U ≡ withStoredIn T n g) (ek : k ≡ length (rowOf U n .set)) where
   answered-with : (f : Failure) (o : outcomes.Outcome) → o ≡ doneWith f s → failureOf f ≡ failsEmpty (rowOf U n .set) (error u 11 N) → Stores T U g n N u s o
   unfolding storedRows
   answered-with f o eo ef =

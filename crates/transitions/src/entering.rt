@@ -70,8 +70,8 @@ fn stored(
     requires { ⌜ Below row governor rows ⌝ }
     ensures { λ r. ⌜ Stores (tableAt rows) (tableAfter rows) governor row nonterminal at state r ⌝ }
 {
-    calls::answer(rows, row, governor);
-    if calls::found(rows, row) == 0 {
+    calls::take_stored(rows, row, governor);
+    if calls::parse_count(rows, row) == 0 {
         done(no_parse(nonterminal, at), state)
     } else {
         done(Failure::None, state)

@@ -14,8 +14,8 @@ Inv-loop book index rows n u row₀ row = (n < row) × (row ≤ 201) × Asking (
 abbrev μ-loop : tie.MeasureT-loop
 μ-loop book index rows n u row₀ row = 201 - row
 
-add-row : tie.Need-add-row Inv-loop μ-loop
-add-row c =
+add-above : tie.Need-add-above Inv-loop μ-loop
+add-above c =
     let pre = c .before .before .before .pre in
     omega (arith, pre)
 
@@ -36,8 +36,8 @@ returns c =
     let claims = c .before .claims in
     asking-hit _ _ _ _ _ _ (loop .inv .2) (loop-test .taken) (claims .ensures) (c .if1 .taken)
 
-add-row-2 : tie.Need-add-row-2 Inv-loop μ-loop
-add-row-2 c =
+add-above-2 : tie.Need-add-above-2 Inv-loop μ-loop
+add-above-2 c =
     let loop-test = c .before .before .loop-test in
     omega (arith, loop-test .taken)
 
@@ -64,11 +64,11 @@ any-claims-spec =
     (tie.spec
     Inv-loop
     μ-loop
-    add-row
+    add-above
     loop-holds
     claims-requires
     returns
-    add-row-2
+    add-above-2
     loop-less
     loop-again
     returns-2)

@@ -13,8 +13,8 @@ Inv-loop rows n nonterminal u row₀ row = (n < row) × (row ≤ 201) × Seeking
 abbrev μ-loop : tie.MeasureT-loop
 μ-loop rows n nonterminal u row₀ row = 201 - row
 
-add-row : tie.Need-add-row Inv-loop μ-loop
-add-row c =
+add-above : tie.Need-add-above Inv-loop μ-loop
+add-above c =
     let pre = c .before .pre in
     omega (arith, pre)
 
@@ -35,8 +35,8 @@ returns c =
     let governs = c .before .governs in
     seeking-hit _ _ _ _ _ _ (loop .inv .2) (loop-test .taken) (governs .ensures) (c .if1 .taken)
 
-add-row-2 : tie.Need-add-row-2 Inv-loop μ-loop
-add-row-2 c =
+add-above-2 : tie.Need-add-above-2 Inv-loop μ-loop
+add-above-2 c =
     let loop-test = c .before .before .loop-test in
     omega (arith, loop-test .taken)
 
@@ -63,11 +63,11 @@ newest-governor-spec =
     (tie.spec
     Inv-loop
     μ-loop
-    add-row
+    add-above
     loop-holds
     governs-requires
     returns
-    add-row-2
+    add-above-2
     loop-less
     loop-again
     returns-2)

@@ -11,10 +11,10 @@ returns c =
     let args = c .before .before .before .before .before .before .before .before .before .before .before .before .args in
     let pre = c .before .before .before .before .before .before .before .before .before .before .before .before .pre in
     let copy-run = c .before .before .before .before .before .before .before .before .before .copy-run in
-    let found = c .before .before .before .before .before .found in
+    let parse-count = c .before .before .before .before .before .parse-count in
     let if1 = c .before .before .before .before .if1 in
     let end-call = c .before .before .end-call in
-    first-failed (table (args .rows .now)) _ (args .row) _ (table-below (args .rows .now) (args .row) (pre .0)) (copy-run .ensures) (found .ensures) _
+    first-failed (table (args .rows .now)) _ (args .row) _ (table-below (args .rows .now) (args .row) (pre .0)) (copy-run .ensures) (parse-count .ensures) _
     (if1 .taken) (end-call .ensures)
 
 returns-2 : tie.Need-returns-2
@@ -22,10 +22,10 @@ returns-2 c =
     let args = c .before .before .before .before .before .before .before .before .before .before .before .args in
     let pre = c .before .before .before .before .before .before .before .before .before .before .before .pre in
     let copy-run = c .before .before .before .before .before .before .before .before .copy-run in
-    let found = c .before .before .before .before .found in
+    let parse-count = c .before .before .before .before .parse-count in
     let if1 = c .before .before .before .if1 in
     let get = c .before .get in
-    first-again (table (args .rows .now)) _ (args .row) _ (table-below (args .rows .now) (args .row) (pre .0)) (copy-run .ensures) (found .ensures) _
+    first-again (table (args .rows .now)) _ (args .row) _ (table-below (args .rows .now) (args .row) (pre .0)) (copy-run .ensures) (parse-count .ensures) _
     (if1 .left) (get .ensures) (c .if2 .taken)
 
 returns-3 : tie.Need-returns-3
@@ -33,12 +33,12 @@ returns-3 c =
     let args = c .before .before .before .before .before .before .before .before .before .before .before .before .before .before .before .args in
     let pre = c .before .before .before .before .before .before .before .before .before .before .before .before .before .before .before .pre in
     let copy-run = c .before .before .before .before .before .before .before .before .before .before .before .before .copy-run in
-    let found = c .before .before .before .before .before .before .before .before .found in
+    let parse-count = c .before .before .before .before .before .before .before .before .parse-count in
     let if1 = c .before .before .before .before .before .before .before .if1 in
     let get = c .before .before .before .before .before .get in
     let if2 = c .before .before .before .before .if2 in
     let end-call2 = c .before .before .end-call2 in
-    first-over (table (args .rows .now)) _ (args .row) _ (table-below (args .rows .now) (args .row) (pre .0)) (copy-run .ensures) (found .ensures) _ _
+    first-over (table (args .rows .now)) _ (args .row) _ (table-below (args .rows .now) (args .row) (pre .0)) (copy-run .ensures) (parse-count .ensures) _ _
     (if1 .left) (get .ensures) (if2 .left) (end-call2 .ensures)
 
 pub settle-first-spec : {M : Type 1} → statement M

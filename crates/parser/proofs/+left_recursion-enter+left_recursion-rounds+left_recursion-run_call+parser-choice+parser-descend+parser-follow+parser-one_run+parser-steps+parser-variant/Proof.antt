@@ -59,8 +59,8 @@ use Rattle.parser.proofs.+left_recursion-enter+left_recursion-rounds+le
 use Rattle.book.proofs.nonterminal.Reads as nonterminal-reads
 use Rattle.book.proofs.variant.Reads as variant-reads
 use Rattle.calls.proofs.clear_run.Reads as clear-run-reads
-use Rattle.calls.proofs.found.Reads as found-reads
-use Rattle.calls.proofs.item.Reads as item-reads
+use Rattle.calls.proofs.parse_count.Reads as parse-count-reads
+use Rattle.calls.proofs.nth_parse.Reads as nth-parse-reads
 use Rattle.calls.proofs.nonterminal_of.Reads as nonterminal-of-reads
 use Rattle.calls.proofs.open_call.Reads as open-call-reads
 use Rattle.transitions.proofs.after_first.Reads as after-first-reads
@@ -190,7 +190,7 @@ abbrev parser·descend-callees : ℕ → parser·descend-lts.Claims
 parser·descend-callees t = (begin-child-reads.Asked, begin-child-reads.Learnt, left-recursion·enter-below t, left-recursion·enter.Post, parser·follow-below t, parser·follow.Post)
 
 abbrev parser·follow-callees : ℕ → parser·follow-lts.Claims
-parser·follow-callees t = (goes-on-reads.Asked, goes-on-reads.Learnt, found-reads.Asked, found-reads.Learnt, without-failure-reads.Asked, without-failure-reads.Learnt, item-reads.Asked, item-reads.Learnt, next-of-reads.Asked, next-of-reads.Learnt, parser·steps-below t, parser·steps.Post, joined-reads.Asked, joined-reads.Learnt)
+parser·follow-callees t = (goes-on-reads.Asked, goes-on-reads.Learnt, parse-count-reads.Asked, parse-count-reads.Learnt, without-failure-reads.Asked, without-failure-reads.Learnt, nth-parse-reads.Asked, nth-parse-reads.Learnt, next-of-reads.Asked, next-of-reads.Learnt, parser·steps-below t, parser·steps.Post, joined-reads.Asked, joined-reads.Learnt)
 
 abbrev parser·one-run-callees : ℕ → parser·one-run-lts.Claims
 parser·one-run-callees t = (nonterminal-of-reads.Asked, nonterminal-of-reads.Learnt, clear-run-reads.Asked, clear-run-reads.Learnt, nonterminal-reads.Asked, nonterminal-reads.Learnt, done-reads.Asked, done-reads.Learnt, parser·variant-below t, parser·variant.Post)
@@ -558,8 +558,8 @@ parser·follow-returns t c =
     let if1 = c .if1 in
     follow-ended _ _ _ _ _ _ _ _ _ _ _ _ (sym (goes-on .ensures) ∙ not-true _ (if1 .taken))
 
-parser·follow-found-requires : (t : ℕ) → parser·follow-lts.Need-found-requires (parser·follow-callees t) (parser·follow-at t) parser·follow.Post parser·follow-Inv-loop parser·follow-μ-loop
-parser·follow-found-requires t c κs =
+parser·follow-parse-count-requires : (t : ℕ) → parser·follow-lts.Need-parse-count-requires (parser·follow-callees t) (parser·follow-at t) parser·follow.Post parser·follow-Inv-loop parser·follow-μ-loop
+parser·follow-parse-count-requires t c κs =
     let start = c .before .before .before .before .before .before .before .before in
     (start .pre .1 .0, start .pre .1 .1)
 
@@ -579,15 +579,15 @@ parser·follow-returns-2 : (t : ℕ) → parser·follow-lts.Need-returns-2 (pars
 parser·follow-returns-2 t c =
     let goes-on = c .before .before .before .before .before .before .before .before .goes-on in
     let if1 = c .before .before .before .before .before .before .before .if1 in
-    let found = c .before .before .before .before .before .found in
+    let parse-count = c .before .before .before .before .before .parse-count in
     let loop = c .before .before .before .before .loop in
     let loop-test = c .before .before .before .loop-test in
     let if2 = c .before .if2 in
     let without-failure = c .without-failure in
-    follow-whole _ _ _ _ _ _ _ _ _ _ _ _ _ _ _ _ (sym (goes-on .ensures) ∙ not-false _ (if1 .left)) (found .ensures) (follow-deep _ _ _ _ _ _ _ _ _ _ _ _ _ _ (table (loop .rows)) (loop .all) (loop .inv .4) _ (without-failure .ensures) (loop-test .taken) (if2 .taken))
+    follow-whole _ _ _ _ _ _ _ _ _ _ _ _ _ _ _ _ (sym (goes-on .ensures) ∙ not-false _ (if1 .left)) (parse-count .ensures) (follow-deep _ _ _ _ _ _ _ _ _ _ _ _ _ _ (table (loop .rows)) (loop .all) (loop .inv .4) _ (without-failure .ensures) (loop-test .taken) (if2 .taken))
 
-parser·follow-item-requires : (t : ℕ) → parser·follow-lts.Need-item-requires (parser·follow-callees t) (parser·follow-at t) parser·follow.Post parser·follow-Inv-loop parser·follow-μ-loop
-parser·follow-item-requires t c κs =
+parser·follow-nth-parse-requires : (t : ℕ) → parser·follow-lts.Need-nth-parse-requires (parser·follow-callees t) (parser·follow-at t) parser·follow.Post parser·follow-Inv-loop parser·follow-μ-loop
+parser·follow-nth-parse-requires t c κs =
     let start = c .before .before .before .before .before .before .before .before .before .before .before .before .before .before in
     let loop = c .before .before .before .before .loop in
     (start .pre .1 .0, omega (arith, start .pre .1 .1, loop .inv .2))
@@ -625,20 +625,20 @@ parser·follow-returns-3 : (t : ℕ) → parser·follow-lts.Need-returns-3 (pars
 parser·follow-returns-3 t c =
     let goes-on = c .before .before .before .before .before .before .before .before .before .before .before .before .before .before .before .before .before .before .before .before .before .before .before .goes-on in
     let if1 = c .before .before .before .before .before .before .before .before .before .before .before .before .before .before .before .before .before .before .before .before .before .before .if1 in
-    let found = c .before .before .before .before .before .before .before .before .before .before .before .before .before .before .before .before .before .before .before .before .found in
+    let parse-count = c .before .before .before .before .before .before .before .before .before .before .before .before .before .before .before .before .before .before .before .before .parse-count in
     let loop = c .before .before .before .before .before .before .before .before .before .before .before .before .before .before .before .before .before .before .before .loop in
     let loop-test = c .before .before .before .before .before .before .before .before .before .before .before .before .before .before .before .before .before .before .loop-test in
     let if2 = c .before .before .before .before .before .before .before .before .before .before .before .before .before .before .before .before .if2 in
-    let item = c .before .before .before .before .before .before .before .before .before .before .before .before .before .before .item in
+    let nth-parse = c .before .before .before .before .before .before .before .before .before .before .before .before .before .before .nth-parse in
     let next-of = c .before .before .before .before .before .before .before .before .before .before .before .before .next-of in
     let steps = c .before .before .before .before .before .before .before .steps in
     let joined = c .before .before .joined in
     let if3 = c .if3 in
-    follow-whole _ _ _ _ _ _ _ _ _ _ _ _ _ _ _ _ (sym (goes-on .ensures) ∙ not-false _ (if1 .left)) (found .ensures) (follow-stop _ _ _ _ _ _ _ _ _ _ _ _ _ _ (table (loop .rows)) (loop .all) (loop .inv .4) (loop-test .taken) (if2 .left) _ (item .ensures) _ _ _ _ _ _ (next-of .ensures) (steps .ensures) (joined .ensures) (if3 .taken))
+    follow-whole _ _ _ _ _ _ _ _ _ _ _ _ _ _ _ _ (sym (goes-on .ensures) ∙ not-false _ (if1 .left)) (parse-count .ensures) (follow-stop _ _ _ _ _ _ _ _ _ _ _ _ _ _ (table (loop .rows)) (loop .all) (loop .inv .4) (loop-test .taken) (if2 .left) _ (nth-parse .ensures) _ _ _ _ _ _ (next-of .ensures) (steps .ensures) (joined .ensures) (if3 .taken))
 
 parser·follow-add-i : (t : ℕ) → parser·follow-lts.Need-add-i (parser·follow-callees t) (parser·follow-at t) parser·follow.Post parser·follow-Inv-loop parser·follow-μ-loop
 parser·follow-add-i t c =
-    let found = c .before .before .before .before .before .before .before .before .before .before .before .before .before .before .before .before .before .before .before .before .found in
+    let parse-count = c .before .before .before .before .before .before .before .before .before .before .before .before .before .before .before .before .before .before .before .before .parse-count in
     let loop-test = c .before .before .before .before .before .before .before .before .before .before .before .before .before .before .before .before .before .before .loop-test in
     omega (arith, loop-test .taken, found .ok)
 
@@ -652,12 +652,12 @@ parser·follow-loop-again t c =
     let loop = c .before .before .before .before .before .before .before .before .before .before .before .before .before .before .before .before .before .before .before .loop in
     let loop-test = c .before .before .before .before .before .before .before .before .before .before .before .before .before .before .before .before .before .before .loop-test in
     let if2 = c .before .before .before .before .before .before .before .before .before .before .before .before .before .before .before .before .if2 in
-    let item = c .before .before .before .before .before .before .before .before .before .before .before .before .before .before .item in
+    let nth-parse = c .before .before .before .before .before .before .before .before .before .before .before .before .before .before .nth-parse in
     let next-of = c .before .before .before .before .before .before .before .before .before .before .before .before .next-of in
     let steps = c .before .before .before .before .before .before .before .steps in
     let joined = c .before .before .joined in
     let if3 = c .if3 in
-    (omega (arith, loop-test .taken), steps .kept .1 .1 .1 .0 ∙ next-of .kept .1 .1 .1 .0 ∙ loop .inv .1, steps .kept .1 .1 .1 .1 .0 ∙ loop .inv .2, if3 .left, follow-again _ _ _ _ _ _ _ _ _ _ _ _ _ _ (table (loop .rows)) (loop .all) (loop .inv .4) (loop-test .taken) (if2 .left) _ (item .ensures) _ _ _ _ _ _ (next-of .ensures) (steps .ensures) (joined .ensures) (if3 .left))
+    (omega (arith, loop-test .taken), steps .kept .1 .1 .1 .0 ∙ next-of .kept .1 .1 .1 .0 ∙ loop .inv .1, steps .kept .1 .1 .1 .1 .0 ∙ loop .inv .2, if3 .left, follow-again _ _ _ _ _ _ _ _ _ _ _ _ _ _ (table (loop .rows)) (loop .all) (loop .inv .4) (loop-test .taken) (if2 .left) _ (nth-parse .ensures) _ _ _ _ _ _ (next-of .ensures) (steps .ensures) (joined .ensures) (if3 .left))
 
 parser·follow-same-length-5 : (t : ℕ) → parser·follow-lts.Need-same-length-5 (parser·follow-callees t) (parser·follow-at t) parser·follow.Post parser·follow-Inv-loop parser·follow-μ-loop
 parser·follow-same-length-5 t c = (c .before .loop) .inv .1
@@ -669,10 +669,10 @@ parser·follow-returns-4 : (t : ℕ) → parser·follow-lts.Need-returns-4 (pars
 parser·follow-returns-4 t c =
     let goes-on = c .before .before .before .before .before .goes-on in
     let if1 = c .before .before .before .before .if1 in
-    let found = c .before .before .found in
+    let parse-count = c .before .before .parse-count in
     let loop = c .before .loop in
     let loop-test = c .loop-test in
-    follow-whole _ _ _ _ _ _ _ _ _ _ _ _ _ _ _ _ (sym (goes-on .ensures) ∙ not-false _ (if1 .left)) (found .ensures) (follow-end _ _ _ _ _ _ _ _ _ _ _ _ _ _ (table (loop .rows)) (loop .all) (loop .inv .4) (loop-test .left) (loop .inv .3))
+    follow-whole _ _ _ _ _ _ _ _ _ _ _ _ _ _ _ _ (sym (goes-on .ensures) ∙ not-false _ (if1 .left)) (parse-count .ensures) (follow-end _ _ _ _ _ _ _ _ _ _ _ _ _ _ (table (loop .rows)) (loop .all) (loop .inv .4) (loop-test .left) (loop .inv .3))
 
 abbrev parser·one-run-Inv-loop : parser·one-run-lts.InvT-loop
 parser·one-run-Inv-loop book index text store₀ rows₀ left minimum nonterminal called o₀ k₀ store rows o k = (k ≤ called .count) × (length store ≡ length store₀) × (length rows ≡ length rows₀) × (o .limit ≡ 0) × (Held text store₀ (o₀ .state .cells) → Going text store (o .state .cells) (variantsRows (bookIn book index) text (innerRunner (bookIn book index) text left) left minimum (called .count - k) (called .first + k) (failureOf (failureAt o)) (rowState (o .state .units) (cellsOf store (o .state .cells)) (table rows))) (variantsRows (bookIn book index) text (innerRunner (bookIn book index) text left) left minimum (called .count) (called .first) (failureOf (failureAt o₀)) (rowState (o₀ .state .units) (cellsOf store₀ (o₀ .state .cells)) (table rows₀))))
@@ -1086,13 +1086,13 @@ pub +left-recursion·enter+left-recursion·rounds+left-recursion·run-call+parse
     parser·follow-μ-loop
     (λ c κs. search needs)
     (parser·follow-returns t)
-    (parser·follow-found-requires t)
+    (parser·follow-parse-count-requires t)
     (parser·follow-loop-holds t)
     (λ c κs. search needs)
     (parser·follow-same-length t)
     (parser·follow-same-length-2 t)
     (parser·follow-returns-2 t)
-    (parser·follow-item-requires t)
+    (parser·follow-nth-parse-requires t)
     (parser·follow-next-of-requires t)
     (parser·follow-sub-inner t)
     (parser·follow-steps-requires t)

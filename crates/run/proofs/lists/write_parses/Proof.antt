@@ -23,8 +23,8 @@ abbrev μ-loop : tie.MeasureT-loop
 clear-requires : tie.Need-clear-requires Inv-loop μ-loop
 clear-requires c κs = omega arith
 
-found-requires : tie.Need-found-requires Inv-loop μ-loop
-found-requires c κs =
+parse-count-requires : tie.Need-parse-count-requires Inv-loop μ-loop
+parse-count-requires c κs =
     let pre = c .before .before .before .before .before .before .pre in
     omega (arith, pre)
 
@@ -36,12 +36,12 @@ loop-holds c =
 mul-put-parse : tie.Need-mul-put-parse Inv-loop μ-loop
 mul-put-parse c =
     let args = c .before .before .before .before .before .before .before .before .before .before .args in
-    let found = c .before .before .before .found in
+    let parse-count = c .before .before .before .parse-count in
     let loop-test = c .before .loop-test in
-    omega (arith, loop-test .taken, found .ensures, found-few (args .rows .now))
+    omega (arith, loop-test .taken, parse-count .ensures, found-few (args .rows .now))
 
-item-requires : tie.Need-item-requires Inv-loop μ-loop
-item-requires c κs =
+nth-parse-requires : tie.Need-nth-parse-requires Inv-loop μ-loop
+nth-parse-requires c κs =
     let pre = c .before .before .before .before .before .before .before .before .before .before .pre in
     omega (arith, pre)
 
@@ -50,14 +50,14 @@ put-parse-requires c κs =
     let args = c .before .before .before .before .before .before .before .before .before .before .before .args in
     let pre = c .before .before .before .before .before .before .before .before .before .before .before .pre in
     let clear = c .before .before .before .before .before .before .before .clear in
-    let found = c .before .before .before .before .found in
+    let parse-count = c .before .before .before .before .parse-count in
     let loop = c .before .before .before .loop in
     let loop-test = c .before .before .loop-test in
-    omega (arith, loop-test .taken, found .ensures, found-few (args .rows .now), loop .inv .0, clear .kept .0, pre)
+    omega (arith, loop-test .taken, parse-count .ensures, found-few (args .rows .now), loop .inv .0, clear .kept .0, pre)
 
 add-i : tie.Need-add-i Inv-loop μ-loop
 add-i c =
-    let found = c .before .before .before .before .before .before .before .found in
+    let parse-count = c .before .before .before .before .before .before .before .parse-count in
     let loop-test = c .before .before .before .before .before .loop-test in
     omega (arith, loop-test .taken, found .ok)
 
@@ -69,16 +69,16 @@ loop-less c =
 loop-again : tie.Need-loop-again Inv-loop μ-loop
 loop-again c =
     let args = c .before .before .before .before .before .before .before .before .before .before .before .before .before .before .args in
-    let found = c .before .before .before .before .before .before .before .found in
+    let parse-count = c .before .before .before .before .before .before .before .parse-count in
     let loop = c .before .before .before .before .before .before .loop in
     let loop-test = c .before .before .before .before .before .loop-test in
-    let item = c .before .before .before .item in
+    let nth-parse = c .before .before .before .nth-parse in
     let put-parse = c .before .before .put-parse in
     let set = rowOf (table (args .rows .now)) 200 .set in
     let at = loop .i in
-    let p = parseOf (item .result) in
+    let p = parseOf (nth-parse .result) in
     let few = found-few (args .rows .now) in
-    (put-parse .kept .0 ∙ loop .inv .0, λ l e. put-parse .ensures ∙ ap (λ (m : List ℕ). sets.written m (4 * at) p) (loop .inv .1 l e) ∙ parses-again 256 l set at p (omega (arith, loop-test .taken, found .ensures)) (omega (arith, loop-test .taken, found .ensures, few)) (item .ensures))
+    (put-parse .kept .0 ∙ loop .inv .0, λ l e. put-parse .ensures ∙ ap (λ (m : List ℕ). sets.written m (4 * at) p) (loop .inv .1 l e) ∙ parses-again 256 l set at p (omega (arith, loop-test .taken, parse-count .ensures)) (omega (arith, loop-test .taken, parse-count .ensures, few)) (nth-parse .ensures))
 
 same-length : tie.Need-same-length Inv-loop μ-loop
 same-length c =
@@ -90,9 +90,9 @@ returns : tie.Need-returns Inv-loop μ-loop
 returns c =
     let args = c .before .before .before .before .before .before .before .before .before .args in
     let clear = c .before .before .before .before .before .clear in
-    let found = c .before .before .found in
+    let parse-count = c .before .before .parse-count in
     let loop = c .before .loop in
-    loop .inv .1 _ (clear .ensures) ∙ parses-end 256 _ (rowOf (table (args .rows .now)) 200 .set) (loop .i) (omega (arith, c .loop-test .left, found .ensures))
+    loop .inv .1 _ (clear .ensures) ∙ parses-end 256 _ (rowOf (table (args .rows .now)) 200 .set) (loop .i) (omega (arith, c .loop-test .left, parse-count .ensures))
 
 pub write-parses-spec : {M : Type 1} → statement M
 write-parses-spec =
@@ -101,10 +101,10 @@ write-parses-spec =
     Inv-loop
     μ-loop
     clear-requires
-    found-requires
+    parse-count-requires
     loop-holds
     mul-put-parse
-    item-requires
+    nth-parse-requires
     put-parse-requires
     add-i
     loop-less

@@ -18,7 +18,7 @@ returns c =
 cast-number : tie.Need-cast-number
 cast-number c =
     let args = c .before .before .before .before .before .before .before .before .before .before .before .before .before .before .before .before .before .before .before .before .before .args in
-    omega (arith, c .found .ensures, found-few (args .rows .now))
+    omega (arith, c .parse-count .ensures, found-few (args .rows .now))
 
 returns-2 : tie.Need-returns-2
 returns-2 c =
@@ -40,8 +40,8 @@ returns-3 c =
     let enum-told = c .before .before .before .before .before .before .before .before .before .before .enum-told in
     let fill-lists = c .before .before .before .before .before .before .before .fill-lists in
     let whole-values = c .before .before .whole-values in
-    let found = c .before .found in
-    end-found _ _ _ _ _ _ _ _ _ (args .outcome) (c .by-values .result) (gone .ensures) _ _ (if1 .left) (sym (failure-of .ensures) ∙ enum-told .given .1) (pre .3) (fill-lists .ensures) (whole-values .ensures) (found .ensures) (c .by-values .ensures)
+    let parse-count = c .before .parse-count in
+    end-found _ _ _ _ _ _ _ _ _ (args .outcome) (c .by-values .result) (gone .ensures) _ _ (if1 .left) (sym (failure-of .ensures) ∙ enum-told .given .1) (pre .3) (fill-lists .ensures) (whole-values .ensures) (parse-count .ensures) (c .by-values .ensures)
 
 pub ending-spec : {M : Type 1} → statement M
 ending-spec =

@@ -20,21 +20,21 @@ Inv-loop text rows count values₀ i₀ values i = withValues values (wholeValue
 abbrev μ-loop : tie.MeasureT-loop
 μ-loop text rows count values₀ i₀ values i = count - i
 
-found-requires : tie.Need-found-requires Inv-loop μ-loop
-found-requires c κs = omega arith
+parse-count-requires : tie.Need-parse-count-requires Inv-loop μ-loop
+parse-count-requires c κs = omega arith
 
 loop-holds : tie.Need-loop-holds Inv-loop μ-loop
 loop-holds c = refl
 
-item-requires : tie.Need-item-requires Inv-loop μ-loop
-item-requires c κs = omega arith
+nth-parse-requires : tie.Need-nth-parse-requires Inv-loop μ-loop
+nth-parse-requires c κs = omega arith
 
 with-parse-requires : tie.Need-with-parse-requires Inv-loop μ-loop
 with-parse-requires c κs = search needs
 
 add-i : tie.Need-add-i Inv-loop μ-loop
 add-i c =
-    let found = c .before .before .before .before .found in
+    let parse-count = c .before .before .before .before .parse-count in
     let loop-test = c .before .before .loop-test in
     omega (arith, loop-test .taken, found .ok)
 
@@ -46,20 +46,20 @@ loop-less c =
 loop-again : tie.Need-loop-again Inv-loop μ-loop
 loop-again c =
     let args = c .before .before .before .before .before .before .before .args in
-    let found = c .before .before .before .before .found in
+    let parse-count = c .before .before .before .before .parse-count in
     let loop = c .before .before .before .loop in
     let loop-test = c .before .before .loop-test in
-    let item = c .before .item in
+    let nth-parse = c .before .nth-parse in
     let set = rowOf (table (args .rows .now)) 200 .set in
-    values-again (args .text .now) set (loop .i) (loop .values) _ (parseOf (item .result)) (omega (arith, loop-test .taken, found .ensures)) (item .ensures) (c .with-parse .ensures) ∙ loop .inv
+    values-again (args .text .now) set (loop .i) (loop .values) _ (parseOf (nth-parse .result)) (omega (arith, loop-test .taken, parse-count .ensures)) (nth-parse .ensures) (c .with-parse .ensures) ∙ loop .inv
 
 returns : tie.Need-returns Inv-loop μ-loop
 returns c =
     let args = c .before .before .before .before .before .args in
-    let found = c .before .before .found in
+    let parse-count = c .before .before .parse-count in
     let loop = c .before .loop in
     let set = rowOf (table (args .rows .now)) 200 .set in
-    sym (values-end (args .text .now) set (loop .i) (loop .values) (omega (arith, c .loop-test .left, found .ensures))) ∙ loop .inv
+    sym (values-end (args .text .now) set (loop .i) (loop .values) (omega (arith, c .loop-test .left, parse-count .ensures))) ∙ loop .inv
 
 pub whole-values-spec : {M : Type 1} → statement M
 whole-values-spec =
@@ -67,9 +67,9 @@ whole-values-spec =
     (tie.spec
     Inv-loop
     μ-loop
-    found-requires
+    parse-count-requires
     loop-holds
-    item-requires
+    nth-parse-requires
     with-parse-requires
     add-i
     loop-less

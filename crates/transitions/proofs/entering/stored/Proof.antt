@@ -8,20 +8,20 @@ use Rattle.transitions.proofs.entering.stored.Tie as tie
 returns : tie.Need-returns
 returns c =
     let args = c .before .before .before .before .before .before .before .before .before .before .args in
-    let answer = c .before .before .before .before .before .before .before .answer in
-    let found = c .before .before .before .found in
+    let take-stored = c .before .before .before .before .before .before .before .take-stored in
+    let parse-count = c .before .before .before .parse-count in
     let if1 = c .before .before .if1 in
     let no-parse = c .before .no-parse in
-    stored-none (table (args .rows .now)) _ (args .governor) (args .row) (args .nonterminal) (args .at) _ _ (answer .ensures) (found .ensures)
+    stored-none (table (args .rows .now)) _ (args .governor) (args .row) (args .nonterminal) (args .at) _ _ (take-stored .ensures) (parse-count .ensures)
     (no-parse .result) _ (if1 .taken) (no-parse .ensures) (c .done .ensures)
 
 returns-2 : tie.Need-returns-2
 returns-2 c =
     let args = c .before .before .before .before .before .before .before .before .before .args in
-    let answer = c .before .before .before .before .before .before .answer in
-    let found = c .before .before .found in
+    let take-stored = c .before .before .before .before .before .before .take-stored in
+    let parse-count = c .before .before .parse-count in
     let if1 = c .before .if1 in
-    stored-some (table (args .rows .now)) _ (args .governor) (args .row) (args .nonterminal) (args .at) _ _ (answer .ensures) (found .ensures) _
+    stored-some (table (args .rows .now)) _ (args .governor) (args .row) (args .nonterminal) (args .at) _ _ (take-stored .ensures) (parse-count .ensures) _
     (if1 .left) (c .done2 .ensures)
 
 pub stored-spec : {M : Type 1} → statement M

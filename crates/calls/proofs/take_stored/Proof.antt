@@ -1,11 +1,11 @@
--- `calls::answer` meets its contract.
+-- `calls::take_stored` meets its contract.
 use native.Mathlib.Omega.{arith}
 use borrow.Author.Needs.{needs}
 use Rattle.calls.specs.Table.{table}
 use Rattle.calls.specs.TableLaws.{table-below}
 use Rattle.calls.specs.SettlingLaws.{answer-law}
-use Rattle.calls.proofs.answer.Statement.{statement}
-use Rattle.calls.proofs.answer.Tie as tie
+use Rattle.calls.proofs.take_stored.Statement.{statement}
+use Rattle.calls.proofs.take_stored.Tie as tie
 
 returns : tie.Need-returns
 returns c =
@@ -14,9 +14,9 @@ returns c =
     let mark = c .before .before .before .before .before .before .before .before .before .before .mark in
     let kept-of = c .before .before .before .before .before .before .kept-of in
     let end-call = c .before .before .end-call in
-    answer-law (table (args .rows .now)) _ _ _ (args .n) (args .governor) (table-below (args .rows .now) (args .n) (omega (arith, pre)))
+    answer-law (table (args .rows .now)) _ _ _ (args .row) (args .governor) (table-below (args .rows .now) (args .row) (omega (arith, pre)))
     (table-below (args .rows .now) (args .governor) (pre .1)) (mark .ensures) (kept-of .ensures) (end-call .ensures)
 
-pub answer-spec : {M : Type 1} → statement M
-answer-spec =
+pub take-stored-spec : {M : Type 1} → statement M
+take-stored-spec =
     tie.close (tie.spec (λ c κs. search needs) (λ c κs. search needs) (λ c κs. search needs) (λ c. search needs) returns)

@@ -1,12 +1,12 @@
--- `sets::item` meets its contract.
+-- `sets::nth_parse` meets its contract.
 use mathlib.Core.Path.{sym, _∙_}
 use native.Mathlib.Omega.{arith}
 use lib.ListN.{List·getD-eq-default}
 use borrow.Author.Needs.{needs}
 use Rattle.sets.specs.Sets.{setAt}
 use Rattle.sets.specs.PlaceLaws.{size-le, set-item}
-use Rattle.sets.proofs.item.Statement.{statement}
-use Rattle.sets.proofs.item.Tie as tie
+use Rattle.sets.proofs.nth_parse.Statement.{statement}
+use Rattle.sets.proofs.nth_parse.Tie as tie
 
 mul-parse-at : tie.Need-mul-parse-at
 mul-parse-at c =
@@ -33,8 +33,8 @@ returns-2 c =
     let args = c .before .before .before .args in
     sym (List·getD-eq-default (setAt (args .numbers .now) (args .place)) _ (rw (c .before .size .ensures) at (c .if1 .left)))
 
-pub item-spec : {M : Type 1} → statement M
-item-spec =
+pub nth-parse-spec : {M : Type 1} → statement M
+nth-parse-spec =
     tie.close
     (tie.spec
     (λ c κs. search needs)
