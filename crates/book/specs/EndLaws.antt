@@ -19,7 +19,7 @@ use lib.Seq.{drop-cons}
 use borrow.Author.Tests.{lt-ltb, le-ltb, eq-eqb, ne-eqb}
 use Rattle.book.specs.Book.{Book, nthVariant, stepNumber, nthStep}
 use Rattle.book.specs.Check.{Checked, refused, accepted, andThen, passes, allPass, ended, entireBook, Outcome, checkBook}
-use Rattle.book.specs.Index.{readingOf, upTo, countIn, placeIn, firstIn, variantFrom, entriesIn, nonterminalsIn, placedIn, stepsIn, bookIn, fiveSections, Sections, SectionsRead, refusalOf, placeOf, verdict, Says, Checks, CheckedInto, Kept}
+use Rattle.book.specs.Index.{readingOf, upTo, countIn, placeIn, firstIn, variantFrom, entriesIn, nonterminalsIn, placedIn, stepsIn, bookIn, fiveSections, Sections, SectionsRead, refusalOf, placeOf, verdict, Says, Checks, CheckedInto, KeptOutside}
 use Rattle.book.specs.ReadingLaws.{upTo-in, upTo-length}
 use Rattle.book.specs.WholeLaws.{follow-read}
 use Rattle.book.specs.declared.checking.Verdict.{Verdict}
@@ -92,7 +92,7 @@ pub says-case : (o : Outcome) (r : Verdict) → r ≡ verdict o → Says o r
 says-case (Outcome.book b) r e = record { refusal = ap refusalOf e; place = ap placeOf e; case = e }
 says-case (Outcome.refusal n p) r e = record { refusal = ap refusalOf e; place = ap placeOf e; case = e }
 
-refused-checks : (book f g : List ℕ) {n p : ℕ} → entireBook book 0 ≡ refused n p → Kept 0 1091 f g → Checks book f g (Verdict.Refused n p)
+refused-checks : (book f g : List ℕ) {n p : ℕ} → entireBook book 0 ≡ refused n p → KeptOutside 0 1091 f g → Checks book f g (Verdict.Refused n p)
 unfolding checkBook
 refused-checks book f g w k = record { says = says-case _ _ (rw w); gives = λ e. let z : _≡_ {A = ℕ} 0 1 = cc in absurd (omega arith); kept = k }
 

@@ -175,7 +175,7 @@ Small (Part.Read value next) = value ≤ 255
 Small (Part.Refused number place) = Unit {0}
 
 -- a list is as it was, but for the numbers from `low` up to, and not including, `high`
-pub record Kept (low high : ℕ) (before after : List ℕ) : Type 0 where
+pub record KeptOutside (low high : ℕ) (before after : List ℕ) : Type 0 where
   pub below : (k : ℕ) → k < low → getD after k 0 ≡ getD before k 0
   pub above : (k : ℕ) → high ≤ k → getD after k 0 ≡ getD before k 0
 
@@ -190,7 +190,7 @@ pub record Row (sort : Sort) (book : List ℕ) (at count base : ℕ) (before aft
   pub reads :
       row (sizeOf sort) (oneOf sort) count 0 book at ≡ readingOf part (λ v. recordsIn sort book after base count)
   pub valued : Valued part (total (sizeOf sort) (recordsIn sort book after base count))
-  pub kept : Kept (base + 1) (base + 1 + 2 * count) before after
+  pub kept : KeptOutside (base + 1) (base + 1 + 2 * count) before after
 
 -- where something was read, n is at most `high`
 abbrev pub Few : Part → ℕ → ℕ → Type 0
@@ -205,7 +205,7 @@ pub record Section (sort : Sort) (fits : ℕ → Bool) (book : List ℕ) (at hig
       readingOf part (λ v. recordsIn sort book after base (countIn after base))
   pub valued : Valued part (total (sizeOf sort) (recordsIn sort book after base (countIn after base)))
   pub few : Few part (countIn after base) high
-  pub kept : Kept base (base + 1 + 2 * high) before after
+  pub kept : KeptOutside base (base + 1 + 2 * high) before after
 
 -- ---- Sections one after the other
 -- what follows a part that was read
@@ -233,7 +233,7 @@ pub record HeadsRead (book before after : List ℕ) (part : Part) : Type 0 where
   pub few-words : Few part (countIn after wordsAt) mostWords
   pub few-names : Few part (countIn after namesAt) mostNames
   pub few-nonterminals : Few part (countIn after nonterminalsAt) mostNonterminals
-  pub kept : Kept 0 variantsAt before after
+  pub kept : KeptOutside 0 variantsAt before after
 
 abbrev pub Sections : Type 0
 Sections = List Entry → List Entry → List Nonterminal → List (ℕ × Variant) → List Step → ℕ → Checked Book
@@ -256,7 +256,7 @@ pub record SectionsRead (book before after : List ℕ) (part : Part) : Type 0 wh
       followed part
       (K (entriesIn book after wordsAt) (entriesIn book after namesAt) (nonterminalsIn book after) (placedIn book after)
       (stepsIn book after))
-  pub kept : Kept 0 indexSize before after
+  pub kept : KeptOutside 0 indexSize before after
 
 -- ---- Verdicts
 abbrev pub verdictOf : Part → Verdict
@@ -287,7 +287,7 @@ pub record Says (o : Outcome) (r : Verdict) : Type 0 where
 pub record Checks (book before after : List ℕ) (r : Verdict) : Type 0 where
   pub says : Says (checkBook book) r
   pub gives : r ≡ Verdict.Accepted → checkBook book ≡ Outcome.book (bookIn book after)
-  pub kept : Kept 0 indexSize before after
+  pub kept : KeptOutside 0 indexSize before after
 
 -- the outcome of the check with an index: one that is too short is refused as 1
 abbrev pub checkWith : List ℕ → List ℕ → Outcome

@@ -16,7 +16,7 @@ use lib.ListN.{length, getD, set, length-set}
 use lib.Seq.{getD-set-same, getD-set-other}
 use Rattle.characters.specs.Classes.{between}
 use Rattle.book.specs.Check.{refused, accepted, checked, row, total}
-use Rattle.book.specs.Index.{Kept, One, Row, Few, Section, oneOf, sizeOf, recordFrom, recordsIn, upTo, countIn, placeIn, firstIn}
+use Rattle.book.specs.Index.{KeptOutside, One, Row, Few, Section, oneOf, sizeOf, recordFrom, recordsIn, upTo, countIn, placeIn, firstIn}
 use Rattle.book.specs.ReaderLaws.{between-high, checked-told, after, row-begins, row-refused, row-on, row-ends, read, stopped, handed, no-value, value-of, total-snoc}
 use Rattle.book.specs.declared.parts.Part.{Part}
 use Rattle.book.specs.declared.sections.Sort.{Sort}
@@ -52,7 +52,7 @@ stored f s a b h =
 pub record Begun (sort : Sort) (book : List ℕ) (place count base : ℕ) (f g : List ℕ) (i at sum : ℕ) : Type 0 where
   pub reads : after (sizeOf sort) (oneOf sort) book (recordsIn sort book g base i) (row (sizeOf sort) (oneOf sort) (count - i) sum book at) ≡ row (sizeOf sort) (oneOf sort) count 0 book place
   pub totals : sum ≡ total (sizeOf sort) (recordsIn sort book g base i)
-  pub kept : Kept (base + 1) (base + 1 + 2 * count) f g
+  pub kept : KeptOutside (base + 1) (base + 1 + 2 * count) f g
 
 module _ (sort : Sort) (book : List ℕ) (place count base : ℕ) (f : List ℕ) where
   pub begun-first : Begun sort book place count base f f 0 place 0
@@ -80,7 +80,7 @@ module _ (sort : Sort) (book : List ℕ) (place count base : ℕ) (f : List ℕ)
     one-more : recordsIn sort book g′ base (i + 1) ≡ recordsIn sort book g base i ++ (recordFrom sort book at sum ∷ [])
     one-more = upTo-more i _ ∙ rw (before, here)
 
-    kept-so : Kept (base + 1) (base + 1 + 2 * count) f g′
+    kept-so : KeptOutside (base + 1) (base + 1 + 2 * count) f g′
     kept-so = record {
       below = λ k l. s .others k (λ e. omega arith) (λ e. omega arith) ∙ b .kept .below k l;
       above = λ k l. s .others k (λ e. omega arith) (λ e. omega arith) ∙ b .kept .above k l;

@@ -19,7 +19,7 @@ use Rattle.characters.specs.Cases.{by-test}
 use Rattle.characters.specs.Classes.{between}
 use Rattle.book.specs.Book.{Entry, Book}
 use Rattle.book.specs.Check.{Checked, andThen, checked, row, section, placed, entry, nonterminal, variant, step, total, variantsFit}
-use Rattle.book.specs.Index.{readingOf, Few, Kept, Section, sizeOf, oneOf, recordsIn, countIn, placeIn, firstIn, entriesIn, nonterminalsIn, placedIn, stepsIn, followed, HeadsRead, SectionsRead}
+use Rattle.book.specs.Index.{readingOf, Few, KeptOutside, Section, sizeOf, oneOf, recordsIn, countIn, placeIn, firstIn, entriesIn, nonterminalsIn, placedIn, stepsIn, followed, HeadsRead, SectionsRead}
 use Rattle.book.specs.ReaderLaws.{between-inside, between-under, between-over, no-value, value-of}
 use Rattle.book.specs.RowLaws.{upTo-same, not-few}
 use Rattle.book.specs.ReadingLaws.{upTo-length}
@@ -29,18 +29,18 @@ use Rattle.book.specs.declared.records.Variant.{Variant}
 use Rattle.book.specs.declared.records.Step.{Step}
 
 -- ---- Frames
-pub kept-join : (a b c d low high : ℕ) (f g h : List ℕ) → low ≤ a → low ≤ c → b ≤ high → d ≤ high → Kept a b f g → Kept c d g h → Kept low high f h
+pub kept-join : (a b c d low high : ℕ) (f g h : List ℕ) → low ≤ a → low ≤ c → b ≤ high → d ≤ high → KeptOutside a b f g → KeptOutside c d g h → KeptOutside low high f h
 kept-join a b c d low high f g h la lc bh dh first second =
     record {
       below = λ k l. second .below k (omega arith) ∙ first .below k (omega arith);
       above = λ k l. second .above k (omega arith) ∙ first .above k (omega arith);
     }
 
-pub kept-wider : (a b low high : ℕ) (f g : List ℕ) → low ≤ a → b ≤ high → Kept a b f g → Kept low high f g
+pub kept-wider : (a b low high : ℕ) (f g : List ℕ) → low ≤ a → b ≤ high → KeptOutside a b f g → KeptOutside low high f g
 kept-wider a b low high f g la bh k = record { below = λ i l. k .below i (omega arith); above = λ i l. k .above i (omega arith) }
 
 -- a section's records, when only numbers behind it are stored
-module _ (sort : Sort) (book : List ℕ) (base low high : ℕ) (f g : List ℕ) (kept : Kept low high f g) (before : base + 1 + 2 * countIn f base ≤ low) where
+module _ (sort : Sort) (book : List ℕ) (base low high : ℕ) (f g : List ℕ) (kept : KeptOutside low high f g) (before : base + 1 + 2 * countIn f base ≤ low) where
   pub count-stays : countIn g base ≡ countIn f base
   count-stays = kept .below base (omega arith)
 
@@ -106,7 +106,7 @@ module _ (book f g : List ℕ) (part : Part) (s : Section (Sort.Entry 1) (betwee
     pub heads-all : (v′ q : ℕ) → part′ ≡ Part.Read v′ q → (i : List ℕ) (last : Part) → Section Sort.Nonterminal (between 1 32) book q 32 258 h i last → HeadsRead book f i last
     heads-all v′ q told′ i last s″ =
         let names-few = few-read _ _ told′ (s′ .few) in
-        let after-names : Kept 129 323 g i = kept-join 129 258 258 323 129 323 g h i (omega arith) (omega arith) (omega arith) (omega arith) (s′ .kept) (s″ .kept) in
+        let after-names : KeptOutside 129 323 g i = kept-join 129 258 258 323 129 323 g h i (omega arith) (omega arith) (omega arith) (omega arith) (s′ .kept) (s″ .kept) in
         let words-stay = records-stay (Sort.Entry 1) book 0 129 323 g i after-names (omega (arith, words-few)) in
         let names-stay = records-stay (Sort.Entry 7) book 129 258 323 h i (s″ .kept) (omega (arith, names-few)) in
         record {
@@ -212,7 +212,7 @@ module _ (book f g : List ℕ) (head : Part) (s : HeadsRead book f g head) where
 
     module _ (all′ q : ℕ) (told′ : body ≡ Part.Read all′ q) (i : List ℕ) (last : Part)
         (s″ : Section (Sort.Step (countIn h 0) (countIn h 258)) (eqb all′) book q 255 580 h i last) where
-      after-heads : Kept 323 1091 g i
+      after-heads : KeptOutside 323 1091 g i
       after-heads = kept-join 323 580 580 1091 323 1091 g h i (omega arith) (omega arith) (omega arith) (omega arith) (s′ .kept) (s″ .kept)
 
       few-variants-read : countIn h 323 ≤ 128

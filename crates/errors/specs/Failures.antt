@@ -1,8 +1,8 @@
--- `counted`, `failedCall` and `chosen` of the run, over the numbers that they read of a call rather than the call.
+-- `counted` and `failedCall` of the run, over the numbers that they read of a call rather than the call.
 --
 -- Contents:
--- - counted, failedCall, chosen
--- - they are the run's: counted-run, failedCall-run, chosen-run
+-- - counted, failedCall
+-- - they are the run's, and `chosenFailure` is: counted-run, failedCall-run, chosen-run
 -- - errors that consumed nothing since a choice drop; another stays: choice-drops, choice-keeps
 use mathlib.Core.Bool.{Bool, cond}
 use mathlib.Core.List.{List}
@@ -11,7 +11,7 @@ use mathlib.Core.Path.{_≡_, refl}
 use Prim.Native.Nat.{ℕ}
 use Rattle.book.specs.Book.{Book, nthVariant}
 use Rattle.semantics.specs.Numbers.{nonterminalWanted, moreWanted}
-use Rattle.semantics.specs.Errors.{Error, error, join, beyond, choiceError}
+use Rattle.semantics.specs.Errors.{Error, error, join, beyond, choiceError, chosenFailure}
 use Rattle.semantics.specs.Run as run
 
 -- what a variant's failure counts for a call that begins at `start`
@@ -23,12 +23,6 @@ counted committed start (some e) = cond committed (beyond start e) none
 unfoldable pub failedCall : ℕ → ℕ → Option Error → Error
 failedCall start N none = error start nonterminalWanted N
 failedCall start N (some e) = e
-
--- the failure of both sides of a choice at a place, in a variant of nonterminal N
-unfoldable pub chosen : ℕ → ℕ → Option Error → Option Error → Option Error
-chosen at N none second = none
-chosen at N (some a) none = none
-chosen at N (some a) (some b) = some (choiceError at N a b)
 
 -- ---- They are the run's
 pub counted-run :
@@ -45,13 +39,15 @@ failedCall-run c (some e) = refl
 
 chosen-both :
     (c : run.Call) (at : ℕ) (a : Error) (b : run.Parsed) (f : Option Error) →
-    b .failure ≡ f → run.chosen c at (some a) b .failure ≡ chosen at (c .nonterminal) (some a) f
-unfolding chosen run.chosen
+    b .failure ≡ f → run.chosen c at (some a) b .failure ≡ chosenFailure at (c .nonterminal) (some a) f
+unfolding chosenFailure run.chosen
 chosen-both c at a b none e = rw e
 chosen-both c at a b (some x) e = rw e
 
-pub chosen-run : (c : run.Call) (at : ℕ) (a : Option Error) (b : run.Parsed) → run.chosen c at a b .failure ≡ chosen at (c .nonterminal) a (b .failure)
-unfolding chosen run.chosen
+pub chosen-run :
+    (c : run.Call) (at : ℕ) (a : Option Error) (b : run.Parsed) →
+    run.chosen c at a b .failure ≡ chosenFailure at (c .nonterminal) a (b .failure)
+unfolding chosenFailure run.chosen
 chosen-run c at none b = refl
 chosen-run c at (some a) b = chosen-both c at a b (b .failure) refl
 

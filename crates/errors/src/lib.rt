@@ -8,9 +8,9 @@
 // The crate relies on the definitions of `semantics`, and assumes nothing.
 ghost use mathlib.Core.Path.{_≡_};
 ghost use Rattle.semantics.specs.Errors.{wins as winsOver, join as joined, beyond as errorBeyond};
-ghost use Rattle.semantics.specs.Errors.{joinWith, choiceError};
+ghost use Rattle.semantics.specs.Errors.{joinWith, choiceError, chosenFailure};
 ghost use Rattle.semantics.specs.Run.{either as eitherOf};
-ghost use Rattle.errors.specs.Failures.{counted as countedOf, failedCall, chosen as chosenOf};
+ghost use Rattle.errors.specs.Failures.{counted as countedOf, failedCall};
 ghost use Rattle.errors.specs.Maps.{errorOf, failureOf};
 
 // ---- The kinds
@@ -131,7 +131,7 @@ fn choice_error(at: u32, nonterminal: u32, a: Error, b: Error) -> Error
 
 // Both sides of a choice at a place, in a variant of the nonterminal: a parse on either side leaves no error.
 pub fn chosen(at: u32, nonterminal: u32, first: Failure, second: Failure) -> Failure
-    ensures { λ r. ⌜ failureOf r ≡ chosenOf at nonterminal (failureOf first) (failureOf second) ⌝ }
+    ensures { λ r. ⌜ failureOf r ≡ chosenFailure at nonterminal (failureOf first) (failureOf second) ⌝ }
 {
     let Failure::At(a) = first else {
         return Failure::None;

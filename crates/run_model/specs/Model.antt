@@ -24,7 +24,7 @@ use Rattle.semantics.specs.Tokens.{when, isSome, variableAt, freeEnd}
 use Rattle.semantics.specs.Steps.{Taken, stepAt, goes, halts, afterElement, closed, Todo, taking, elements, ending}
 use Rattle.semantics.specs.Steps.{todoOf}
 use Rattle.semantics.specs.Cells.{Cell}
-use Rattle.semantics.specs.Errors.{Error, error, joinWith, choiceError, stepError}
+use Rattle.semantics.specs.Errors.{Error, error, joinWith, chosenFailure, stepError}
 use Rattle.semantics.specs.Run.{Result, met, ok, _>>=_, State, Made, made, Call, call, allIn, kept, add, addAll, spend}
 use Rattle.semantics.specs.Run.{make, failedCall, either, closingOf, begin, withCell, withToken, counted}
 use Rattle.run_model.specs.Rows.{Row, opened, ended, withVariant, withChild, wasAsked, withSet, withRun, copied}
@@ -87,12 +87,6 @@ spendRows s = spend (unmarked s) >>= (λ t. ok (rowState (t .units) (t .cells) (
 abbrev pub bareCall : ℕ → ℕ → Call
 bareCall N u = call [] [] N u []
 
--- both sides of a choice at a place
-unfoldable pub chosenFailure : ℕ → ℕ → Option Error → Option Error → Option Error
-chosenFailure N at none b = none
-chosenFailure N at (some a) none = none
-chosenFailure N at (some a) (some b) = some (choiceError at N a b)
-
 -- no parse is a failure
 unfoldable pub failsEmpty : List (Parse ℕ) → Error → Option Error
 failsEmpty [] e = some e
@@ -109,8 +103,8 @@ module _ (book : Book) (text : List ℕ) where
   valueCell j items s =
       when (nthVariant book j .passing) (λ _. ok (made items s)) (λ _. make text (Cell.variant j items) s)
 
-  abbrev pub parseOf : ℕ → ℕ → ℕ → Parse ℕ
-  parseOf j x value =
+  abbrev pub variantParse : ℕ → ℕ → ℕ → Parse ℕ
+  variantParse j x value =
       record {
         rest = x;
         level = nthVariant book j .level;
@@ -123,7 +117,7 @@ module _ (book : Book) (text : List ℕ) where
   addRun c p s = add (unmarked s) (rowOf (s .rows) c .run) p >>= (λ more. ok (outcome none (atRow c (withRun more) s)))
 
   unfoldable pub completeRows : ℕ → ℕ → ℕ → ℕ → RowState → Result Outcome
-  completeRows c j x items s = makes (valueCell j items) s >>= (λ m. addRun c (parseOf j x (m .cell)) (m .state))
+  completeRows c j x items s = makes (valueCell j items) s >>= (λ m. addRun c (variantParse j x (m .cell)) (m .state))
 
   -- ---- The variants of the call of row c
   abbrev pub takeVariant : ℕ → Row → Row
@@ -264,7 +258,7 @@ module _ (book : Book) (text : List ℕ) (inner : Option RowRunner) (n : ℕ) wh
 
   -- both sides of a choice
   abbrev pub chosenRows : ℕ → ℕ → Option Error → Outcome → Outcome
-  chosenRows c at a b = outcome (chosenFailure (rowOf (b .state .rows) c .nonterminal) at a (b .failure)) (b .state)
+  chosenRows c at a b = outcome (chosenFailure at (rowOf (b .state .rows) c .nonterminal) a (b .failure)) (b .state)
 
   -- a child at a place is called, then followed, behind the other side of the choice
   unfoldable pub orChild : ℕ → ℕ → RowNext → ℕ → Outcome → Result Outcome

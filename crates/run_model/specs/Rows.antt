@@ -122,14 +122,14 @@ useAt r = record {
 abbrev pub askedAt : Row → Bool
 askedAt r = eqb (r .asked) 1
 
-abbrev pub setAt : Row → List (Parse ℕ)
-setAt r = r .set
+abbrev pub storedOf : Row → List (Parse ℕ)
+storedOf r = r .set
 
 abbrev pub pathOf : List Row → ℕ → Path
 pathOf T n = openAbove useAt T n
 
 abbrev pub setsOf : List Row → ℕ → List (List (Parse ℕ))
-setsOf T n = openAbove setAt T n
+setsOf T n = openAbove storedOf T n
 
 abbrev pub marksOf : List Row → ℕ → List Bool
 marksOf T n = openAbove askedAt T n

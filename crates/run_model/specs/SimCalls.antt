@@ -20,7 +20,7 @@ use Rattle.semantics.specs.Steps.{todoOf}
 use Rattle.semantics.specs.Cells.{Cell}
 use Rattle.semantics.specs.Errors.{Error, error}
 use Rattle.semantics.specs.Run.{Result, met, ok, _>>=_, State, Parsed, parsed, Call, call, withMine, Runner, allIn, kept, add, addAll, ask, newest, others, withAsked, make, failedCall, begin, counted, variants, oneRun, rounds, runCall, named, runIdentifier, nested, reentry, enter}
-use Rattle.run_model.specs.Rows.{Row, opened, ended, withSet, withRun, wasAsked, copied, rowOf, onRow, useAt, askedAt, setAt, marksOf, pathOf, setsOf, callOf, newestGovernor, governorAt, anyClaims, RowGovernor}
+use Rattle.run_model.specs.Rows.{Row, opened, ended, withSet, withRun, wasAsked, copied, rowOf, onRow, useAt, askedAt, storedOf, marksOf, pathOf, setsOf, callOf, newestGovernor, governorAt, anyClaims, RowGovernor}
 use Rattle.run_model.specs.Model.{RowState, rowState, Outcome, outcome, RowRunner, bareCall, failsEmpty, takeVariant, variantsRows, oneRunRows, settle, roundsRows, settleFirst, runCallRows, namedRows, runIdentifierRows, nestedRows, storedRows, enterRows}
 use Rattle.run_model.specs.Keeps.{row-put, run-put, Ran, Keeping}
 use Rattle.run_model.specs.KeepsRun.{keeps-taken, keeps-one-run}
@@ -123,7 +123,7 @@ module _ (book : Book) (text : List ℕ) (m : ℕ) (S : RowRunner) (R : Runner) 
   all-standing C T all h =
       let r = withSet all (rowOf T n) in
       let f : rowOf (set T n r) n ≡ r = row-put T n r (omega (arith, h .size)) in
-      let mine : callOf (set T n r) n ≡ withMine (callOf T n) all = rw (open-put useAt T n r, open-put setAt T n r, f) in
+      let mine : callOf (set T n r) n ≡ withMine (callOf T n) all = rw (open-put useAt T n r, open-put storedOf T n r, f) in
       record {
         live = ap (λ r. r .live) f ∙ h .live;
         scope = ap (λ r. r .scope) f ∙ h .scope;
@@ -212,7 +212,7 @@ module _ (book : Book) (text : List ℕ) (m : ℕ) (S : RowRunner) (R : Runner) 
       let standing : Standing C n (set T n r) = record {
         live = ap (λ r. r .live) f;
         scope = ap (λ r. r .scope) f;
-        call = rw (open-put useAt T n r, open-put setAt T n r, f);
+        call = rw (open-put useAt T n r, open-put storedOf T n r, f);
         size = length-set T n r ∙ size;
       } in
       let state : stateAt n (rowState units cells (set T n r)) ≡ stateOf units cells (false ∷ marksOf T n) = rw (open-put askedAt T n r, f) in

@@ -22,10 +22,10 @@ use Rattle.semantics.specs.Uses.{useOf}
 use Rattle.semantics.specs.Tokens.{when}
 use Rattle.semantics.specs.Steps.{Token, stepAt, afterElement, closed, Todo, taking, elements, ending}
 use Rattle.semantics.specs.Cells.{Cell}
-use Rattle.semantics.specs.Errors.{Error}
+use Rattle.semantics.specs.Errors.{Error, chosenFailure}
 use Rattle.semantics.specs.Run.{Result, ok, _>>=_, State, Parsed, parsed, Call, call, Runner, Go, Next, add, spend, make, chosen, complete, withToken, plainNext, listNext, stops, nested, enterChild, followMore, follow, followed, stepUnit, orAbsent, choice, listing, steps, run}
-use Rattle.run_model.specs.Rows.{Row, withChild, withRun, rowOf, onRow, openAbove, useAt, askedAt, setAt, marksOf, pathOf, callOf}
-use Rattle.run_model.specs.Model.{RowState, rowState, Outcome, outcome, RowRunner, RowGo, RowNext, makes, spendRows, chosenFailure, together, valueCell, parseOf, addRun, completeRows, plainNextRows, listNextRows, stopsRows, nestedRows, enterChildRows, followFrom, followedRows, stepUnitRows, chosenRows, orChild, orAbsentRows, choiceRows, listingRows, stepsRows}
+use Rattle.run_model.specs.Rows.{Row, withChild, withRun, rowOf, onRow, openAbove, useAt, askedAt, storedOf, marksOf, pathOf, callOf}
+use Rattle.run_model.specs.Model.{RowState, rowState, Outcome, outcome, RowRunner, RowGo, RowNext, makes, spendRows, together, valueCell, variantParse, addRun, completeRows, plainNextRows, listNextRows, stopsRows, nestedRows, enterChildRows, followFrom, followedRows, stepUnitRows, chosenRows, orChild, orAbsentRows, choiceRows, listingRows, stepsRows}
 use Rattle.run_model.specs.Keeps.{row-put, KeepsAt, Called, at-put, Beside, Calls, Keeping, Inner}
 use Rattle.run_model.specs.KeepsRun.{keeps-child, child-leaves, KeepsNext, keeps-one, keeps-followed, keeps-plain-next, keeps-list-next, KeepsGo, keeps-stops, keeps-steps}
 use Rattle.run_model.specs.Views.{open-put, open-skips}
@@ -66,7 +66,7 @@ module _ (book : Book) (text : List ℕ) (n : ℕ) (inner : Option RowRunner) (i
         let path : pathOf (put T at) n ≡ useOf book (rowOf T c .nonterminal) (rowOf T c .start) j at ∷ pathOf T c =
         child-open useAt T at h ∙ ap (λ f. f ∷ pathOf T c) (child-use T at h) in
         rw (← same)
-        (rw (path, child-open setAt T at h, child-open askedAt T at h) at
+        (rw (path, child-open storedOf T at h, child-open askedAt T at h) at
         (sim-enter book text n inner innerA kin room M at (put T at) size units cells))
 
     -- behind the child's call: the marks are those of the call of row c and of those around it, and the run's set is as
@@ -271,7 +271,7 @@ module _ (book : Book) (text : List ℕ) (n : ℕ) (inner : Option RowRunner) (i
     unfolding complete completeRows valueCell
     sim-complete x items units cells T h =
         makes-see (ranAt c) (valueCell book text j items) (plain-value book text j items) (rowState units cells T) (askedAt (rowOf T c) ∷ marksOf T c) _ _
-        (λ cell units₁ cells₁. sim-add (parseOf book text j x cell) units₁ cells₁ T h)
+        (λ cell units₁ cells₁. sim-add (variantParse book text j x cell) units₁ cells₁ T h)
 
     unit-see : (step : Step) (units : ℕ) (cells : List Cell) (T : List Row) (asked : List Bool) (L : State → Result Parsed) (K : RowState → Result Outcome) →
         ((units₁ : ℕ) → L (stateOf units₁ cells asked) ≡ see (ranAt c) (K (rowState units₁ cells T))) →

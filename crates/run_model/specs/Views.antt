@@ -16,7 +16,7 @@ use Rattle.book.specs.Book.{Book}
 use Rattle.semantics.specs.Uses.{Path, base, Governor, minimum, same-start, minimumOf, outwards, govern, governor}
 use Rattle.semantics.specs.Tokens.{hasClaimant}
 use Rattle.semantics.specs.Run.{ask}
-use Rattle.run_model.specs.Rows.{Row, wasAsked, rowOf, onRow, keepIf, openFrom, openAbove, useAt, askedAt, setAt, pathOf, setsOf, governs, newestGovernor, claims, anyClaims}
+use Rattle.run_model.specs.Rows.{Row, wasAsked, rowOf, onRow, keepIf, openFrom, openAbove, useAt, askedAt, storedOf, pathOf, setsOf, governs, newestGovernor, claims, anyClaims}
 use Rattle.run_model.specs.Keeps.{Same, row-put, row-else, Keeps}
 
 -- ---- The open calls above a row
@@ -42,7 +42,7 @@ pub path-keeps : (n : ℕ) (T U : List Row) → Keeps (suc n) T U → pathOf U n
 path-keeps n T U h = open-same useAt (λ r s e. ap useAt e) T U (200 - n) (suc n) (h .at)
 
 pub sets-keeps : (n : ℕ) (T U : List Row) → Keeps (suc n) T U → setsOf U n ≡ setsOf T n
-sets-keeps n T U h = open-same setAt (λ r s e. ap setAt e) T U (200 - n) (suc n) (h .at)
+sets-keeps n T U h = open-same storedOf (λ r s e. ap storedOf e) T U (200 - n) (suc n) (h .at)
 
 -- d rows that are not live, then a live one
 skips : {A : Type 0} (F : Row → A) (T : List Row) (c k d i n : ℕ) → i + d ≡ c → n ≡ d + suc k → rowOf T c .live ≡ 1 →
@@ -65,7 +65,7 @@ open-skips F T c n below within live idle = skips F T c (200 - c) (c - suc n) (s
 -- ---- The governor
 -- row g, among the live ones of k rows from i on, is number x
 pub record Picked (T : List Row) (k i g x : ℕ) : Type 0 where
-  pub sets : getD (openFrom setAt T k i) x [] ≡ rowOf T g .set
+  pub sets : getD (openFrom storedOf T k i) x [] ≡ rowOf T g .set
   pub marks : ask x (openFrom askedAt T k i) ≡ openFrom askedAt (onRow T g wasAsked) k i
 
 -- the governor by rows is the governor by the path
@@ -109,7 +109,7 @@ module _ (T : List Row) (size : length T ≡ 201) (u k i : ℕ) where
       open-equal askedAt T U k (suc i) (λ j p. row-else T i j (wasAsked (rowOf T i)) (λ e. omega arith)) in
       let live : rowOf U i .live ≡ 1 = ap (λ r. r .live) f ∙ h in
       at-start i 0 around (omega arith) l e (record {
-        sets = ap (λ l. getD l 0 []) (open-cons setAt T h);
+        sets = ap (λ l. getD l 0 []) (open-cons storedOf T h);
         marks = ap (λ l. ask 0 l) (open-cons askedAt T h) ∙ sym (open-cons askedAt U live ∙ rw (f, z));
       })
 

@@ -47,6 +47,12 @@ joinWith (some a) (some b) = some (join a b)
 unfoldable pub choiceError : ℕ → ℕ → Error → Error → Error
 choiceError at N a b = elim (beyond at (join a b)) [ some e ↦ e | none ↦ error at moreWanted N ]
 
+-- what `chosen` of the run gives of the failures of both sides: a side that yields a parse leaves no error
+unfoldable pub chosenFailure : ℕ → ℕ → Option Error → Option Error → Option Error
+chosenFailure at N none second = none
+chosenFailure at N (some a) none = none
+chosenFailure at N (some a) (some b) = some (choiceError at N a b)
+
 -- what a step gives where it takes nothing
 module _ (book : Book) (text : List ℕ) where
   -- an identifier was wanted: the text ended, it is reserved, or none is there; else another kind of error. Kind 2

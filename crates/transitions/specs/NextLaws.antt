@@ -6,21 +6,20 @@
 -- - choices: absent-limit, absent-goes, side-limit, side-stops, first-next, both-limit, both-chosen
 use mathlib.Core.Path.{_≡_, refl, sym, ap, _∙_}
 use mathlib.Core.List.{List}
-use mathlib.Core.Option.{Option, none, some}
+use mathlib.Core.Option.{Option}
 use Prim.Native.Nat.{ℕ, zero, suc, _-_}
 use Rattle.characters.specs.Skipping.{skipFrom}
 use Rattle.book.specs.Book.{Book}
 use Rattle.semantics.specs.Values.{Parse}
 use Rattle.semantics.specs.Steps.{Todo, goes, halts, afterElement}
-use Rattle.semantics.specs.Errors.{Error}
+use Rattle.semantics.specs.Errors.{Error, chosenFailure}
 use Rattle.semantics.specs.Cells.{Cell}
 use Rattle.semantics.specs.Run as run
 use Rattle.semantics.specs.Run.{met, ok, _>>=_, either}
 use Rattle.run_model.specs.Rows.{Row, rowOf}
 use Rattle.run_model.specs.Model.{RowState, rowState, outcome, RowRunner, RowMade, rowMade, makes, spendRows, together}
-use Rattle.run_model.specs.Model.{plainNextRows, listNextRows, stopsRows, chosenFailure, choiceRows, stepsRows}
+use Rattle.run_model.specs.Model.{plainNextRows, listNextRows, stopsRows, choiceRows, stepsRows}
 use Rattle.sets.specs.Sets.{parse}
-use Rattle.errors.specs.Failures as failures
 use Rattle.errors.specs.Maps.{failureOf}
 use Rattle.tokens.specs.Maps.{closingIn, afterOf}
 use Rattle.errors.specs.declared.Failure.{Failure}
@@ -233,12 +232,6 @@ pub first-next : (book : Book) (text before after : List ℕ) (j at items : ℕ)
 first-next book text before after j at items next other s g e w = rw e w
 
 -- both sides
-chosen-same : (N at : ℕ) (a b : Option Error) → failures.chosen at N a b ≡ chosenFailure N at a b
-unfolding failures.chosen chosenFailure
-chosen-same N at none b = refl
-chosen-same N at (some a) none = refl
-chosen-same N at (some a) (some b) = refl
-
 pub both-limit : (text : List ℕ) (T : List Row) (c at : ℕ) (a b : Outcome) → (b .limit ≡ 0 → ⊥) → Chosen text T c at a b b
 both-limit text T c at a b l =
     record {
@@ -247,13 +240,13 @@ both-limit text T c at a b l =
     }
 
 pub both-chosen : (text : List ℕ) (T : List Row) (c at N x : ℕ) (a b r : Outcome) (first second f : Failure) → b .limit ≡ 0 → N ≡ rowOf T c .nonterminal →
-    x ≡ skipFrom text at → first ≡ failureAt a → second ≡ failureAt b → failureOf f ≡ failures.chosen x N (failureOf first) (failureOf second) → r ≡ doneWith f (b .state) → Chosen text T c at a b r
+    x ≡ skipFrom text at → first ≡ failureAt a → second ≡ failureAt b → failureOf f ≡ chosenFailure x N (failureOf first) (failureOf second) → r ≡ doneWith f (b .state) → Chosen text T c at a b r
 both-chosen text T c at N x a b r first second f l eN ex ea eb e q =
     rw q (record {
       is = λ book inner n cells.
           given-ok (doneWith f (b .state)) cells T refl
           ∙ ap (λ z. ok (outcome z (rowState (b .state .units) cells T)))
-          (ap failureOf (failure-done f (b .state)) ∙ (rw (ex, eN) at ((rw (ea, eb) at e) ∙ chosen-same N x (failureOf (failureAt a)) (failureOf (failureAt b)))))
+          (ap failureOf (failure-done f (b .state)) ∙ (rw (ex, eN) at (rw (ea, eb) at e)))
           ∙ sym (bind-ok _ (given-ok b cells T l));
       cells = refl;
     })

@@ -62,7 +62,7 @@ pub level-fits : (book : Book) (text : List ℕ) (j : ℕ) (w : Variant) → w �
 level-fits book text j w e fit = rw e (fit .levels j)
 
 pub parse-of-variant : (book : Book) (text : List ℕ) (j x v : ℕ) (w : Variant) (p : Parse ℕ) → w ≡ nthVariant book j →
-    p ≡ parse x (w .level) (w .associativity) v → p ≡ model.parseOf book text j x v
+    p ≡ parse x (w .level) (w .associativity) v → p ≡ model.variantParse book text j x v
 parse-of-variant book text j x v w p e q = rw e at q
 
 module _ (book : Book) (text before after : List ℕ) (c j x items : ℕ) (s : State) (m : CellOutcome) (w : MadeBy text before after s m (valueCell book text j items))
@@ -78,7 +78,7 @@ module _ (book : Book) (text before after : List ℕ) (c j x items : ℕ) (s : S
         held = v .held;
       })
 
-  module _ (U : List Row) (b : Bool) (p : Parse ℕ) (q : p ≡ model.parseOf book text j x (m .cell)) (a : RunAdded b T U c p) (l : m .limit ≡ 0) where
+  module _ (U : List Row) (b : Bool) (p : Parse ℕ) (q : p ≡ model.variantParse book text j x (m .cell)) (a : RunAdded b T U c p) (l : m .limit ≡ 0) where
     completed : (v : MadeIn text after m (valueCell book text j items (bare (s .units) (cellsOf before (s .cells))))) →
         completeRows book text c j x items (rowState (s .units) (cellsOf before (s .cells)) T)
         ≡ cond b (ok (outcome none (stateIn (m .state) after U))) (met 22 (m .state .units))

@@ -2,13 +2,13 @@
 --
 -- Contents:
 -- - by-option
--- - places: skip-fits, identifier-within, free-end-within, free-end-fits
+-- - places: skip-fits, free-end-fits
 -- - characters: character-within, character-fits, closed-fits, after-fits, goes-fits, halts-fits
 -- - names: name-fits
 -- - variables: variable-fits
 -- - what a step takes: taken-fits
 -- - the same by what was taken: token-fits, child-fits, optional-fits, list-fits, unopened-fits
-use mathlib.Core.Path.{_≡_, refl, ap, _∙_}
+use mathlib.Core.Path.{_≡_, refl}
 use mathlib.Core.Bool.{Bool, true, false, cond}
 use mathlib.Core.List.{List, [], _∷_}
 use mathlib.Core.Option.{Option, none, some}
@@ -20,15 +20,15 @@ use borrow.Author.Tests.{ltb-true, ltb-false}
 use Rattle.characters.specs.Cases.{by-test}
 use Rattle.characters.specs.Skipping.{skipFrom}
 use Rattle.characters.specs.SkippingLaws.{skip-within, skip-out}
-use Rattle.characters.specs.Lexemes.{identifierAt, numberAt}
-use Rattle.characters.specs.LexemeLaws.{identifier-bounds, number-bounds}
-use Rattle.characters.specs.declared.lexemes.Identifier.{Identifier}
+use Rattle.characters.specs.Lexemes.{numberAt}
+use Rattle.characters.specs.LexemeLaws.{number-bounds}
 use Rattle.characters.specs.declared.lexemes.Number.{Number}
 use Rattle.characters.specs.Spelling.{same}
 use Rattle.book.specs.Book.{Book, Entry, nthEntry, lookupFrom, lookupName, nthStep}
 use Rattle.book.specs.declared.names.Found.{Found}
 use Rattle.book.specs.declared.records.Step.{Step}
 use Rattle.semantics.specs.Tokens.{Variable, characterEnd, identifierEnd, spelled, reservedAt, freeEnd, variableAt}
+use Rattle.semantics.specs.Theorem.Tokens.{identifier-within, free-end-within}
 use Rattle.semantics.specs.Steps as steps
 use Rattle.semantics.specs.Steps.{After, goes, halts, afterElement, closed, stepAt}
 use Rattle.tokens.specs.Maps.{itemOf, takenOf}
@@ -47,25 +47,6 @@ skip-fits text x short h =
     by-test (ltb x (length text))
     (λ t. let inside = ltb-true x (length text) t in omega (arith, skip-within text x (omega arith)))
     (λ t. omega (arith, skip-out text x (ltb-false x (length text) t)))
-
-identifier-told : (text : List ℕ) (at end : ℕ) (i : Identifier) → identifierAt text at ≡ i → identifierEnd text at ≡ some end → (at < end) × (end ≤ length text)
-unfolding identifierEnd
-identifier-told text at end (Identifier.Ends y) e q =
-    let p : some y ≡ some end = rw (e, identifierEnd) at q in
-    let s : y ≡ end = cc in
-    identifier-bounds text at end (e ∙ ap Identifier.Ends s)
-identifier-told text at end Identifier.Nothing e q = let p : none ≡ some end = rw (e, identifierEnd) at q in let z : _≡_ {A = ℕ} 0 1 = cc in absurd (omega arith)
-
--- an identifier ends behind its place, within the text
-pub identifier-within : (text : List ℕ) (at end : ℕ) → identifierEnd text at ≡ some end → (at < end) × (end ≤ length text)
-identifier-within text at end q = identifier-told text at end (identifierAt text at) refl q
-
-pub free-end-within : (book : Book) (text : List ℕ) (at end : ℕ) → freeEnd book text at ≡ some end → (at < end) × (end ≤ length text)
-unfolding freeEnd
-free-end-within book text at end q =
-    by-test (reservedAt book text at)
-    (λ t. let p : none ≡ some end = rw (t, freeEnd) at q in let z : _≡_ {A = ℕ} 0 1 = cc in absurd (omega arith))
-    (λ t. identifier-within text at end (rw (t, freeEnd) at q))
 
 pub free-end-fits : (book : Book) (text : List ℕ) (at end : ℕ) → length text ≤ 4096 → freeEnd book text at ≡ some end → end < 4294967296
 free-end-fits book text at end short q = omega (arith, free-end-within book text at end q)

@@ -2,22 +2,22 @@
 use mathlib.Core.Option.{some}
 use mathlib.Core.Path.{ap}
 use borrow.Author.Needs.{needs}
-use Rattle.errors.specs.Failures.{chosen}
+use Rattle.semantics.specs.Errors.{chosenFailure}
 use Rattle.errors.proofs.chosen.Statement.{statement}
 use Rattle.errors.proofs.chosen.Tie as tie
 
 returns : tie.Need-returns
-unfolding chosen
+unfolding chosenFailure
 returns c = rw (c .enum-told .given .1)
 
 returns-2 : tie.Need-returns-2
-unfolding chosen
+unfolding chosenFailure
 returns-2 c =
     let first = c .before .before .before .first in
     rw (first .given .1, c .enum-told2 .given .1)
 
 returns-3 : tie.Need-returns-3
-unfolding chosen
+unfolding chosenFailure
 returns-3 c =
     let first = c .before .before .before .before .before .first in
     let second = c .before .before .second in
