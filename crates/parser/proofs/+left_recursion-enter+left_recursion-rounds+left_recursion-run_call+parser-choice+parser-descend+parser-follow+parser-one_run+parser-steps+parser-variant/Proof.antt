@@ -640,7 +640,7 @@ parser·follow-add-i : (t : ℕ) → parser·follow-lts.Need-add-i (parser·foll
 parser·follow-add-i t c =
     let parse-count = c .before .before .before .before .before .before .before .before .before .before .before .before .before .before .before .before .before .before .before .before .parse-count in
     let loop-test = c .before .before .before .before .before .before .before .before .before .before .before .before .before .before .before .before .before .before .loop-test in
-    omega (arith, loop-test .taken, found .ok)
+    omega (arith, loop-test .taken, parse-count .ok)
 
 parser·follow-loop-less : (t : ℕ) → parser·follow-lts.Need-loop-less (parser·follow-callees t) (parser·follow-at t) parser·follow.Post parser·follow-Inv-loop parser·follow-μ-loop
 parser·follow-loop-less t c =

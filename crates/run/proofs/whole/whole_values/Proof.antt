@@ -36,7 +36,7 @@ add-i : tie.Need-add-i Inv-loop μ-loop
 add-i c =
     let parse-count = c .before .before .before .before .parse-count in
     let loop-test = c .before .before .loop-test in
-    omega (arith, loop-test .taken, found .ok)
+    omega (arith, loop-test .taken, parse-count .ok)
 
 loop-less : tie.Need-loop-less Inv-loop μ-loop
 loop-less c =
