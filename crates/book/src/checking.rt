@@ -4,6 +4,7 @@ ghost use mathlib.Core.Bool.{cond};
 ghost use Prim.Native.Nat.{ℕ, _+_, _*_, _≤_, _<_};
 ghost use lib.Dec.{ltb, eqb};
 ghost use lib.ListN.{length, getD};
+ghost use Rattle.characters.specs.Slices.{atEntry, atExit};
 ghost use Rattle.book.specs.Book.{stepNumber, nthVariant};
 ghost use Rattle.book.specs.Numbers.{mostVariants};
 ghost use Rattle.book.specs.Check.{passes as passesIn, allPass, checkBook, variantsFit};
@@ -44,7 +45,7 @@ pub enum Verdict {
 // Words, names and nonterminals; the value is the number of variants.
 fn heads(book: &[u8], index: &mut [usize]) -> Part
     requires { ⌜ indexSize ≤ length (now index) ⌝ }
-    ensures { λ r. ⌜ HeadsRead (now (book .entry)) (now (index .entry)) (now (index .exit)) r ⌝ }
+    ensures { λ r. ⌜ HeadsRead (atEntry book) (atEntry index) (atExit index) r ⌝ }
 {
     let words = section(book, 0, 0, MOST_WORDS, Sort::Entry(RESERVED), index, WORDS);
     let Part::Read {
@@ -84,8 +85,8 @@ fn heads(book: &[u8], index: &mut [usize]) -> Part
 // The variants, `total` of them and at most 128; the value is the number of steps.
 fn variants(book: &[u8], at: usize, total: usize, index: &mut [usize]) -> Part
     requires { ⌜ indexSize ≤ length (now index) ⌝ }
-    ensures { λ r. ⌜ Section Sort.Variant (variantsFit total) (now (book .entry)) at mostVariants variantsAt
-        (now (index .entry)) (now (index .exit)) r ⌝ }
+    ensures { λ r. ⌜ Section Sort.Variant (variantsFit total) (atEntry book) at mostVariants variantsAt
+        (atEntry index) (atExit index) r ⌝ }
 {
     if total <= MOST_VARIANTS {
         section(book, at, total, total, Sort::Variant, index, VARIANTS)
@@ -98,8 +99,8 @@ fn variants(book: &[u8], at: usize, total: usize, index: &mut [usize]) -> Part
 fn steps(book: &[u8], at: usize, total: usize, index: &mut [usize]) -> Part
     requires { ⌜ indexSize ≤ length (now index) ⌝ }
     ensures { λ r. ⌜ Section
-        (Sort.Step (countIn (now (index .entry)) wordsAt) (countIn (now (index .entry)) nonterminalsAt)) (eqb total)
-        (now (book .entry)) at 255 stepsAt (now (index .entry)) (now (index .exit)) r ⌝ }
+        (Sort.Step (countIn (atEntry index) wordsAt) (countIn (atEntry index) nonterminalsAt)) (eqb total)
+        (atEntry book) at 255 stepsAt (atEntry index) (atExit index) r ⌝ }
 {
     let words = count(index, WORDS);
     let nonterminals = count(index, NONTERMINALS);
@@ -128,7 +129,7 @@ fn steps(book: &[u8], at: usize, total: usize, index: &mut [usize]) -> Part
 
 fn five_sections(book: &[u8], index: &mut [usize]) -> Part
     requires { ⌜ indexSize ≤ length (now index) ⌝ }
-    ensures { λ r. ⌜ SectionsRead (now (book .entry)) (now (index .entry)) (now (index .exit)) r ⌝ }
+    ensures { λ r. ⌜ SectionsRead (atEntry book) (atEntry index) (atExit index) r ⌝ }
 {
     let head = heads(book, index);
     let Part::Read {
@@ -166,7 +167,7 @@ fn passes(book: &[u8], index: &[usize], j: usize) -> bool
 // The first variant that doesn't pass, as a refusal, or `next`.
 fn all_pass(book: &[u8], index: &[usize], next: usize) -> Part
     ensures { λ r. ⌜ allPass (bookAt book index .steps)
-        (placedIn (now (book .entry)) (now (index .entry))) (now (book .entry)) next ≡ readingOf r (λ v. tt) ⌝ }
+        (placedIn (atEntry book) (atEntry index)) (atEntry book) next ≡ readingOf r (λ v. tt) ⌝ }
 {
     let variants = count(index, VARIANTS);
     let mut j = 0;
@@ -185,7 +186,7 @@ fn all_pass(book: &[u8], index: &[usize], next: usize) -> Part
 // The check with an index that is long enough.
 fn checked(book: &[u8], index: &mut [usize]) -> Verdict
     requires { ⌜ indexSize ≤ length (now index) ⌝ }
-    ensures { λ r. ⌜ Checks (now (book .entry)) (now (index .entry)) (now (index .exit)) r ⌝ }
+    ensures { λ r. ⌜ Checks (atEntry book) (atEntry index) (atExit index) r ⌝ }
 {
     let sections = five_sections(book, index);
     let Part::Read { value: _, next } = sections else {
@@ -222,7 +223,7 @@ fn refusal(part: Part) -> Verdict
 // book is refused, the index holds the places of what was read before, and the contract says nothing of them: no book
 // is there to be read by them.
 pub fn check_into(book: &[u8], index: &mut [usize]) -> Verdict
-    ensures { λ r. ⌜ CheckedInto (now (book .entry)) (now (index .entry)) (now (index .exit)) r ⌝ }
+    ensures { λ r. ⌜ CheckedInto (atEntry book) (atEntry index) (atExit index) r ⌝ }
 {
     if index.len() < INDEX_SIZE {
         return Verdict::Refused {
@@ -235,7 +236,7 @@ pub fn check_into(book: &[u8], index: &mut [usize]) -> Verdict
 
 // The check alone, for a caller who wants the verdict and reads no book by the index.
 pub fn check(book: &[u8]) -> Verdict
-    ensures { λ r. ⌜ Says (checkBook (now (book .entry))) r ⌝ }
+    ensures { λ r. ⌜ Says (checkBook (atEntry book)) r ⌝ }
 {
     let mut index = [0usize; INDEX_SIZE];
     check_into(book, &mut index)

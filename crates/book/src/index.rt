@@ -4,6 +4,7 @@
 ghost use mathlib.Core.Path.{_≡_};
 ghost use Prim.Native.Nat.{_≤_};
 ghost use lib.ListN.{getD, set};
+ghost use Rattle.characters.specs.Slices.{atEntry, atExit};
 ghost use Rattle.book.specs.Index.{countIn, placeIn, firstIn};
 
 pub const WORDS: usize = 0;
@@ -20,14 +21,14 @@ pub const INDEX_SIZE: usize = 1091;
 
 // The number at i, and 0 past the end.
 fn get(index: &[usize], i: usize) -> usize
-    ensures { λ r. ⌜ r ≡ getD (now (index .entry)) i 0 ⌝ }
+    ensures { λ r. ⌜ r ≡ getD (atEntry index) i 0 ⌝ }
 {
     if i < index.len() { index[i] } else { 0 }
 }
 
 // Writes a number; past the end it does nothing.
 pub fn put(index: &mut [usize], i: usize, number: usize)
-    ensures { λ _. ⌜ now (index .exit) ≡ set (now (index .entry)) i number ⌝ }
+    ensures { λ _. ⌜ atExit index ≡ set (atEntry index) i number ⌝ }
 {
     if i < index.len() {
         index[i] = number;
@@ -36,7 +37,7 @@ pub fn put(index: &mut [usize], i: usize, number: usize)
 
 // How many records a section has.
 pub fn count(index: &[usize], base: usize) -> usize
-    ensures { λ r. ⌜ r ≡ countIn (now (index .entry)) base ⌝ }
+    ensures { λ r. ⌜ r ≡ countIn (atEntry index) base ⌝ }
 {
     get(index, base)
 }
@@ -44,7 +45,7 @@ pub fn count(index: &[usize], base: usize) -> usize
 // Where record i of a section begins.
 pub fn place(index: &[usize], base: usize, i: usize) -> usize
     requires { ⌜ base ≤ 580 ⌝ }
-    ensures { λ r. ⌜ r ≡ placeIn (now (index .entry)) base i ⌝ }
+    ensures { λ r. ⌜ r ≡ placeIn (atEntry index) base i ⌝ }
 {
     if i < index.len() {
         get(index, base + 1 + 2 * i)
@@ -56,7 +57,7 @@ pub fn place(index: &[usize], base: usize, i: usize) -> usize
 // What the records before record i have together.
 pub fn first(index: &[usize], base: usize, i: usize) -> usize
     requires { ⌜ base ≤ 580 ⌝ }
-    ensures { λ r. ⌜ r ≡ firstIn (now (index .entry)) base i ⌝ }
+    ensures { λ r. ⌜ r ≡ firstIn (atEntry index) base i ⌝ }
 {
     if i < index.len() {
         get(index, base + 2 + 2 * i)

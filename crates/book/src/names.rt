@@ -2,6 +2,7 @@
 ghost use mathlib.Core.Path.{_≡_};
 ghost use Prim.Native.Nat.{_+_, _≤_};
 ghost use lib.ListN.{getD, length};
+ghost use Rattle.characters.specs.Slices.{atEntry};
 ghost use Rattle.characters.specs.Spelling.{partOf, same};
 ghost use Rattle.book.specs.Book.{nthEntry, reservedAs, isReserved, lookupName};
 ghost use Rattle.book.specs.Index.{entriesIn, entryFrom, bookAt};
@@ -20,7 +21,7 @@ pub enum Found {
 
 // The spelling of the entry at a place of the book.
 fn spelling_from(book: &[u8], at: usize) -> &[u8]
-    ensures { λ r. ⌜ now r ≡ entryFrom (now (book .entry)) at .spelling ⌝ }
+    ensures { λ r. ⌜ now r ≡ entryFrom (atEntry book) at .spelling ⌝ }
 {
     if at < book.len() {
         part(book, at + 2, number_after(book, at, 1))
@@ -32,7 +33,7 @@ fn spelling_from(book: &[u8], at: usize) -> &[u8]
 // The spelling of entry i of a section, a part of the book.
 fn spelling<'a>(book: &'a [u8], index: &[usize], base: usize, i: usize) -> &'a [u8]
     requires { ⌜ base ≤ 580 ⌝ }
-    ensures { λ r. ⌜ now r ≡ nthEntry (entriesIn (now (book .entry)) (now (index .entry)) base) i .spelling ⌝ }
+    ensures { λ r. ⌜ now r ≡ nthEntry (entriesIn (atEntry book) (atEntry index) base) i .spelling ⌝ }
 {
     if i < count(index, base) {
         spelling_from(book, place(index, base, i))
@@ -44,7 +45,7 @@ fn spelling<'a>(book: &'a [u8], index: &[usize], base: usize, i: usize) -> &'a [
 // The number that stands before the spelling of entry i.
 fn label(book: &[u8], index: &[usize], base: usize, i: usize) -> usize
     requires { ⌜ base ≤ 580 ⌝ }
-    ensures { λ r. ⌜ r ≡ nthEntry (entriesIn (now (book .entry)) (now (index .entry)) base) i .label ⌝ }
+    ensures { λ r. ⌜ r ≡ nthEntry (entriesIn (atEntry book) (atEntry index) base) i .label ⌝ }
 {
     if i < count(index, base) {
         number_after(book, place(index, base, i), 0)
@@ -81,15 +82,15 @@ pub fn name_kind(book: &[u8], index: &[usize], i: usize) -> usize
 // Whether entry i is spelled as a part of the text.
 fn spelled(book: &[u8], index: &[usize], base: usize, i: usize, wanted: &[u8]) -> bool
     requires { ⌜ base ≤ 580 ⌝ }
-    ensures { λ r. ⌜ r ≡ same (now (wanted .entry))
-        (nthEntry (entriesIn (now (book .entry)) (now (index .entry)) base) i .spelling) ⌝ }
+    ensures { λ r. ⌜ r ≡ same (atEntry wanted)
+        (nthEntry (entriesIn (atEntry book) (atEntry index) base) i .spelling) ⌝ }
 {
     same_bytes(wanted, spelling(book, index, base, i))
 }
 
 // Whether word i is reserved and spelled as a part of the text.
 fn reserved_as(book: &[u8], index: &[usize], i: usize, wanted: &[u8]) -> bool
-    ensures { λ r. ⌜ r ≡ reservedAs (now (wanted .entry)) (nthEntry (bookAt book index .words) i) ⌝ }
+    ensures { λ r. ⌜ r ≡ reservedAs (atEntry wanted) (nthEntry (bookAt book index .words) i) ⌝ }
 {
     if label(book, index, WORDS, i) == 1 {
         spelled(book, index, WORDS, i, wanted)
@@ -100,7 +101,7 @@ fn reserved_as(book: &[u8], index: &[usize], i: usize, wanted: &[u8]) -> bool
 
 // Whether a part of the text is reserved: whether an equal word is.
 pub fn is_reserved(book: &[u8], index: &[usize], text: &[u8], start: usize, size: usize) -> bool
-    ensures { λ r. ⌜ r ≡ isReserved (bookAt book index .words) (partOf (now (text .entry)) start size) ⌝ }
+    ensures { λ r. ⌜ r ≡ isReserved (bookAt book index .words) (partOf (atEntry text) start size) ⌝ }
 {
     let wanted = part(text, start, size);
     let words = count(index, WORDS);
@@ -116,7 +117,7 @@ pub fn is_reserved(book: &[u8], index: &[usize], text: &[u8], start: usize, size
 
 // Which starting name a part of the text is: the last equal one.
 pub fn lookup(book: &[u8], index: &[usize], text: &[u8], start: usize, size: usize) -> Found
-    ensures { λ r. ⌜ r ≡ lookupName (bookAt book index .names) (partOf (now (text .entry)) start size) ⌝ }
+    ensures { λ r. ⌜ r ≡ lookupName (bookAt book index .names) (partOf (atEntry text) start size) ⌝ }
 {
     let wanted = part(text, start, size);
     let names = count(index, NAMES);

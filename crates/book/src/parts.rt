@@ -1,5 +1,6 @@
 // What a part of the book gives, and single bytes.
 ghost use mathlib.Core.Path.{_≡_};
+ghost use Rattle.characters.specs.Slices.{atEntry};
 ghost use Rattle.characters.specs.Classes.{between};
 ghost use Rattle.book.specs.Check.{checked};
 ghost use Rattle.book.specs.Index.{readingOf};
@@ -15,7 +16,7 @@ pub enum Part {
 
 // A byte from `low` to `high`, else the refusal `number` at its place.
 pub fn field(book: &[u8], place: usize, low: usize, high: usize, number: usize) -> Part
-    ensures { λ r. ⌜ checked (between low high) number place (now (book .entry)) place ≡ readingOf r (λ v. v) ⌝ }
+    ensures { λ r. ⌜ checked (between low high) number place (atEntry book) place ≡ readingOf r (λ v. v) ⌝ }
 {
     if book.len() <= place {
         return Part::Refused {

@@ -3,6 +3,7 @@ ghost use mathlib.Core.Path.{_≡_};
 ghost use mathlib.Core.List.{List};
 ghost use Prim.Native.Nat.{ℕ, _+_, _≤_};
 ghost use lib.ListN.{getD, length};
+ghost use Rattle.characters.specs.Slices.{atEntry};
 ghost use Rattle.book.specs.Book.{nthNonterminal, nthVariant, nthStep, stepNumber};
 ghost use Rattle.book.specs.Check.{markOf, associativityOf, stepOf};
 ghost use Rattle.book.specs.Index.{bookIn, bookAt};
@@ -110,7 +111,7 @@ pub fn step_number(step: Step) -> usize
 // The byte k places after `at`, and 0 past the end.
 fn byte_after(book: &[u8], at: usize, k: usize) -> u8
     requires { ⌜ k ≤ 3 ⌝ }
-    ensures { λ r. ⌜ r ≡ getD (now (book .entry)) (at + k) 0 ⌝ }
+    ensures { λ r. ⌜ r ≡ getD (atEntry book) (at + k) 0 ⌝ }
 {
     if at < book.len() {
         byte_at(book, at + k)
@@ -121,21 +122,21 @@ fn byte_after(book: &[u8], at: usize, k: usize) -> u8
 
 pub fn number_after(book: &[u8], at: usize, k: usize) -> usize
     requires { ⌜ k ≤ 3 ⌝ }
-    ensures { λ r. ⌜ r ≡ getD (now (book .entry)) (at + k) 0 ⌝ }
+    ensures { λ r. ⌜ r ≡ getD (atEntry book) (at + k) 0 ⌝ }
 {
     byte_after(book, at, k) as usize
 }
 
 fn argument_after(book: &[u8], at: usize, k: usize) -> u32
     requires { ⌜ k ≤ 3 ⌝ }
-    ensures { λ r. ⌜ r ≡ getD (now (book .entry)) (at + k) 0 ⌝ }
+    ensures { λ r. ⌜ r ≡ getD (atEntry book) (at + k) 0 ⌝ }
 {
     byte_after(book, at, k) as u32
 }
 
 // How many nonterminals there are, whatever the bytes are.
 pub fn nonterminals(index: &[usize]) -> usize
-    ensures { λ r. ⌜ ((book : List ℕ) → r ≡ length (bookIn book (now (index .entry)) .nonterminals)) ⌝ }
+    ensures { λ r. ⌜ ((book : List ℕ) → r ≡ length (bookIn book (atEntry index) .nonterminals)) ⌝ }
 {
     count(index, NONTERMINALS)
 }

@@ -4,6 +4,7 @@ ghost use mathlib.Core.Bool.{cond};
 ghost use Prim.Native.Nat.{_+_, _*_, _≤_};
 ghost use lib.Dec.{eqb};
 ghost use lib.ListN.{length};
+ghost use Rattle.characters.specs.Slices.{atEntry, atExit};
 ghost use Rattle.characters.specs.Classes.{between};
 ghost use Rattle.book.specs.Numbers.{identifierMark, variantsEach, defaultLevel, both};
 ghost use Rattle.book.specs.Index.{belowRange, allowed, One, Row, Section};
@@ -36,7 +37,7 @@ fn most_variants(mark: usize) -> usize
 
 // Mark and number of variants; the value is the latter.
 fn nonterminal(book: &[u8], place: usize) -> Part
-    ensures { λ r. ⌜ One Sort.Nonterminal (now (book .entry)) place r ⌝ }
+    ensures { λ r. ⌜ One Sort.Nonterminal (atEntry book) place r ⌝ }
 {
     let mark = field(book, place, 0, IDENTIFIER_MARK, BAD_FIELD);
     let Part::Read { value, next } = mark else {
@@ -53,7 +54,7 @@ fn least_associativity(level: usize) -> usize
 
 // Level, associativity, flags and number of steps; the value is the last.
 fn variant(book: &[u8], place: usize) -> Part
-    ensures { λ r. ⌜ One Sort.Variant (now (book .entry)) place r ⌝ }
+    ensures { λ r. ⌜ One Sort.Variant (atEntry book) place r ⌝ }
 {
     let level = field(book, place, 0, LARGEST_BYTE, BAD_FIELD);
     let Part::Read { value, next } = level else {
@@ -137,7 +138,7 @@ fn arguments(kind: usize, words: usize, nonterminals: usize) -> Allowed
 }
 
 fn step(book: &[u8], place: usize, words: usize, nonterminals: usize) -> Part
-    ensures { λ r. ⌜ One (Sort.Step words nonterminals) (now (book .entry)) place r ⌝ }
+    ensures { λ r. ⌜ One (Sort.Step words nonterminals) (atEntry book) place r ⌝ }
 {
     let kind = field(book, place, 0, LARGEST_BYTE, BAD_FIELD);
     let Part::Read { value, next } = kind else {
@@ -190,7 +191,7 @@ pub enum Sort {
 }
 
 fn one_record(book: &[u8], place: usize, sort: Sort) -> Part
-    ensures { λ r. ⌜ One sort (now (book .entry)) place r ⌝ }
+    ensures { λ r. ⌜ One sort (atEntry book) place r ⌝ }
 {
     match sort {
         Sort::Entry(greatest) => entry(book, place, greatest),
@@ -211,7 +212,7 @@ fn row(
     base: usize,
 ) -> Part
     requires { ⌜ (base + 1 + 2 * count ≤ length (now index)) × (count ≤ 255) ⌝ }
-    ensures { λ r. ⌜ Row sort (now (book .entry)) place count base (now (index .entry)) (now (index .exit)) r ⌝ }
+    ensures { λ r. ⌜ Row sort (atEntry book) place count base (atEntry index) (atExit index) r ⌝ }
 {
     let mut i = 0;
     let mut at = place;
@@ -245,8 +246,8 @@ pub fn section(
     base: usize,
 ) -> Part
     requires { ⌜ (base + 1 + 2 * high ≤ length (now index)) × (high ≤ 255) ⌝ }
-    ensures { λ r. ⌜ Section sort (between low high) (now (book .entry)) place high base
-        (now (index .entry)) (now (index .exit)) r ⌝ }
+    ensures { λ r. ⌜ Section sort (between low high) (atEntry book) place high base
+        (atEntry index) (atExit index) r ⌝ }
 {
     let count = field(book, place, low, high, BAD_COUNT);
     let Part::Read { value, next } = count else {

@@ -2,6 +2,7 @@
 ghost use mathlib.Core.Path.{_≡_};
 ghost use lib.ListN.{getD};
 ghost use Prim.Native.Nat.{_+_};
+ghost use Rattle.characters.specs.Slices.{atEntry};
 ghost use Rattle.characters.specs.Spelling.{partOf};
 ghost use Rattle.book.specs.Check.{checked, row};
 ghost use Rattle.book.specs.Check.{shaped as isShaped, spelling as spellingAt};
@@ -33,8 +34,8 @@ fn shaped(byte: u8, i: usize) -> bool
 
 // One byte of a spelling whose length stands at `at`.
 fn spelling_byte(book: &[u8], place: usize, i: usize, at: usize) -> Part
-    ensures { λ r. ⌜ checked (isShaped i) badSpelling at (now (book .entry)) place ≡
-        readingOf r (λ v. getD (now (book .entry)) place 0) ⌝ }
+    ensures { λ r. ⌜ checked (isShaped i) badSpelling at (atEntry book) place ≡
+        readingOf r (λ v. getD (atEntry book) place 0) ⌝ }
 {
     if book.len() <= place {
         return Part::Refused {
@@ -55,8 +56,8 @@ fn spelling_byte(book: &[u8], place: usize, i: usize, at: usize) -> Part
 }
 
 fn spelling_bytes(book: &[u8], place: usize, size: usize, at: usize) -> Part
-    ensures { λ r. ⌜ (row (λ b. 1) (λ i. checked (isShaped i) badSpelling at) size 0 (now (book .entry)) place ≡
-        readingOf r (λ v. partOf (now (book .entry)) place size)) × Valued r 0 ⌝ }
+    ensures { λ r. ⌜ (row (λ b. 1) (λ i. checked (isShaped i) badSpelling at) size 0 (atEntry book) place ≡
+        readingOf r (λ v. partOf (atEntry book) place size)) × Valued r 0 ⌝ }
 {
     let mut i = 0;
     let mut next_place = place;
@@ -75,8 +76,8 @@ fn spelling_bytes(book: &[u8], place: usize, size: usize, at: usize) -> Part
 }
 
 fn spelling(book: &[u8], place: usize) -> Part
-    ensures { λ r. ⌜ (spellingAt (now (book .entry)) place ≡
-        readingOf r (λ v. partOf (now (book .entry)) (place + 1) (getD (now (book .entry)) place 0))) × Valued r 0 ⌝ }
+    ensures { λ r. ⌜ (spellingAt (atEntry book) place ≡
+        readingOf r (λ v. partOf (atEntry book) (place + 1) (getD (atEntry book) place 0))) × Valued r 0 ⌝ }
 {
     let size = field(book, place, 1, LONGEST_SPELLING, BAD_SPELLING);
     let Part::Read { value, next } = size else {
@@ -86,7 +87,7 @@ fn spelling(book: &[u8], place: usize) -> Part
 }
 
 pub fn entry(book: &[u8], place: usize, greatest: usize) -> Part
-    ensures { λ r. ⌜ One (Sort.Entry greatest) (now (book .entry)) place r ⌝ }
+    ensures { λ r. ⌜ One (Sort.Entry greatest) (atEntry book) place r ⌝ }
 {
     let label = field(book, place, 0, greatest, BAD_FIELD);
     let Part::Read { value: _, next } = label else {

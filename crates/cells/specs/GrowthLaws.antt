@@ -17,14 +17,14 @@ use borrow.Author.Tests.{eq-eqb, ne-eqb, eqb-true, eqb-false, lt-ltb, le-ltb, lt
 use Rattle.characters.specs.Cases.{by-test}
 use Rattle.semantics.specs.Cells.{Cell, numbersOf, identityOf, findCell}
 use Rattle.semantics.specs.Run.{make}
-use Rattle.cells.specs.declared.numbers.Numbers.{Numbers}
+use Rattle.cells.specs.declared.numbers.CellNumbers.{CellNumbers}
 use Rattle.cells.specs.declared.store.Made.{Made}
 use Rattle.cells.specs.Store.{listed, hashOf, numbersAt, linkAt, headAt, findIn, pushed, madeAs, madeIn, Leads, here, next, Holds, Making, Makes}
 use Rattle.cells.specs.NumbersLaws.{hash-lt}
 use Rattle.cells.specs.IndexLaws.{finds, not-found}
 
 -- ---- What a store after a push has
-pub record Pushed (f g : List ℕ) (c : Numbers) (n hash : ℕ) : Type 0 where
+pub record Pushed (f g : List ℕ) (c : CellNumbers) (n hash : ℕ) : Type 0 where
   pub long : length g ≡ length f
   pub form : getD g (n * 3 - 3) 0 ≡ c .form
   pub a : getD g (n * 3 - 3 + 1) 0 ≡ c .a
@@ -35,7 +35,7 @@ pub record Pushed (f g : List ℕ) (c : Numbers) (n hash : ℕ) : Type 0 where
   pub links : (i : ℕ) → 0 < i → i < n → linkAt g i ≡ linkAt f i
   pub heads : (i : ℕ) → i < 1024 → (i ≡ hash → ⊥) → headAt g i ≡ headAt f i
 
-module _ (f : List ℕ) (c : Numbers) (n hash : ℕ) (room : 17408 ≤ length f) (least : 0 < n) (most : n ≤ 4096) (small : hash < 1024) where
+module _ (f : List ℕ) (c : CellNumbers) (n hash : ℕ) (room : 17408 ≤ length f) (least : 0 < n) (most : n ≤ 4096) (small : hash < 1024) where
   abbrev one : List ℕ
   one = set f (n * 3 - 3) (c .form)
 
@@ -90,14 +90,14 @@ module _ (f : List ℕ) (c : Numbers) (n hash : ℕ) (room : 17408 ≤ length f)
   }
 
 -- by five stores
-pub pushed-by : (f : List ℕ) (c : Numbers) (n hash older : ℕ) → older ≡ headAt f hash → {g₁ g₂ g₃ g₄ g₅ : List ℕ}
+pub pushed-by : (f : List ℕ) (c : CellNumbers) (n hash older : ℕ) → older ≡ headAt f hash → {g₁ g₂ g₃ g₄ g₅ : List ℕ}
     → g₁ ≡ set f (n * 3 - 3) (c .form) → g₂ ≡ set g₁ (n * 3 - 3 + 1) (c .a) → g₃ ≡ set g₂ (n * 3 - 3 + 2) (c .b) → g₄ ≡ set g₃ (12287 + n) older
     → g₅ ≡ set g₄ (16384 + hash) n → g₅ ≡ pushed f c n hash
 unfolding pushed
 pushed-by f c n hash older e e₁ e₂ e₃ e₄ e₅ = rw (e₅, e₄, e₃, e₂, e₁, e)
 
 -- ---- One cell more
-module _ (text f g : List ℕ) (cells : List Cell) (held : Holds text f cells) (cell : Cell) (c : Numbers) (numbers : listed c ≡ numbersOf cell)
+module _ (text f g : List ℕ) (cells : List Cell) (held : Holds text f cells) (cell : Cell) (c : CellNumbers) (numbers : listed c ≡ numbersOf cell)
     (fits : length cells < 4096) (new : (i : ℕ) → i < length cells → identityOf text cell ≡ identityOf text (getD cells i Cell.empty) → ⊥)
     (p : Pushed f g c (suc (length cells)) (hashOf text c)) where
   lengths : length (cells ++ (cell ∷ [])) ≡ suc (length cells)
@@ -194,7 +194,7 @@ module _ (text f g : List ℕ) (cells : List Cell) (held : Holds text f cells) (
   }
 
 -- ---- `make`
-module _ (text store : List ℕ) (cells : List Cell) (held : Holds text store cells) (cell : Cell) (c : Numbers) (numbers : listed c ≡ numbersOf cell) where
+module _ (text store : List ℕ) (cells : List Cell) (held : Holds text store cells) (cell : Cell) (c : CellNumbers) (numbers : listed c ≡ numbersOf cell) where
   abbrev sought : ℕ
   sought = findIn text store c (length cells) (headAt store (hashOf text c))
 
@@ -241,7 +241,7 @@ module _ (text store : List ℕ) (cells : List Cell) (held : Holds text store ce
       (λ t. rw (le-ltb 0 sought (omega arith), t) (making-full none (ltb-false (length cells) 4096 t))))
       (λ z. let some-cell = eqb-false sought 0 z in rw (lt-ltb 0 sought (omega (arith, some-cell))) (making-found some-cell))
 
-module _ (text f : List ℕ) (count : ℕ) (c : Numbers) where
+module _ (text f : List ℕ) (count : ℕ) (c : CellNumbers) where
   pushed-beyond : (n hash i : ℕ) → n ≤ 4096 → hash < 1024 → 17408 ≤ i → getD (pushed f c n hash) i 0 ≡ getD f i 0
   unfolding pushed
   pushed-beyond n hash i most small h =

@@ -17,12 +17,12 @@ use Rattle.characters.specs.Cases.{by-test}
 use Rattle.characters.specs.Spelling.{same}
 use Rattle.characters.specs.SpellingLaws.{same-equal, same-itself}
 use Rattle.semantics.specs.Cells.{Cell, numbersOf, identityOf, findCell}
-use Rattle.cells.specs.declared.numbers.Numbers.{Numbers}
+use Rattle.cells.specs.declared.numbers.CellNumbers.{CellNumbers}
 use Rattle.cells.specs.Store.{listed, identityIn, sameIn, hashOf, numbersAt, linkAt, headAt, findIn, Leads, here, next, Holds}
 use Rattle.cells.specs.NumbersLaws.{identity-numbers, hash-lt}
 
 -- ---- Along a chain
-module _ (text store : List ℕ) (c : Numbers) where
+module _ (text store : List ℕ) (c : CellNumbers) where
   pub find-none : (k n : ℕ) → k ≡ 0 → findIn text store c k n ≡ 0
   unfolding findIn
   find-none zero n e = refl
@@ -69,7 +69,7 @@ module _ (text : List ℕ) (cell : Cell) where
       (λ t. rw (t, findCell) (first-at cells (suc n) i (omega arith) e (λ k m z. h (suc k) (omega arith) z) ∙ omega arith))
 
 -- ---- In a store that holds the cells
-module _ (text store : List ℕ) (cells : List Cell) (held : Holds text store cells) (cell : Cell) (c : Numbers) (numbers : listed c ≡ numbersOf cell) where
+module _ (text store : List ℕ) (cells : List Cell) (held : Holds text store cells) (cell : Cell) (c : CellNumbers) (numbers : listed c ≡ numbersOf cell) where
   identities : (i : ℕ) → i < length cells → identityIn text (numbersAt store (suc i)) ≡ identityOf text (getD cells i Cell.empty)
   identities i l = identity-numbers text (getD cells i Cell.empty) (numbersAt store (suc i)) (held .stored i l)
 

@@ -19,11 +19,11 @@ use Rattle.characters.specs.Cases.{by-test}
 use Rattle.characters.specs.Spelling.{partOf, same}
 use Rattle.characters.specs.SpellingLaws.{same-equal}
 use Rattle.semantics.specs.Cells.{Cell, numbersOf, identityOf}
-use Rattle.cells.specs.declared.numbers.Numbers.{Numbers}
+use Rattle.cells.specs.declared.numbers.CellNumbers.{CellNumbers}
 use Rattle.cells.specs.Store.{listed, identityIn, sameIn, mixed, hashFrom, hashOf}
 
 -- ---- Identities by numbers
-module _ (text : List ℕ) (c : Numbers) where
+module _ (text : List ℕ) (c : CellNumbers) where
   pub identity-name : c .form ≡ 4 → identityIn text c ≡ 4 ∷ partOf text (c .a) (c .b)
   unfolding identityIn
   identity-name e = rw (eq-eqb (c .form) 4 e)
@@ -32,7 +32,7 @@ module _ (text : List ℕ) (c : Numbers) where
   unfolding identityIn
   identity-other h = rw (ne-eqb (c .form) 4 h)
 
-pub identity-numbers : (text : List ℕ) (cell : Cell) (c : Numbers) → listed c ≡ numbersOf cell → identityIn text c ≡ identityOf text cell
+pub identity-numbers : (text : List ℕ) (cell : Cell) (c : CellNumbers) → listed c ≡ numbersOf cell → identityIn text c ≡ identityOf text cell
 unfolding identityOf numbersOf
 identity-numbers text Cell.empty c e = let form : c .form ≡ 1 = cc in identity-other text c (λ z. omega arith) ∙ e
 identity-numbers text (Cell.chain items item) c e = let form : c .form ≡ 2 = cc in identity-other text c (λ z. omega arith) ∙ e
@@ -48,8 +48,8 @@ identity-numbers text Cell.absent c e = let form : c .form ≡ 7 = cc in identit
 identity-numbers text (Cell.list items) c e = let form : c .form ≡ 8 = cc in identity-other text c (λ z. omega arith) ∙ e
 
 -- ---- Equality
-module _ (text : List ℕ) (c d : Numbers) where
-  identity-form : (x : Numbers) → getD (identityIn text x) 0 0 ≡ x .form
+module _ (text : List ℕ) (c d : CellNumbers) where
+  identity-form : (x : CellNumbers) → getD (identityIn text x) 0 0 ≡ x .form
   identity-form x =
       by-test (eqb (x .form) 4)
       (λ t. let e = eqb-true (x .form) 4 t in rw (identity-name text x e, e))
@@ -86,7 +86,7 @@ unfolding hashFrom
 hash-from-lt hash [] h = h
 hash-from-lt hash (x ∷ xs) h = hash-from-lt (mixed hash x) xs (mod-lt (hash * 31 + x) (omega arith))
 
-pub hash-lt : (text : List ℕ) (c : Numbers) → hashOf text c < 1024
+pub hash-lt : (text : List ℕ) (c : CellNumbers) → hashOf text c < 1024
 hash-lt text c = hash-from-lt 0 _ (omega arith)
 
 module _ (hash : ℕ) (bytes : List ℕ) (i : ℕ) where
@@ -98,7 +98,7 @@ module _ (hash : ℕ) (bytes : List ℕ) (i : ℕ) where
   unfolding hashFrom
   hash-end h = rw (drop-of-length-le bytes h)
 
-module _ (text : List ℕ) (c : Numbers) where
+module _ (text : List ℕ) (c : CellNumbers) where
   pub hash-name : c .form ≡ 4 → hashOf text c ≡ hashFrom 4 (partOf text (c .a) (c .b))
   unfolding hashFrom
   hash-name e = rw (identity-name text c e)

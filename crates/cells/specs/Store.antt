@@ -2,7 +2,7 @@
 -- document 01 says: `Makes` relates the store to the list of cells and to `make` of the definitions.
 --
 -- The store has the three numbers of cell n at 3n - 3, its link at `links` + n, and the head of hash h at `heads` + h.
--- A head is the newest cell of its hash, a link the next older one of the same hash, and 0 ends the chain.
+-- A head is the newest cell of its hash, a link the next older one of the same hash, and 0 ends the bucket.
 use mathlib.Core.Path.{_≡_}
 use mathlib.Core.Bool.{Bool, cond}
 use mathlib.Core.List.{List, [], _∷_, _++_}
@@ -13,7 +13,7 @@ use Rattle.characters.specs.Spelling.{partOf, same}
 use Rattle.semantics.specs.Numbers.{cellsSize, mostCells, tooManyCells, nameForm}
 use Rattle.semantics.specs.Cells.{Cell, numbersOf, identityOf, cellsIn}
 use Rattle.semantics.specs.Run.{Result, met, ok, State, made, make}
-use Rattle.cells.specs.declared.numbers.Numbers.{Numbers}
+use Rattle.cells.specs.declared.numbers.CellNumbers.{CellNumbers}
 use Rattle.cells.specs.declared.store.Made.{Made}
 
 -- ---- The layout
@@ -33,15 +33,15 @@ abbrev pub storeSize : ℕ
 storeSize = heads + hashes
 
 -- ---- The numbers of one cell
-abbrev pub listed : Numbers → List ℕ
+abbrev pub listed : CellNumbers → List ℕ
 listed c = c .form ∷ c .a ∷ c .b ∷ []
 
 -- `identityOf`, by the numbers
-unfoldable pub identityIn : List ℕ → Numbers → List ℕ
+unfoldable pub identityIn : List ℕ → CellNumbers → List ℕ
 identityIn text c = cond (eqb (c .form) nameForm) (nameForm ∷ partOf text (c .a) (c .b)) (listed c)
 
 -- equal cells, by their numbers
-abbrev pub sameIn : List ℕ → Numbers → Numbers → Bool
+abbrev pub sameIn : List ℕ → CellNumbers → CellNumbers → Bool
 sameIn text c d = same (identityIn text c) (identityIn text d)
 
 -- by which a hash is multiplied before the next number joins it
@@ -56,11 +56,11 @@ hashFrom hash [] = hash
 hashFrom hash (x ∷ xs) = hashFrom (mixed hash x) xs
 
 -- a cell's hash is one of its identity, so equal cells have one hash
-abbrev pub hashOf : List ℕ → Numbers → ℕ
+abbrev pub hashOf : List ℕ → CellNumbers → ℕ
 hashOf text c = hashFrom 0 (identityIn text c)
 
 -- ---- The store
-abbrev pub numbersAt : List ℕ → ℕ → Numbers
+abbrev pub numbersAt : List ℕ → ℕ → CellNumbers
 numbersAt store n =
     record { form = getD store (n * 3 - 3) 0; a = getD store (n * 3 - 3 + 1) 0; b = getD store (n * 3 - 3 + 2) 0 }
 
@@ -70,14 +70,14 @@ linkAt store n = getD store (links + n) 0
 abbrev pub headAt : List ℕ → ℕ → ℕ
 headAt store hash = getD store (heads + hash) 0
 
--- the first of at most k cells along the chain from n that is equal to c, or 0
-unfoldable pub findIn : List ℕ → List ℕ → Numbers → ℕ → ℕ → ℕ
+-- the first of at most k cells in the bucket from n on that is equal to c, or 0
+unfoldable pub findIn : List ℕ → List ℕ → CellNumbers → ℕ → ℕ → ℕ
 findIn text store c zero n = 0
 findIn text store c (suc k) n =
     cond (eqb n 0) 0 (cond (sameIn text c (numbersAt store n)) n (findIn text store c k (linkAt store n)))
 
 -- the store with cell n more, the newest of its hash
-unfoldable pub pushed : List ℕ → Numbers → ℕ → ℕ → List ℕ
+unfoldable pub pushed : List ℕ → CellNumbers → ℕ → ℕ → List ℕ
 pushed store c n hash =
     set
     (set (set (set (set store (n * 3 - 3) (c .form)) (n * 3 - 3 + 1) (c .a)) (n * 3 - 3 + 2) (c .b)) (links + n)
@@ -86,12 +86,12 @@ pushed store c n hash =
     n
 
 -- what is made, and the store after it, where n is the equal cell that was found, if any
-abbrev pub madeAs : List ℕ → ℕ → Numbers → ℕ → ℕ → Made × List ℕ
+abbrev pub madeAs : List ℕ → ℕ → CellNumbers → ℕ → ℕ → Made × List ℕ
 madeAs store count c hash n =
     cond (ltb 0 n) (Made.At n count, store)
     (cond (ltb count mostCells) (Made.At (count + 1) (count + 1), pushed store c (count + 1) hash) (Made.Full, store))
 
-abbrev pub madeIn : List ℕ → List ℕ → ℕ → Numbers → Made × List ℕ
+abbrev pub madeIn : List ℕ → List ℕ → ℕ → CellNumbers → Made × List ℕ
 madeIn text store count c =
     madeAs store count c (hashOf text c) (findIn text store c count (headAt store (hashOf text c)))
 
@@ -100,7 +100,7 @@ madeIn text store count c =
 abbrev pub storedCells : List ℕ → ℕ → List Cell
 storedCells store count = cellsIn (take (3 * count) store)
 
--- the chain from one cell comes to another
+-- the links from one cell lead to another
 pub data Leads (store : List ℕ) : ℕ → ℕ → Type 0 where
   here : {n : ℕ} → Leads store n n
   next : {m n : ℕ} → (m ≡ 0 → ⊥) → Leads store (linkAt store m) n → Leads store m n
@@ -138,7 +138,7 @@ pub record Making (text after : List ℕ) (cells : List Cell) (cell : Cell) (r :
   pub count : countAfter r (length cells) ≡ length (cellsAfter r cells cell)
 
 -- what `make` promises: by the numbers alone, whatever the store holds; and of a store that holds the cells
-pub record Makes (text before after : List ℕ) (count : ℕ) (c : Numbers) (r : Made) : Type 0 where
+pub record Makes (text before after : List ℕ) (count : ℕ) (c : CellNumbers) (r : Made) : Type 0 where
   pub is : r ≡ madeIn text before count c .0
   pub store : after ≡ madeIn text before count c .1
   pub beyond : (i : ℕ) → storeSize ≤ i → getD after i 0 ≡ getD before i 0

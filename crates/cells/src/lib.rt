@@ -15,11 +15,11 @@ mod store;
 
 pub use numbers::ABSENT_FORM;
 pub use numbers::CHAIN_FORM;
+pub use numbers::CellNumbers;
 pub use numbers::EMPTY_FORM;
 pub use numbers::LIST_FORM;
 pub use numbers::NAME_FORM;
 pub use numbers::NUMBER_FORM;
-pub use numbers::Numbers;
 pub use numbers::VARIABLE_FORM;
 pub use numbers::VARIANT_FORM;
 pub use numbers::absent;

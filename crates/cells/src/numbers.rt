@@ -1,12 +1,13 @@
 // The three numbers of a cell by its form, whether two cells are equal, and the hash of a cell.
 ghost use mathlib.Core.Path.{_≡_};
 ghost use Prim.Native.Nat.{_<_, _/_, _%_, _^_};
+ghost use Rattle.characters.specs.Slices.{atEntry};
 ghost use Rattle.semantics.specs.Cells.{Cell, numbersOf};
 ghost use Rattle.cells.specs.Store.{hashes, listed, sameIn, mixed, hashFrom, hashOf};
 use characters::part;
 use characters::same_spelling;
 
-pub struct Numbers {
+pub struct CellNumbers {
     pub form: u32,
     pub a: u32,
     pub b: u32,
@@ -31,86 +32,86 @@ pub const ABSENT_FORM: u32 = 7;
 
 pub const LIST_FORM: u32 = 8;
 
-// how many hashes there are, and so chains of cells with one hash
+// how many hashes there are, and so buckets of cells with one hash
 pub const HASHES: usize = 1024;
 
 // by which a hash is multiplied before the next number joins it
 const MULTIPLIER: usize = 31;
 
-pub fn empty() -> Numbers
+pub fn empty() -> CellNumbers
     ensures { λ r. ⌜ listed r ≡ numbersOf Cell.empty ⌝ }
 {
-    Numbers {
+    CellNumbers {
         form: EMPTY_FORM,
         a: 0,
         b: 0,
     }
 }
 
-pub fn chain(items: u32, item: u32) -> Numbers
+pub fn chain(items: u32, item: u32) -> CellNumbers
     ensures { λ r. ⌜ listed r ≡ numbersOf (Cell.chain items item) ⌝ }
 {
-    Numbers {
+    CellNumbers {
         form: CHAIN_FORM,
         a: items,
         b: item,
     }
 }
 
-pub fn variant(variant: u32, items: u32) -> Numbers
+pub fn variant(variant: u32, items: u32) -> CellNumbers
     ensures { λ r. ⌜ listed r ≡ numbersOf (Cell.variant variant items) ⌝ }
 {
-    Numbers {
+    CellNumbers {
         form: VARIANT_FORM,
         a: variant,
         b: items,
     }
 }
 
-pub fn name(place: u32, size: u32) -> Numbers
+pub fn name(place: u32, size: u32) -> CellNumbers
     ensures { λ r. ⌜ listed r ≡ numbersOf (Cell.name place size) ⌝ }
 {
-    Numbers {
+    CellNumbers {
         form: NAME_FORM,
         a: place,
         b: size,
     }
 }
 
-pub fn number(value: u64) -> Numbers
+pub fn number(value: u64) -> CellNumbers
     ensures { λ r. ⌜ listed r ≡ numbersOf (Cell.number (value / 2 ^ 32) (value % 2 ^ 32)) ⌝ }
 {
-    Numbers {
+    CellNumbers {
         form: NUMBER_FORM,
         a: (value / 4294967296) as u32,
         b: (value % 4294967296) as u32,
     }
 }
 
-pub fn variable(number: u32, kind: u32) -> Numbers
+pub fn variable(number: u32, kind: u32) -> CellNumbers
     ensures { λ r. ⌜ listed r ≡ numbersOf (Cell.variable number kind) ⌝ }
 {
-    Numbers {
+    CellNumbers {
         form: VARIABLE_FORM,
         a: number,
         b: kind,
     }
 }
 
-pub fn absent() -> Numbers
+pub fn absent() -> CellNumbers
     ensures { λ r. ⌜ listed r ≡ numbersOf Cell.absent ⌝ }
 {
-    Numbers {
+    CellNumbers {
         form: ABSENT_FORM,
         a: 0,
         b: 0,
     }
 }
 
-pub fn list(items: u32) -> Numbers
+pub fn list(items: u32) -> CellNumbers
     ensures { λ r. ⌜ listed r ≡ numbersOf (Cell.list items) ⌝ }
 {
-    Numbers {
+    CellNumbers {
         form: LIST_FORM,
         a: items,
         b: 0,
@@ -118,8 +119,8 @@ pub fn list(items: u32) -> Numbers
 }
 
 // Names are equal by spelling, other cells by their numbers.
-pub fn same_cell(text: &[u8], c: Numbers, d: Numbers) -> bool
-    ensures { λ r. ⌜ r ≡ sameIn (now (text .entry)) c d ⌝ }
+pub fn same_cell(text: &[u8], c: CellNumbers, d: CellNumbers) -> bool
+    ensures { λ r. ⌜ r ≡ sameIn (atEntry text) c d ⌝ }
 {
     if c.form != d.form {
         return false;
@@ -150,7 +151,7 @@ fn mix(hash: usize, x: usize) -> usize
 
 fn mix_bytes(first: usize, bytes: &[u8]) -> usize
     requires { ⌜ first < hashes ⌝ }
-    ensures { λ r. ⌜ (r ≡ hashFrom first (now (bytes .entry))) × (r < hashes) ⌝ }
+    ensures { λ r. ⌜ (r ≡ hashFrom first (atEntry bytes)) × (r < hashes) ⌝ }
 {
     let mut hash = first;
     let mut i = 0;
@@ -162,8 +163,8 @@ fn mix_bytes(first: usize, bytes: &[u8]) -> usize
 }
 
 // A name's hash is one of its spelling, not of its place.
-pub fn hash(text: &[u8], cell: Numbers) -> usize
-    ensures { λ r. ⌜ (r ≡ hashOf (now (text .entry)) cell) × (r < hashes) ⌝ }
+pub fn hash(text: &[u8], cell: CellNumbers) -> usize
+    ensures { λ r. ⌜ (r ≡ hashOf (atEntry text) cell) × (r < hashes) ⌝ }
 {
     if cell.form == NAME_FORM {
         return mix_bytes(

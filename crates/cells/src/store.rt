@@ -1,11 +1,13 @@
-// The cells of a run in a lent slice of numbers, with an index of chains: cells of one hash, the newest first.
+// The cells of a run in a lent slice of numbers, with an index of buckets: the cells of one hash, linked
+// from the newest on.
 ghost use mathlib.Core.Path.{_≡_};
 ghost use mathlib.Core.List.{List, []};
 ghost use Prim.Native.Nat.{ℕ, _≤_, _<_};
 ghost use lib.ListN.{length, getD, set};
+ghost use Rattle.characters.specs.Slices.{atEntry, atExit};
 ghost use Rattle.cells.specs.Store.{hashes, numbersAt, findIn, pushed, Makes, Cleared};
+use crate::numbers::CellNumbers;
 use crate::numbers::HASHES;
-use crate::numbers::Numbers;
 use crate::numbers::hash;
 use crate::numbers::same_cell;
 
@@ -31,14 +33,14 @@ pub enum Made {
 
 // The number at i, and 0 past the end.
 fn get(store: &[u32], i: usize) -> u32
-    ensures { λ r. ⌜ r ≡ getD (now (store .entry)) i 0 ⌝ }
+    ensures { λ r. ⌜ r ≡ getD (atEntry store) i 0 ⌝ }
 {
     if i < store.len() { store[i] } else { 0 }
 }
 
 // Writes a number; past the end it does nothing.
 fn put(store: &mut [u32], i: usize, x: u32)
-    ensures { λ _. ⌜ now (store .exit) ≡ set (now (store .entry)) i x ⌝ }
+    ensures { λ _. ⌜ atExit store ≡ set (atEntry store) i x ⌝ }
 {
     if i < store.len() {
         store[i] = x;
@@ -46,21 +48,21 @@ fn put(store: &mut [u32], i: usize, x: u32)
 }
 
 // Cell n.
-fn cell_at(store: &[u32], n: u32) -> Numbers
+fn cell_at(store: &[u32], n: u32) -> CellNumbers
     requires { ⌜ 0 < n ⌝ }
-    ensures { λ r. ⌜ r ≡ numbersAt (now (store .entry)) n ⌝ }
+    ensures { λ r. ⌜ r ≡ numbersAt (atEntry store) n ⌝ }
 {
     let at = n as usize * 3 - 3;
-    Numbers {
+    CellNumbers {
         form: get(store, at),
         a: get(store, at + 1),
         b: get(store, at + 2),
     }
 }
 
-// The cell that is equal to c along the chain from `first`, or 0. A chain has at most as many cells as there are.
-fn find(text: &[u8], store: &[u32], c: Numbers, count: u32, first: u32) -> u32
-    ensures { λ r. ⌜ r ≡ findIn (now (text .entry)) (now (store .entry)) c count first ⌝ }
+// The cell that is equal to c in the bucket from `first` on, or 0. A bucket has at most as many cells as there are.
+fn find(text: &[u8], store: &[u32], c: CellNumbers, count: u32, first: u32) -> u32
+    ensures { λ r. ⌜ r ≡ findIn (atEntry text) (atEntry store) c count first ⌝ }
 {
     let mut left = count;
     let mut n = first;
@@ -78,9 +80,9 @@ fn find(text: &[u8], store: &[u32], c: Numbers, count: u32, first: u32) -> u32
 }
 
 // Cell n is c, the newest of its hash.
-fn push(store: &mut [u32], c: Numbers, n: u32, hash: usize)
+fn push(store: &mut [u32], c: CellNumbers, n: u32, hash: usize)
     requires { ⌜ (0 < n) × (hash < hashes) ⌝ }
-    ensures { λ _. ⌜ now (store .exit) ≡ pushed (now (store .entry)) c n hash ⌝ }
+    ensures { λ _. ⌜ atExit store ≡ pushed (atEntry store) c n hash ⌝ }
 {
     let at = n as usize * 3 - 3;
     let older = get(store, HEADS + hash);
@@ -92,8 +94,8 @@ fn push(store: &mut [u32], c: Numbers, n: u32, hash: usize)
 }
 
 // The equal cell, or one more.
-pub fn make(text: &[u8], store: &mut [u32], count: u32, c: Numbers) -> Made
-    ensures { λ r. ⌜ Makes (now (text .entry)) (now (store .entry)) (now (store .exit)) count c r ⌝ }
+pub fn make(text: &[u8], store: &mut [u32], count: u32, c: CellNumbers) -> Made
+    ensures { λ r. ⌜ Makes (atEntry text) (atEntry store) (atExit store) count c r ⌝ }
 {
     let h = hash(text, c);
     let first = get(store, HEADS + h);
@@ -115,7 +117,7 @@ pub fn make(text: &[u8], store: &mut [u32], count: u32, c: Numbers) -> Made
 
 // No cells, whatever the store held.
 pub fn clear(store: &mut [u32])
-    ensures { λ _. ⌜ Cleared (now (store .entry)) (now (store .exit)) ⌝ }
+    ensures { λ _. ⌜ Cleared (atEntry store) (atExit store) ⌝ }
 {
     let mut i = 0;
     while i < HASHES {

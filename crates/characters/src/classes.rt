@@ -5,6 +5,7 @@
 // once, and reads it as a slice (`is_in`).
 ghost use mathlib.Core.Path.{_≡_};
 ghost use lib.ListN.{getD};
+ghost use Rattle.characters.specs.Slices.{atEntry};
 ghost use Rattle.characters.specs.Classes.{classOf, classNumber, isOf};
 ghost use Rattle.characters.specs.ClassLaws.{classTable};
 use crate::table::CLASSES;
@@ -74,7 +75,7 @@ pub fn is_of(byte: u8, class: Class) -> bool
 
 // The byte at a place, and 0 where the text has none: 0 is of class other, so nothing begins there.
 pub fn byte_at(text: &[u8], place: usize) -> u8
-    ensures { λ r. ⌜ r ≡ getD (now (text .entry)) place 0 ⌝ }
+    ensures { λ r. ⌜ r ≡ getD (atEntry text) place 0 ⌝ }
 {
     if place < text.len() { text[place] } else { 0 }
 }

@@ -1,6 +1,7 @@
 // What begins at a place: an identifier, a number, or neither. A token skips first, so callers ask at a skipped place.
 ghost use mathlib.Core.Path.{_≡_};
 ghost use Prim.Native.Nat.{_-_};
+ghost use Rattle.characters.specs.Slices.{atEntry};
 ghost use Rattle.characters.specs.Lexemes.{identifierAt, numberAt, decimal, numberOf};
 use crate::classes::Class;
 use crate::classes::byte_at;
@@ -22,7 +23,7 @@ pub enum Number {
 }
 
 pub fn identifier_at(text: &[u8], place: usize) -> Identifier
-    ensures { λ r. ⌜ r ≡ identifierAt (now (text .entry)) place ⌝ }
+    ensures { λ r. ⌜ r ≡ identifierAt (atEntry text) place ⌝ }
 {
     if place < text.len() {
         if is_of(byte_at(text, place), Class::Letter) {
@@ -41,7 +42,7 @@ fn digit_value(digit: u8) -> u64
 
 // The number that digits spell, where their end is known. Once a value is too large, more digits only make it larger.
 fn number_of(digits: &[u8], end: usize) -> Number
-    ensures { λ r. ⌜ r ≡ numberOf (decimal 0 (now (digits .entry))) end ⌝ }
+    ensures { λ r. ⌜ r ≡ numberOf (decimal 0 (atEntry digits)) end ⌝ }
 {
     let mut value: u64 = 0;
     let mut i = 0;
@@ -57,7 +58,7 @@ fn number_of(digits: &[u8], end: usize) -> Number
 }
 
 pub fn number_at(text: &[u8], place: usize) -> Number
-    ensures { λ r. ⌜ r ≡ numberAt (now (text .entry)) place ⌝ }
+    ensures { λ r. ⌜ r ≡ numberAt (atEntry text) place ⌝ }
 {
     let end = span_end(text, place, Span::Digits);
     if end == place {

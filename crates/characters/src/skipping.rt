@@ -1,6 +1,7 @@
 // Skipping whitespace and comments, by rounds: a round drops whitespace and then one comment, if `//` follows. `// a`
 // and a line feed may stand before another comment, so rounds are repeated until one drops nothing.
 ghost use mathlib.Core.Path.{_≡_};
+ghost use Rattle.characters.specs.Slices.{atEntry};
 ghost use Rattle.characters.specs.ClassLaws.{classTable};
 ghost use Rattle.characters.specs.Skipping.{belongs, spanEnd, commentAt, commentEnd, roundEnd, skipFrom};
 ghost use Rattle.characters.specs.declared.skipping.Span.{Span};
@@ -41,7 +42,7 @@ fn in_span(table: &[u8], byte: u8, span: Span) -> bool
 
 // Where the longest span at a place ends: at the place itself where no byte of it belongs there.
 pub fn span_end(text: &[u8], place: usize, span: Span) -> usize
-    ensures { λ r. ⌜ r ≡ spanEnd span (now (text .entry)) place ⌝ }
+    ensures { λ r. ⌜ r ≡ spanEnd span (atEntry text) place ⌝ }
 {
     let classes = class_table();
     let table: &[u8] = &classes;
@@ -58,7 +59,7 @@ pub fn span_end(text: &[u8], place: usize, span: Span) -> usize
 // Where whitespace at a place ends. Few places have any, and a byte above the space is none: for it the table isn't
 // read.
 fn spaces_end(text: &[u8], place: usize) -> usize
-    ensures { λ r. ⌜ r ≡ spanEnd Span.Spaces (now (text .entry)) place ⌝ }
+    ensures { λ r. ⌜ r ≡ spanEnd Span.Spaces (atEntry text) place ⌝ }
 {
     if 32 < byte_at(text, place) {
         return place;
@@ -67,7 +68,7 @@ fn spaces_end(text: &[u8], place: usize) -> usize
 }
 
 fn comment_at(text: &[u8], place: usize) -> bool
-    ensures { λ r. ⌜ r ≡ commentAt (now (text .entry)) place ⌝ }
+    ensures { λ r. ⌜ r ≡ commentAt (atEntry text) place ⌝ }
 {
     if place < text.len() {
         if byte_at(text, place) == b'/' {
@@ -82,14 +83,14 @@ fn comment_at(text: &[u8], place: usize) -> bool
 
 // Behind the line feed that ends a comment, or the end of the text.
 fn comment_end(text: &[u8], place: usize) -> usize
-    ensures { λ r. ⌜ r ≡ commentEnd (now (text .entry)) place ⌝ }
+    ensures { λ r. ⌜ r ≡ commentEnd (atEntry text) place ⌝ }
 {
     let end = span_end(text, place, Span::Line);
     if end < text.len() { end + 1 } else { end }
 }
 
 fn skip_round(text: &[u8], place: usize) -> usize
-    ensures { λ r. ⌜ r ≡ roundEnd (now (text .entry)) place ⌝ }
+    ensures { λ r. ⌜ r ≡ roundEnd (atEntry text) place ⌝ }
 {
     let at = spaces_end(text, place);
     if comment_at(text, at) {
@@ -101,7 +102,7 @@ fn skip_round(text: &[u8], place: usize) -> usize
 
 // The place that skipping from a place leads to; a place beyond the end stays.
 pub fn skip(text: &[u8], place: usize) -> usize
-    ensures { λ r. ⌜ r ≡ skipFrom (now (text .entry)) place ⌝ }
+    ensures { λ r. ⌜ r ≡ skipFrom (atEntry text) place ⌝ }
 {
     let mut at = place;
     loop {

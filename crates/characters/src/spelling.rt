@@ -1,10 +1,11 @@
 // Parts of a text or of a book, and whether two of them are spelled alike.
 ghost use mathlib.Core.Path.{_≡_};
+ghost use Rattle.characters.specs.Slices.{atEntry};
 ghost use Rattle.characters.specs.Spelling.{partOf, same};
 
 // The part of `bytes` from `start` on that is `size` long, or as much of it as there is.
 pub fn part(bytes: &[u8], start: usize, size: usize) -> &[u8]
-    ensures { λ r. ⌜ now r ≡ partOf (now (bytes .entry)) start size ⌝ }
+    ensures { λ r. ⌜ now r ≡ partOf (atEntry bytes) start size ⌝ }
 {
     if bytes.len() <= start {
         return &bytes[..0];
@@ -17,7 +18,7 @@ pub fn part(bytes: &[u8], start: usize, size: usize) -> &[u8]
 }
 
 pub fn same_bytes(a: &[u8], b: &[u8]) -> bool
-    ensures { λ r. ⌜ r ≡ same (now (a .entry)) (now (b .entry)) ⌝ }
+    ensures { λ r. ⌜ r ≡ same (atEntry a) (atEntry b) ⌝ }
 {
     if a.len() != b.len() {
         return false;
@@ -42,8 +43,8 @@ pub fn same_spelling(
     right_size: usize,
 ) -> bool
     ensures { λ r. ⌜ r ≡ same
-        (partOf (now (left .entry)) «left_start» «left_size»)
-        (partOf (now (right .entry)) «right_start» «right_size») ⌝ }
+        (partOf (atEntry left) «left_start» «left_size»)
+        (partOf (atEntry right) «right_start» «right_size») ⌝ }
 {
     same_bytes(
         part(left, left_start, left_size),

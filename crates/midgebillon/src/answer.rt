@@ -2,6 +2,7 @@
 ghost use mathlib.Core.Path.{_≡_};
 ghost use Prim.Native.Nat.{_≤_};
 ghost use lib.ListN.{length};
+ghost use Rattle.characters.specs.Slices.{atEntry, atExit};
 ghost use Rattle.characters.specs.Classes.{between};
 ghost use Rattle.run.specs.Promise.{answerIn};
 ghost use Rattle.midgebillon.specs.Library.{answerAt, storing, hasCell, isRefusal, isAnswer, lengthOf};
@@ -21,7 +22,7 @@ pub const NUMBERS: usize = 7;
 // The numbers of an answer, at the front of a lent list.
 pub fn put_answer(numbers: &mut [u32], a: Answer)
     requires { ⌜ 7 ≤ length (now numbers) ⌝ }
-    ensures { λ _. ⌜ now (numbers .exit) ≡ storing a (now (numbers .entry)) ⌝ }
+    ensures { λ _. ⌜ atExit numbers ≡ storing a (atEntry numbers) ⌝ }
 {
     numbers[0] = a.refusal;
     numbers[1] = a.place;
@@ -35,7 +36,7 @@ pub fn put_answer(numbers: &mut [u32], a: Answer)
 // The answer that stands at the front of a list.
 pub fn answer_in(numbers: &[u32]) -> Answer
     requires { ⌜ 7 ≤ length (now numbers) ⌝ }
-    ensures { λ r. ⌜ answerIn r ≡ answerAt (now (numbers .entry)) ⌝ }
+    ensures { λ r. ⌜ answerIn r ≡ answerAt (atEntry numbers) ⌝ }
 {
     Answer {
         refusal: numbers[0],
@@ -59,7 +60,7 @@ fn is_between(low: u32, high: u32, n: u32) -> bool
 
 // Whether the list has all three numbers of a cell that a run can make.
 fn has_cell(cells: &[u32], n: u32) -> bool
-    ensures { λ r. ⌜ r ≡ hasCell (now (cells .entry)) n ⌝ }
+    ensures { λ r. ⌜ r ≡ hasCell (atEntry cells) n ⌝ }
 {
     if is_between(1, MOST_CELLS, n) {
         return 3 * n as usize <= cells.len();
@@ -82,7 +83,7 @@ fn is_refusal(n: u32) -> bool
 
 // A value is one of an accepted book and has its cell; a refusal is one of document 01.
 pub fn is_answer(verdict: Verdict, cells: &[u32], a: Answer) -> bool
-    ensures { λ r. ⌜ r ≡ isAnswer verdict (now (cells .entry)) (answerIn a) ⌝ }
+    ensures { λ r. ⌜ r ≡ isAnswer verdict (atEntry cells) (answerIn a) ⌝ }
 {
     if a.refusal != 0 {
         return is_refusal(a.refusal);

@@ -14,6 +14,7 @@
 // specs/ has what both functions promise (Library) and laws, one for each way out of a function (LibraryLaws).
 mod answer;
 
+ghost use Rattle.characters.specs.Slices.{atEntry, atExit};
 ghost use Rattle.midgebillon.specs.Library.{ReadInto, PrintsInto, lineFor};
 use answer::NUMBERS;
 use answer::answer_in;
@@ -36,9 +37,9 @@ pub extern "C" fn midgebillon_read(
     parses: &mut [u32],
     answer: &mut [u32],
 )
-    ensures { λ _. ⌜ ReadInto (now (book .entry)) (now (text .entry)) start allowance
-        (now (cells .entry)) (now (cells .exit)) (now (parses .entry)) (now (parses .exit))
-        (now (answer .entry)) (now (answer .exit)) ⌝ }
+    ensures { λ _. ⌜ ReadInto (atEntry book) (atEntry text) start allowance
+        (atEntry cells) (atExit cells) (atEntry parses) (atExit parses)
+        (atEntry answer) (atExit answer) ⌝ }
 {
     if answer.len() < NUMBERS {
         return;
@@ -58,8 +59,8 @@ pub extern "C" fn midgebillon_print<'a>(
     out: &mut [u8],
 ) -> usize
     ensures { λ r. ⌜ PrintsInto
-        (lineFor (now (book .entry)) (now (text .entry)) (now (cells .entry)) (now (answer .entry)))
-        (now (out .entry)) (now (out .exit)) r ⌝ }
+        (lineFor (atEntry book) (atEntry text) (atEntry cells) (atEntry answer))
+        (atEntry out) (atExit out) r ⌝ }
 {
     if answer.len() < NUMBERS {
         return 0;

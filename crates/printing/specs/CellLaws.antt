@@ -25,7 +25,7 @@ use Rattle.semantics.specs.Values.{Tree, no-trees, _▸_}
 use Rattle.semantics.specs.Cells.{Cell, numbersOf, cellOf, cellsIn, Meaning, one, several, treeIn, treesIn, meaningOf, meanings}
 use Rattle.semantics.specs.Theorem.Meanings.{meaning, Prefix, still, new-meaning}
 use Rattle.cells.specs.Store.{listed}
-use Rattle.cells.specs.declared.numbers.Numbers.{Numbers}
+use Rattle.cells.specs.declared.numbers.CellNumbers.{CellNumbers}
 use Rattle.printing.specs.Printing.{decimal, printed, spaced}
 use Rattle.printing.specs.Cells.{cellIn, CellRead, olderThan, stands, spellingOf, plainBytes, itemBytes, itemsBytes, isChain, gapBytes}
 
@@ -73,7 +73,7 @@ cell-some numbers i h =
     rw (ne-eqb (suc i) 0 some, le-ltb (length numbers) (suc i * 3) (omega arith), at) (sym (cells-at numbers i (i * 3) refl h))
 
 -- ---- Cells that are read
-pub read-none : (numbers : List ℕ) (n : ℕ) (c : Numbers) → listed c ≡ numbersOf Cell.absent → (n ≡ 0) ⊎ (length numbers < n * 3) → CellRead numbers n c
+pub read-none : (numbers : List ℕ) (n : ℕ) (c : CellNumbers) → listed c ≡ numbersOf Cell.absent → (n ≡ 0) ⊎ (length numbers < n * 3) → CellRead numbers n c
 unfolding numbersOf
 read-none numbers n c e h =
     let form : c .form ≡ 7 = cc in

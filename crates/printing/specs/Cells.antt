@@ -11,7 +11,7 @@ use Rattle.book.specs.Book.{Entry, nthEntry}
 use Rattle.book.specs.Index.{bookIn}
 use Rattle.semantics.specs.Numbers.{half, absentForm}
 use Rattle.semantics.specs.Cells.{Cell, cellOf, cellsIn, Meaning, treeIn, treesIn, nthMeaning, meanings}
-use Rattle.cells.specs.declared.numbers.Numbers.{Numbers}
+use Rattle.cells.specs.declared.numbers.CellNumbers.{CellNumbers}
 use Rattle.printing.specs.Printing.{space, dollar, hyphen, decimal, printed, spaced}
 
 -- the names of the book that an index gives
@@ -25,7 +25,7 @@ cellIn numbers n =
     (cellOf (getD numbers (n * 3 - 3) 0) (getD numbers (n * 3 - 3 + 1) 0) (getD numbers (n * 3 - 3 + 2) 0))
 
 -- the code's numbers of cell n
-pub record CellRead (numbers : List ℕ) (n : ℕ) (c : Numbers) : Type 0 where
+pub record CellRead (numbers : List ℕ) (n : ℕ) (c : CellNumbers) : Type 0 where
   pub is : cellOf (c .form) (c .a) (c .b) ≡ cellIn numbers n
   pub placed : (c .form ≡ absentForm → ⊥) → 0 < n
 

@@ -1,17 +1,18 @@
 // Cells by their numbers, and the spelling that a cell names.
 ghost use mathlib.Core.Path.{_≡_};
+ghost use Rattle.characters.specs.Slices.{atEntry};
 ghost use Rattle.semantics.specs.Cells.{cellOf};
 ghost use Rattle.printing.specs.Cells.{namesIn, CellRead, olderThan, spellingOf};
 use book::name;
+use cells::CellNumbers;
 use cells::NAME_FORM;
-use cells::Numbers;
 use cells::VARIABLE_FORM;
 use cells::absent;
 use characters::part;
 
 // Cell n, and absent where there is none.
-pub fn cell_at(cells: &[u32], n: u32) -> Numbers
-    ensures { λ r. ⌜ CellRead (now (cells .entry)) n r ⌝ }
+pub fn cell_at(cells: &[u32], n: u32) -> CellNumbers
+    ensures { λ r. ⌜ CellRead (atEntry cells) n r ⌝ }
 {
     if n == 0 {
         return absent();
@@ -20,7 +21,7 @@ pub fn cell_at(cells: &[u32], n: u32) -> Numbers
     if cells.len() < at + 3 {
         return absent();
     }
-    Numbers {
+    CellNumbers {
         form: cells[at],
         a: cells[at + 1],
         b: cells[at + 2],
@@ -35,8 +36,8 @@ pub fn older(n: u32, cell: u32) -> u32
 }
 
 // The part of the text, or of the book, that a name or a variable is spelled by; of any other cell, nothing.
-pub fn spelling<'a>(text: &'a [u8], book: &'a [u8], index: &[usize], cell: Numbers) -> &'a [u8]
-    ensures { λ r. ⌜ now r ≡ spellingOf (namesIn book index) (now (text .entry))
+pub fn spelling<'a>(text: &'a [u8], book: &'a [u8], index: &[usize], cell: CellNumbers) -> &'a [u8]
+    ensures { λ r. ⌜ now r ≡ spellingOf (namesIn book index) (atEntry text)
         (cellOf (cell .form) (cell .a) (cell .b)) ⌝ }
 {
     if cell.form == NAME_FORM {

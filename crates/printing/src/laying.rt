@@ -3,6 +3,7 @@
 // the numbers that the caller gave, and no sum can wrap.
 ghost use mathlib.Core.Path.{_≡_};
 ghost use mathlib.Core.List.{[], _∷_};
+ghost use Rattle.characters.specs.Slices.{atEntry};
 ghost use Rattle.printing.specs.Printing.{decimal};
 ghost use Rattle.printing.specs.Laying.{full, Lays};
 
@@ -16,7 +17,7 @@ pub struct Laid {
 
 // Whether no byte that comes is skipped or stored.
 pub fn is_full(out: &[u8], at: Laid) -> bool
-    ensures { λ r. ⌜ r ≡ full at (now (out .entry)) ⌝ }
+    ensures { λ r. ⌜ r ≡ full at (atEntry out) ⌝ }
 {
     if 0 < at.skip {
         return false;
@@ -45,7 +46,7 @@ pub fn byte(out: &mut [u8], at: Laid, byte: u8) -> Laid
 }
 
 pub fn bytes(out: &mut [u8], at: Laid, bytes: &[u8]) -> Laid
-    ensures { λ r. ⌜ Lays at out (now (bytes .entry)) r ⌝ }
+    ensures { λ r. ⌜ Lays at out (atEntry bytes) r ⌝ }
 {
     let mut next = at;
     let mut i = 0;

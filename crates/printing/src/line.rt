@@ -2,6 +2,7 @@
 ghost use mathlib.Core.Path.{_≡_};
 ghost use mathlib.Core.List.{_++_};
 ghost use lib.ListN.{take};
+ghost use Rattle.characters.specs.Slices.{atEntry, atExit};
 ghost use Rattle.printing.specs.Printing.{decimal, lineOf, columnOf, hasLine, refusedLine};
 ghost use Rattle.printing.specs.Laying.{Lays};
 ghost use Rattle.run.specs.Promise.{answerIn};
@@ -25,7 +26,7 @@ pub enum Length {
 
 // The numbers of the cells that a run can make.
 fn cell_numbers(cells: &[u32]) -> &[u32]
-    ensures { λ r. ⌜ now r ≡ take 12288 (now (cells .entry)) ⌝ }
+    ensures { λ r. ⌜ now r ≡ take 12288 (atEntry cells) ⌝ }
 {
     if cells.len() < CELLS_SIZE {
         &cells[..]
@@ -45,7 +46,7 @@ fn in_text(answer: Answer) -> bool
 }
 
 fn line_of(text: &[u8], answer: Answer) -> usize
-    ensures { λ r. ⌜ r ≡ lineOf (now (text .entry)) (answerIn answer) ⌝ }
+    ensures { λ r. ⌜ r ≡ lineOf (atEntry text) (answerIn answer) ⌝ }
 {
     if in_text(answer) {
         place::line(text, answer.place)
@@ -55,7 +56,7 @@ fn line_of(text: &[u8], answer: Answer) -> usize
 }
 
 fn column_of(text: &[u8], answer: Answer) -> usize
-    ensures { λ r. ⌜ r ≡ columnOf (now (text .entry)) (answerIn answer) ⌝ }
+    ensures { λ r. ⌜ r ≡ columnOf (atEntry text) (answerIn answer) ⌝ }
 {
     if in_text(answer) {
         place::column(text, answer.place)
@@ -66,14 +67,14 @@ fn column_of(text: &[u8], answer: Answer) -> usize
 
 // A word and a number.
 fn field(out: &mut [u8], at: Laid, word: &[u8], n: u64) -> Laid
-    ensures { λ r. ⌜ Lays at out (now (word .entry) ++ decimal n) r ⌝ }
+    ensures { λ r. ⌜ Lays at out (atEntry word ++ decimal n) r ⌝ }
 {
     let next = bytes(out, at, word);
     number(out, next, n)
 }
 
 fn refused(text: &[u8], answer: Answer, out: &mut [u8], at: Laid) -> Laid
-    ensures { λ r. ⌜ Lays at out (refusedLine (now (text .entry)) (answerIn answer)) r ⌝ }
+    ensures { λ r. ⌜ Lays at out (refusedLine (atEntry text) (answerIn answer)) r ⌝ }
 {
     let line = line_of(text, answer);
     let column = column_of(text, answer);
@@ -143,7 +144,7 @@ pub fn print_part<'a>(
     from: usize,
     out: &mut [u8],
 ) -> usize
-    ensures { λ r. ⌜ Window from (lineIn text book index cells answer) (now (out .entry)) (now (out .exit)) r ⌝ }
+    ensures { λ r. ⌜ Window from (lineIn text book index cells answer) (atEntry out) (atExit out) r ⌝ }
 {
     let start = Laid {
         skip: from,
@@ -162,7 +163,7 @@ pub fn print<'a>(
     answer: Answer,
     out: &mut [u8],
 ) -> Length
-    ensures { λ r. ⌜ Prints (lineIn text book index cells answer) (now (out .entry)) (now (out .exit)) r ⌝ }
+    ensures { λ r. ⌜ Prints (lineIn text book index cells answer) (atEntry out) (atExit out) r ⌝ }
 {
     let size = out.len();
     let length = line_length(text, book, index, cells, answer, size);

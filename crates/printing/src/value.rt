@@ -1,5 +1,6 @@
 // A value. A cell refers to older ones alone, so the cells' numbers fall along the calls of `item` and `items`; both
 // turn back at once where the slice is full, so that no cell is looked at for nothing.
+ghost use Rattle.characters.specs.Slices.{atEntry};
 ghost use Rattle.semantics.specs.Cells.{cellOf};
 ghost use Rattle.printing.specs.Laying.{Lays};
 ghost use Rattle.printing.specs.Cells.{namesIn, plainBytes, itemBytes, itemsBytes, gapBytes};
@@ -12,10 +13,10 @@ use crate::laying::bytes;
 use crate::laying::is_full;
 use crate::laying::number;
 use cells::CHAIN_FORM;
+use cells::CellNumbers;
 use cells::LIST_FORM;
 use cells::NAME_FORM;
 use cells::NUMBER_FORM;
-use cells::Numbers;
 use cells::VARIABLE_FORM;
 use cells::VARIANT_FORM;
 
@@ -28,10 +29,10 @@ fn plain<'a>(
     index: &[usize],
     out: &mut [u8],
     at: Laid,
-    cell: Numbers,
+    cell: CellNumbers,
 ) -> Laid
     ensures { λ r. ⌜ Lays at out
-        (plainBytes (namesIn book index) (now (text .entry)) (cellOf (cell .form) (cell .a) (cell .b))) r ⌝ }
+        (plainBytes (namesIn book index) (atEntry text) (cellOf (cell .form) (cell .a) (cell .b))) r ⌝ }
 {
     if cell.form == NUMBER_FORM {
         return number(out, at, cell.a as u64 * HALF + cell.b as u64);
@@ -48,7 +49,7 @@ fn plain<'a>(
 
 // The space before an item that comes after the items of a chain; a list's first has none.
 fn gap(cells: &[u32], out: &mut [u8], at: Laid, in_list: bool, chain: u32) -> Laid
-    ensures { λ r. ⌜ Lays at out (gapBytes (now (cells .entry)) «in_list» chain) r ⌝ }
+    ensures { λ r. ⌜ Lays at out (gapBytes (atEntry cells) «in_list» chain) r ⌝ }
 {
     if in_list {
         let before = cell_at(cells, chain);
@@ -70,7 +71,7 @@ pub fn item<'a>(
     n: u32,
 ) -> Laid
     ensures { λ r. ⌜ Lays at out
-        (itemBytes (namesIn book index) (now (text .entry)) (now (cells .entry)) n) r ⌝ }
+        (itemBytes (namesIn book index) (atEntry text) (atEntry cells) n) r ⌝ }
 {
     if is_full(out, at) {
         return at;
@@ -104,7 +105,7 @@ fn items<'a>(
     in_list: bool,
 ) -> Laid
     ensures { λ r. ⌜ Lays at out
-        (itemsBytes (namesIn book index) (now (text .entry)) (now (cells .entry)) «in_list» n) r ⌝ }
+        (itemsBytes (namesIn book index) (atEntry text) (atEntry cells) «in_list» n) r ⌝ }
 {
     if is_full(out, at) {
         return at;

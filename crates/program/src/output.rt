@@ -1,5 +1,6 @@
 // The line of an answer, on standard output.
 ghost use mathlib.Core.Path.{_≡_};
+ghost use Rattle.characters.specs.Slices.{atEntry};
 ghost use Rattle.program.specs.Rule.{Answers};
 use book::INDEX_SIZE;
 use book::check_into;
@@ -45,7 +46,7 @@ fn write_line<'a>(
 // Reads the text by the book, writes the line of the answer by way of `out`, which needs one byte at least, and gives
 // the answer.
 pub fn answer_line<'a>(book: &'a [u8], text: &'a [u8], out: &mut [u8]) -> Answer
-    ensures { λ r. ⌜ Answers (now (book .entry)) (now (text .entry)) r ⌝ }
+    ensures { λ r. ⌜ Answers (atEntry book) (atEntry text) r ⌝ }
 {
     let mut cells = [0u32; CELLS_SIZE];
     let mut parses = [0u32; PARSES_SIZE];

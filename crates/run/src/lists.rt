@@ -3,6 +3,7 @@ ghost use mathlib.Core.Path.{_≡_};
 ghost use mathlib.Core.List.{[]};
 ghost use Prim.Native.Nat.{_*_, _≤_};
 ghost use lib.ListN.{length, take};
+ghost use Rattle.characters.specs.Slices.{atEntry};
 ghost use Rattle.semantics.specs.Numbers.{cellsSize, parsesSize};
 ghost use Rattle.run.specs.Reading.{LongLists, HasParses, CanFill, Writes, WritesParses};
 use calls::MOST_NESTING;
@@ -27,7 +28,7 @@ fn clear(lent: &mut [u32], size: usize)
 // The first `size` numbers of a lent list become the first `used` of another, and zeros.
 fn write(lent: &mut [u32], size: usize, source: &[u32], used: usize)
     requires { ⌜ (size ≤ length (now lent)) × (used ≤ size) × (used ≤ length (now source)) ⌝ }
-    ensures { λ _. ⌜ Writes lent size (take used (now (source .entry))) ⌝ }
+    ensures { λ _. ⌜ Writes lent size (take used (atEntry source)) ⌝ }
 {
     clear(lent, size);
     let mut i = 0;
@@ -63,7 +64,7 @@ pub fn clear_lists(cells: &mut [u32], parses: &mut [u32])
 // The cells of the store, and what the outermost row found.
 pub fn fill_lists(cells: &mut [u32], parses: &mut [u32], store: &[u32], rows: &[u32], count: u32)
     requires { ⌜ CanFill cells parses store rows count ⌝ }
-    ensures { λ _. ⌜ Writes cells cellsSize (take (3 * count) (now (store .entry))) × WritesParses parses rows ⌝ }
+    ensures { λ _. ⌜ Writes cells cellsSize (take (3 * count) (atEntry store)) × WritesParses parses rows ⌝ }
 {
     write(cells, CELLS_SIZE, store, 3 * count as usize);
     write_parses(parses, rows);

@@ -193,7 +193,7 @@ fn run(
 // ---- The text and the start
 // The place of the first byte of 128 or more, or the text's length.
 fn first_high(text: &[u8]) -> usize
-    ensures { λ r. ⌜ placeIn (now (text .entry)) r ≡ firstHigh 0 (now (text .entry)) ⌝ }
+    ensures { λ r. ⌜ placeIn (atEntry text) r ≡ firstHigh 0 (atEntry text) ⌝ }
 {
     let mut i = 0;
     while i < text.len() {
@@ -219,7 +219,7 @@ fn on_book(
 ) -> Answer
     requires { ⌜ CanRead book cells parses index store rows ⌝ }
     ensures { λ r. ⌜ Gives cells parses r (λ cells parses.
-        answers.onBook cells parses (bookAt book index) (now (text .entry)) start allowance) ⌝ }
+        answers.onBook cells parses (bookAt book index) (atEntry text) start allowance) ⌝ }
 {
     if book::nonterminals(index) <= start as usize {
         return refused(UNKNOWN_START, 0);
@@ -237,7 +237,7 @@ fn on_book(
 
 // ---- The call
 fn too_short(cells: &[u32], parses: &[u32]) -> bool
-    ensures { λ r. ⌜ r ≡ short (now (cells .entry)) (now (parses .entry)) ⌝ }
+    ensures { λ r. ⌜ r ≡ short (atEntry cells) (atEntry parses) ⌝ }
 {
     if cells.len() < CELLS_SIZE {
         return true;
@@ -246,7 +246,7 @@ fn too_short(cells: &[u32], parses: &[u32]) -> bool
 }
 
 fn no_room(index: &[usize], store: &[u32], rows: &[u32]) -> bool
-    ensures { λ r. ⌜ r ≡ noRoom (now (index .entry)) (now (store .entry)) (now (rows .entry)) ⌝ }
+    ensures { λ r. ⌜ r ≡ noRoom (atEntry index) (atEntry store) (atEntry rows) ⌝ }
 {
     if index.len() < INDEX_SIZE {
         return true;
@@ -289,7 +289,7 @@ fn in_room(
 ) -> Answer
     requires { ⌜ HasRoom index store rows ⌝ }
     ensures { λ r. ⌜ Gives cells parses r (λ cells parses.
-        answerOf cells parses (now (book .entry)) (now (text .entry)) start allowance) ⌝ }
+        answerOf cells parses (atEntry book) (atEntry text) start allowance) ⌝ }
 {
     if too_short(cells, parses) {
         return refused(SHORT_LISTS, 0);

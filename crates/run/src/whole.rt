@@ -2,6 +2,7 @@
 ghost use mathlib.Core.Path.{_≡_};
 ghost use Prim.Native.Nat.{_≤_};
 ghost use lib.ListN.{length};
+ghost use Rattle.characters.specs.Slices.{atEntry};
 ghost use Rattle.semantics.specs.Answer.{wholeValues};
 ghost use Rattle.semantics.specs.Numbers.{mostNesting};
 ghost use Rattle.semantics.specs.Values.{whole as wholeIn};
@@ -41,14 +42,14 @@ fn with_value(values: Values, value: u32) -> Values
 
 // "A parse is whole .. when skipping from its rest gives the text's length"
 fn whole(text: &[u8], p: Parse) -> bool
-    ensures { λ r. ⌜ r ≡ wholeIn (now (text .entry)) (parseOf p) ⌝ }
+    ensures { λ r. ⌜ r ≡ wholeIn (atEntry text) (parseOf p) ⌝ }
 {
     skip(text, p.rest as usize) == text.len()
 }
 
 // The value of a parse counts if it is whole.
 fn with_parse(text: &[u8], values: Values, p: Parse) -> Values
-    ensures { λ r. ⌜ r ≡ withParse (now (text .entry)) values (parseOf p) ⌝ }
+    ensures { λ r. ⌜ r ≡ withParse (atEntry text) values (parseOf p) ⌝ }
 {
     if whole(text, p) {
         with_value(values, p.value)
@@ -61,7 +62,7 @@ fn with_parse(text: &[u8], values: Values, p: Parse) -> Values
 pub fn whole_values(text: &[u8], rows: &[u32]) -> Values
     requires { ⌜ rowsSize ≤ length (now rows) ⌝ }
     ensures { λ r. ⌜ r ≡ withValues values.Values.Nothing
-        (wholeValues (now (text .entry)) (rowIn rows mostNesting .set)) ⌝ }
+        (wholeValues (atEntry text) (rowIn rows mostNesting .set)) ⌝ }
 {
     let count = parse_count(rows, MOST_NESTING);
     let mut values = Values::Nothing;

@@ -5,6 +5,9 @@
 -- its row, and what the variants of the call of row c have found is that row's run. `n`, the levels of nesting left, is
 -- also the first free row; a call uses row n, and what follows its parses runs with one level less while row n keeps
 -- them. What touches neither sets nor marks is the definition's own function, run on a state without marks.
+--
+-- The letters are those of the run's definition, but that c, n and g are rows: of the call at hand, the free one, and
+-- the governor's. T is a table.
 use mathlib.Core.Bool.{Bool, _&&_}
 use mathlib.Core.List.{List, [], _∷_}
 use mathlib.Core.Option.{Option, none, some}

@@ -57,22 +57,22 @@ module _ (text cells : List ℕ) where
 
 -- ---- Entries and derivations
 -- entry i of the parses list holds a parse: "rest, level, associativity, cell"
-pub record Entry (text : List ℕ) (a : Answered) (i : ℕ) (p : Parse Tree) : Type 0 where
+pub record ListEntry (text : List ℕ) (a : Answered) (i : ℕ) (p : Parse Tree) : Type 0 where
   pub rest : getD (a .parses) (4 * i) 0 ≡ p .rest
   pub level : getD (a .parses) (4 * i + 1) 0 ≡ p .level
   pub associativity : getD (a .parses) (4 * i + 2) 0 ≡ associativityNumber (p .associativity)
   pub value : StandsFor text (a .cells) (getD (a .parses) (4 * i + 3) 0) (p .value)
 
 -- "its derivation reaches the end"
-pub record Reaches (book : Book) (text : List ℕ) (start : ℕ) (p : Parse Tree) : Type 0 where
+pub record ReachesEnd (book : Book) (text : List ℕ) (start : ℕ) (p : Parse Tree) : Type 0 where
   pub derived : DerivesText book text start p
   pub ends : whole text p ≡ true
 
 module _ (book : Book) (text : List ℕ) (start : ℕ) where
   -- some derivation reaches the end, and all that do have the same value
   pub record Agree : Type 0 where
-    pub exists : (p : Parse Tree) × Reaches book text start p
-    pub all : (p q : Parse Tree) → Reaches book text start p → Reaches book text start q → p .value ≡ q .value
+    pub exists : (p : Parse Tree) × ReachesEnd book text start p
+    pub all : (p q : Parse Tree) → ReachesEnd book text start p → ReachesEnd book text start q → p .value ≡ q .value
 
   -- there are parses, and none is whole
   pub record NoneWhole : Type 0 where
@@ -83,7 +83,7 @@ module _ (book : Book) (text : List ℕ) (start : ℕ) where
   pub record Differ : Type 0 where
     pub first : Parse Tree
     pub second : Parse Tree
-    pub reaches : Reaches book text start first × Reaches book text start second
+    pub reaches : ReachesEnd book text start first × ReachesEnd book text start second
     pub apart : first .value ≡ second .value → ⊥
 
   -- there is none
@@ -93,15 +93,15 @@ module _ (book : Book) (text : List ℕ) (start : ℕ) where
   pub record Exact (a : Answered) : Type 0 where
     -- "exactly those with a finite derivation"
     pub derivable : (p : Parse Tree) →
-        DerivesText book text start p ↔ ((i : ℕ) × (i < a .answer .parses) × Entry text a i p)
+        DerivesText book text start p ↔ ((i : ℕ) × (i < a .answer .parses) × ListEntry text a i p)
     -- "each once": a parse stands in one entry, and each entry that counts holds one parse
     pub once : (p : Parse Tree) (i k : ℕ) → i < a .answer .parses → k < a .answer .parses →
-        Entry text a i p → Entry text a k p → i ≡ k
+        ListEntry text a i p → ListEntry text a k p → i ≡ k
     pub each : (i : ℕ) → i < a .answer .parses →
-        (p : Parse Tree) × Entry text a i p × ((q : Parse Tree) → Entry text a i q → q ≡ p)
+        (p : Parse Tree) × ListEntry text a i p × ((q : Parse Tree) → ListEntry text a i q → q ≡ p)
     -- a value is returned exactly when .., and its cell stands for it
     pub value : a .answer .refusal ≡ 0 ↔ Agree
-    pub value-cell : a .answer .refusal ≡ 0 → (p : Parse Tree) → Reaches book text start p →
+    pub value-cell : a .answer .refusal ≡ 0 → (p : Parse Tree) → ReachesEnd book text start p →
         StandsFor text (a .cells) (a .answer .value) (p .value)
     -- the refusals of the end
     pub no-parse : a .answer .refusal ≡ noParse ↔ NoParse

@@ -55,14 +55,14 @@ abbrev pub answeredWithin : ℕ → List ℕ → List ℕ → Answered
 answeredWithin allowance book text = answerOf (replicate cellsSize 0) (replicate parsesSize 0) book text 0 allowance
 
 -- "Allowance 1,000,000"
-abbrev pub answered : List ℕ → List ℕ → Answered
-answered book text = answeredWithin mostUnits book text
+abbrev pub answerTo : List ℕ → List ℕ → Answered
+answerTo book text = answeredWithin mostUnits book text
 
 abbrev pub readsWithin : ℕ → List ℕ → List ℕ → Row
 readsWithin allowance book text = rowOf text (answeredWithin allowance book text)
 
 abbrev pub reads : List ℕ → List ℕ → Row
-reads book text = rowOf text (answered book text)
+reads book text = rowOf text (answerTo book text)
 
 abbrev n : ℕ → Tree
 n i = Tree.variant 0 (no-trees ▸ Tree.number i)
@@ -162,7 +162,7 @@ pub record More : Type 0 where
   pub enough : readsWithin 75 (example 0) (49 ∷ 45 ∷ 50 ∷ 42 ∷ 51 ∷ []) ≡ value (minus (n 1) (times (n 2) (n 3))) 3
   pub tooFew : readsWithin 74 (example 0) (49 ∷ 45 ∷ 50 ∷ 42 ∷ 51 ∷ []) ≡ refused 20 0 0 0
   -- the variants run in their order: the first one's cell comes first
-  pub order : take 9 (answered twoEmpty [] .cells) ≡ 1 ∷ 0 ∷ 0 ∷ 3 ∷ 0 ∷ 1 ∷ 3 ∷ 1 ∷ 1 ∷ []
+  pub order : take 9 (answerTo twoEmpty [] .cells) ≡ 1 ∷ 0 ∷ 0 ∷ 3 ∷ 0 ∷ 1 ∷ 3 ∷ 1 ∷ 1 ∷ []
 
 pub more : More
 unfolding computing
@@ -187,12 +187,12 @@ pub record Points : Type 0 where
   -- "A comma looked for in vain .. still leaves the place skipped": a comma list of identifiers on `a `, and one or
   -- none of them
   pub commaInVain :
-      restsOf (answered (0 ∷ 0 ∷ 2 ∷ 0 ∷ 1 ∷ 2 ∷ 0 ∷ 1 ∷ 255 ∷ 3 ∷ 1 ∷ 1 ∷ 1 ∷ 11 ∷ 1 ∷ 0 ∷ 0 ∷ []) (97 ∷ 32 ∷ []))
+      restsOf (answerTo (0 ∷ 0 ∷ 2 ∷ 0 ∷ 1 ∷ 2 ∷ 0 ∷ 1 ∷ 255 ∷ 3 ∷ 1 ∷ 1 ∷ 1 ∷ 11 ∷ 1 ∷ 0 ∷ 0 ∷ []) (97 ∷ 32 ∷ []))
       ≡ 0 ∷ 2 ∷ []
   -- "or an optional opening in vain": `-` and kind 13, on `- `
   pub openingInVain :
       restsOf
-      (answered (0 ∷ 0 ∷ 1 ∷ 0 ∷ 1 ∷ 1 ∷ 255 ∷ 3 ∷ 1 ∷ 2 ∷ 2 ∷ 0 ∷ 45 ∷ 0 ∷ 0 ∷ 13 ∷ 0 ∷ 40 ∷ 41 ∷ []) (45 ∷ 32 ∷ []))
+      (answerTo (0 ∷ 0 ∷ 1 ∷ 0 ∷ 1 ∷ 1 ∷ 255 ∷ 3 ∷ 1 ∷ 2 ∷ 2 ∷ 0 ∷ 45 ∷ 0 ∷ 0 ∷ 13 ∷ 0 ∷ 40 ∷ 41 ∷ []) (45 ∷ 32 ∷ []))
       ≡ 2 ∷ 0 ∷ []
   -- "2, 4, 5 and a mark-2 use refuse a reserved word": the variable `a`, which is a reserved word too
   pub reservedVariable :

@@ -7,6 +7,8 @@ use mathlib.Core.Logic.{_⊎_}
 use Prim.Native.Nat.{ℕ, zero, suc, _+_, _*_, _<_, _≤_}
 use lib.Dec.{ltb}
 use lib.ListN.{length, getD, set}
+use denote.Ref.{now}
+use Rattle.characters.specs.Slices.{Slice}
 use Rattle.book.specs.Book.{associativityNumber}
 use Rattle.book.specs.Check.{associativityOf}
 use Rattle.book.specs.declared.records.Associativity.{Associativity}
@@ -54,6 +56,11 @@ written numbers place p =
     (associativityNumber (p .associativity)))
     (place + 3)
     (p .value)
+
+-- ---- The slice that a function is lent
+-- the set at a place is inside the slice
+abbrev pub HasSet : ℕ → Slice → Type 0
+HasSet place numbers = place + setSize ≤ length (now numbers)
 
 -- ---- What a function changes
 -- at most so many numbers from a place on change

@@ -15,12 +15,13 @@ ghost use mathlib.Core.Path.{_≡_};
 ghost use mathlib.Core.List.{[]};
 ghost use Prim.Native.Nat.{_+_, _≤_};
 ghost use lib.ListN.{getD, length};
+ghost use Rattle.characters.specs.Slices.{atEntry, atExit};
 ghost use Rattle.book.specs.Book.{associativityNumber};
 ghost use Rattle.book.specs.Check.{associativityOf};
 ghost use Rattle.semantics.specs.Values.{absentParse};
 ghost use Rattle.semantics.specs.Uses.{keepsLevel};
 ghost use Rattle.semantics.specs.Run as run;
-ghost use Rattle.sets.specs.Sets.{parseOf, setSize, parseAt, setAt, written, keepEnd};
+ghost use Rattle.sets.specs.Sets.{parseOf, parseAt, setAt, written, keepEnd, HasSet};
 ghost use Rattle.sets.specs.Sets.{Apart, Becomes, Appended, Added, AllAdded, Kept};
 use book::Associativity;
 
@@ -85,7 +86,7 @@ fn same_parse(p: Parse, q: Parse) -> bool
 
 fn parse_at(numbers: &[u32], at: usize) -> Parse
     requires { ⌜ at + 4 ≤ length (now numbers) ⌝ }
-    ensures { λ r. ⌜ parseOf r ≡ parseAt (now (numbers .entry)) at ⌝ }
+    ensures { λ r. ⌜ parseOf r ≡ parseAt (atEntry numbers) at ⌝ }
 {
     Parse {
         rest: numbers[at],
@@ -98,7 +99,7 @@ fn parse_at(numbers: &[u32], at: usize) -> Parse
 // "Parses hold rest, level, associativity, cell"
 pub fn put_parse(numbers: &mut [u32], at: usize, p: Parse)
     requires { ⌜ at + 4 ≤ length (now numbers) ⌝ }
-    ensures { λ _. ⌜ now (numbers .exit) ≡ written (now (numbers .entry)) at (parseOf p) ⌝ }
+    ensures { λ _. ⌜ atExit numbers ≡ written (atEntry numbers) at (parseOf p) ⌝ }
 {
     let associativity = p.associativity;
     numbers[at] = p.rest;
@@ -109,8 +110,8 @@ pub fn put_parse(numbers: &mut [u32], at: usize, p: Parse)
 
 // ---- A set
 pub fn size(numbers: &[u32], place: usize) -> usize
-    requires { ⌜ place + setSize ≤ length (now numbers) ⌝ }
-    ensures { λ r. ⌜ r ≡ length (setAt (now (numbers .entry)) place) ⌝ }
+    requires { ⌜ HasSet place numbers ⌝ }
+    ensures { λ r. ⌜ r ≡ length (setAt (atEntry numbers) place) ⌝ }
 {
     let count = numbers[place] as usize;
     if count < MOST_PARSES {
@@ -122,8 +123,8 @@ pub fn size(numbers: &[u32], place: usize) -> usize
 
 // The i-th parse of a set, and a parse of zeros past its end.
 pub fn nth_parse(numbers: &[u32], place: usize, i: usize) -> Parse
-    requires { ⌜ place + setSize ≤ length (now numbers) ⌝ }
-    ensures { λ r. ⌜ parseOf r ≡ getD (setAt (now (numbers .entry)) place) i absentParse ⌝ }
+    requires { ⌜ HasSet place numbers ⌝ }
+    ensures { λ r. ⌜ parseOf r ≡ getD (setAt (atEntry numbers) place) i absentParse ⌝ }
 {
     if i < size(numbers, place) {
         return parse_at(numbers, place + 1 + 4 * i);
@@ -137,15 +138,15 @@ pub fn nth_parse(numbers: &[u32], place: usize, i: usize) -> Parse
 }
 
 pub fn clear(numbers: &mut [u32], place: usize)
-    requires { ⌜ place + setSize ≤ length (now numbers) ⌝ }
-    ensures { λ _. ⌜ Becomes (now (numbers .entry)) (now (numbers .exit)) place [] ⌝ }
+    requires { ⌜ HasSet place numbers ⌝ }
+    ensures { λ _. ⌜ Becomes (atEntry numbers) (atExit numbers) place [] ⌝ }
 {
     numbers[place] = 0;
 }
 
 fn has(numbers: &[u32], place: usize, p: Parse) -> bool
-    requires { ⌜ place + setSize ≤ length (now numbers) ⌝ }
-    ensures { λ r. ⌜ r ≡ run.has (setAt (now (numbers .entry)) place) (parseOf p) ⌝ }
+    requires { ⌜ HasSet place numbers ⌝ }
+    ensures { λ r. ⌜ r ≡ run.has (setAt (atEntry numbers) place) (parseOf p) ⌝ }
 {
     let mut at = place + 1;
     let mut left = size(numbers, place);
@@ -161,8 +162,8 @@ fn has(numbers: &[u32], place: usize, p: Parse) -> bool
 
 // One parse more at the end of a set, unless it has 64; false if it has.
 pub fn append(numbers: &mut [u32], place: usize, p: Parse) -> bool
-    requires { ⌜ place + setSize ≤ length (now numbers) ⌝ }
-    ensures { λ r. ⌜ Appended r (now (numbers .entry)) (now (numbers .exit)) place (parseOf p) ⌝ }
+    requires { ⌜ HasSet place numbers ⌝ }
+    ensures { λ r. ⌜ Appended r (atEntry numbers) (atExit numbers) place (parseOf p) ⌝ }
 {
     let parses = size(numbers, place);
     if parses < MOST_PARSES {
@@ -176,8 +177,8 @@ pub fn append(numbers: &mut [u32], place: usize, p: Parse) -> bool
 
 // A parse joins a set; false for a 65th.
 pub fn add(numbers: &mut [u32], place: usize, p: Parse) -> bool
-    requires { ⌜ place + setSize ≤ length (now numbers) ⌝ }
-    ensures { λ r. ⌜ Added r (now (numbers .entry)) (now (numbers .exit)) place (parseOf p) ⌝ }
+    requires { ⌜ HasSet place numbers ⌝ }
+    ensures { λ r. ⌜ Added r (atEntry numbers) (atExit numbers) place (parseOf p) ⌝ }
 {
     if has(numbers, place, p) {
         return true;
@@ -188,8 +189,8 @@ pub fn add(numbers: &mut [u32], place: usize, p: Parse) -> bool
 // ---- Two sets
 // The parses of the set at `from` are all in the set at `into`.
 pub fn all_in(numbers: &[u32], into: usize, from: usize) -> bool
-    requires { ⌜ (into + setSize ≤ length (now numbers)) × (from + setSize ≤ length (now numbers)) ⌝ }
-    ensures { λ r. ⌜ r ≡ run.allIn (setAt (now (numbers .entry)) into) (setAt (now (numbers .entry)) from) ⌝ }
+    requires { ⌜ HasSet into numbers × HasSet from numbers ⌝ }
+    ensures { λ r. ⌜ r ≡ run.allIn (setAt (atEntry numbers) into) (setAt (atEntry numbers) from) ⌝ }
 {
     let mut at = from + 1;
     let mut left = size(numbers, from);
@@ -205,8 +206,8 @@ pub fn all_in(numbers: &[u32], into: usize, from: usize) -> bool
 
 // The set at `from` joins the set at `into`; false for a 65th.
 pub fn add_all(numbers: &mut [u32], into: usize, from: usize) -> bool
-    requires { ⌜ (into + setSize ≤ length (now numbers)) × (from + setSize ≤ length (now numbers)) × Apart into from ⌝ }
-    ensures { λ r. ⌜ AllAdded r (now (numbers .entry)) (now (numbers .exit)) into from ⌝ }
+    requires { ⌜ HasSet into numbers × HasSet from numbers × Apart into from ⌝ }
+    ensures { λ r. ⌜ AllAdded r (atEntry numbers) (atExit numbers) into from ⌝ }
 {
     let mut at = from + 1;
     let mut left = size(numbers, from);
@@ -223,8 +224,8 @@ pub fn add_all(numbers: &mut [u32], into: usize, from: usize) -> bool
 
 // The set at `into` becomes the set at `from`.
 pub fn copy(numbers: &mut [u32], into: usize, from: usize)
-    requires { ⌜ (into + setSize ≤ length (now numbers)) × (from + setSize ≤ length (now numbers)) × Apart into from ⌝ }
-    ensures { λ _. ⌜ Becomes (now (numbers .entry)) (now (numbers .exit)) into (setAt (now (numbers .entry)) from) ⌝ }
+    requires { ⌜ HasSet into numbers × HasSet from numbers × Apart into from ⌝ }
+    ensures { λ _. ⌜ Becomes (atEntry numbers) (atExit numbers) into (setAt (atEntry numbers) from) ⌝ }
 {
     let most = 1 + 4 * size(numbers, from);
     let mut i = 0;
@@ -249,9 +250,9 @@ fn keeps_level(associativity: Associativity, level: u32, found: u32) -> bool
 
 // A parse goes to the end of a set, if it is kept.
 fn keep(numbers: &mut [u32], place: usize, associativity: Associativity, level: u32, p: Parse)
-    requires { ⌜ place + setSize ≤ length (now numbers) ⌝ }
-    ensures { λ _. ⌜ Becomes (now (numbers .entry)) (now (numbers .exit)) place
-        (keepEnd (keepsLevel associativity level (p .level)) (setAt (now (numbers .entry)) place) (parseOf p)) ⌝ }
+    requires { ⌜ HasSet place numbers ⌝ }
+    ensures { λ _. ⌜ Becomes (atEntry numbers) (atExit numbers) place
+        (keepEnd (keepsLevel associativity level (p .level)) (setAt (atEntry numbers) place) (parseOf p)) ⌝ }
 {
     if keeps_level(associativity, level, p.level) {
         append(numbers, place, p);
@@ -260,8 +261,8 @@ fn keep(numbers: &mut [u32], place: usize, associativity: Associativity, level: 
 
 // The set at `into` becomes what a use of this associativity and level keeps of the set at `from`.
 pub fn kept(numbers: &mut [u32], into: usize, from: usize, associativity: Associativity, level: u32)
-    requires { ⌜ (into + setSize ≤ length (now numbers)) × (from + setSize ≤ length (now numbers)) × Apart into from ⌝ }
-    ensures { λ _. ⌜ Kept (now (numbers .entry)) (now (numbers .exit)) into from associativity level ⌝ }
+    requires { ⌜ HasSet into numbers × HasSet from numbers × Apart into from ⌝ }
+    ensures { λ _. ⌜ Kept (atEntry numbers) (atExit numbers) into from associativity level ⌝ }
 {
     clear(numbers, into);
     let mut at = from + 1;

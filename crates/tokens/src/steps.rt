@@ -2,6 +2,7 @@
 // step takes nothing. "Every token skips first; what follows it is unskipped".
 ghost use mathlib.Core.Option.{none};
 ghost use mathlib.Core.Path.{_≡_};
+ghost use Rattle.characters.specs.Slices.{atEntry};
 ghost use Rattle.book.specs.Book.{Book};
 ghost use Rattle.book.specs.Index.{bookAt};
 ghost use Rattle.book.specs.declared.records.Step.{Step};
@@ -94,7 +95,7 @@ fn bare(next: usize) -> Taken
 }
 
 fn character(text: &[u8], a: u32, x: usize) -> Taken
-    ensures { λ r. ⌜ ((book : Book) → takenOf r ≡ stepAt book (now (text .entry)) (Step.Character a) x) ⌝ }
+    ensures { λ r. ⌜ ((book : Book) → takenOf r ≡ stepAt book (atEntry text) (Step.Character a) x) ⌝ }
 {
     let End::At(end) = character_end(text, a, x) else {
         return Taken::Nothing;
@@ -103,7 +104,7 @@ fn character(text: &[u8], a: u32, x: usize) -> Taken
 }
 
 fn word_at(book: &[u8], index: &[usize], text: &[u8], a: u32, x: usize) -> Taken
-    ensures { λ r. ⌜ takenOf r ≡ stepAt (bookAt book index) (now (text .entry)) (Step.Word a) x ⌝ }
+    ensures { λ r. ⌜ takenOf r ≡ stepAt (bookAt book index) (atEntry text) (Step.Word a) x ⌝ }
 {
     let at = skip(text, x);
     let End::At(end) = identifier_end(text, at) else {
@@ -118,7 +119,7 @@ fn word_at(book: &[u8], index: &[usize], text: &[u8], a: u32, x: usize) -> Taken
 }
 
 fn identifier(book: &[u8], index: &[usize], text: &[u8], x: usize) -> Taken
-    ensures { λ r. ⌜ takenOf r ≡ stepAt (bookAt book index) (now (text .entry)) Step.Identifier x ⌝ }
+    ensures { λ r. ⌜ takenOf r ≡ stepAt (bookAt book index) (atEntry text) Step.Identifier x ⌝ }
 {
     let at = skip(text, x);
     let End::At(end) = free_end(book, index, text, at) else {
@@ -134,7 +135,7 @@ fn identifier(book: &[u8], index: &[usize], text: &[u8], x: usize) -> Taken
 }
 
 fn number(text: &[u8], x: usize) -> Taken
-    ensures { λ r. ⌜ ((book : Book) → takenOf r ≡ stepAt book (now (text .entry)) Step.Number x) ⌝ }
+    ensures { λ r. ⌜ ((book : Book) → takenOf r ≡ stepAt book (atEntry text) Step.Number x) ⌝ }
 {
     match number_at(text, skip(text, x)) {
         Number::Value { value, end } => Taken::Token {
@@ -147,7 +148,7 @@ fn number(text: &[u8], x: usize) -> Taken
 }
 
 fn variable(book: &[u8], index: &[usize], text: &[u8], x: usize) -> Taken
-    ensures { λ r. ⌜ takenOf r ≡ stepAt (bookAt book index) (now (text .entry)) Step.Variable x ⌝ }
+    ensures { λ r. ⌜ takenOf r ≡ stepAt (bookAt book index) (atEntry text) Step.Variable x ⌝ }
 {
     match variable_at(book, index, text, skip(text, x)) {
         Variable::Named { end, number, kind } => Taken::Token {
@@ -159,7 +160,7 @@ fn variable(book: &[u8], index: &[usize], text: &[u8], x: usize) -> Taken
 }
 
 fn variable_of_kind(book: &[u8], index: &[usize], text: &[u8], a: u32, x: usize) -> Taken
-    ensures { λ r. ⌜ takenOf r ≡ stepAt (bookAt book index) (now (text .entry)) (Step.VariableOfKind a) x ⌝ }
+    ensures { λ r. ⌜ takenOf r ≡ stepAt (bookAt book index) (atEntry text) (Step.VariableOfKind a) x ⌝ }
 {
     match variable_at(book, index, text, skip(text, x)) {
         Variable::Named { end, number, kind } => {
@@ -178,7 +179,7 @@ fn variable_of_kind(book: &[u8], index: &[usize], text: &[u8], a: u32, x: usize)
 
 // Kinds 6 and 7 look behind what is skipped, and don't move the place.
 fn reject_variable(book: &[u8], index: &[usize], text: &[u8], x: usize) -> Taken
-    ensures { λ r. ⌜ takenOf r ≡ stepAt (bookAt book index) (now (text .entry)) Step.RejectVariable x ⌝ }
+    ensures { λ r. ⌜ takenOf r ≡ stepAt (bookAt book index) (atEntry text) Step.RejectVariable x ⌝ }
 {
     let at = skip(text, x);
     match variable_at(book, index, text, at) {
@@ -192,7 +193,7 @@ fn reject_variable(book: &[u8], index: &[usize], text: &[u8], x: usize) -> Taken
 }
 
 fn reject_reserved(book: &[u8], index: &[usize], text: &[u8], x: usize) -> Taken
-    ensures { λ r. ⌜ takenOf r ≡ stepAt (bookAt book index) (now (text .entry)) Step.RejectReserved x ⌝ }
+    ensures { λ r. ⌜ takenOf r ≡ stepAt (bookAt book index) (atEntry text) Step.RejectReserved x ⌝ }
 {
     let at = skip(text, x);
     if reserved_at(book, index, text, at) {
@@ -204,7 +205,7 @@ fn reject_reserved(book: &[u8], index: &[usize], text: &[u8], x: usize) -> Taken
 
 fn delimited(text: &[u8], nonterminal: u32, opening: u32, closing: u32, x: usize) -> Taken
     ensures { λ r. ⌜ ((book : Book) →
-        takenOf r ≡ stepAt book (now (text .entry)) (Step.Delimited nonterminal opening closing) x) ⌝ }
+        takenOf r ≡ stepAt book (atEntry text) (Step.Delimited nonterminal opening closing) x) ⌝ }
 {
     let End::At(place) = character_end(text, opening, x) else {
         return Taken::Nothing;
@@ -220,7 +221,7 @@ fn delimited(text: &[u8], nonterminal: u32, opening: u32, closing: u32, x: usize
 // An opening looked for in vain still leaves the place skipped.
 fn optional_delimited(text: &[u8], nonterminal: u32, opening: u32, closing: u32, x: usize) -> Taken
     ensures { λ r. ⌜ ((book : Book) →
-        takenOf r ≡ stepAt book (now (text .entry)) (Step.OptionalDelimited nonterminal opening closing) x) ⌝ }
+        takenOf r ≡ stepAt book (atEntry text) (Step.OptionalDelimited nonterminal opening closing) x) ⌝ }
 {
     let End::At(place) = character_end(text, opening, x) else {
         return Taken::Unopened(skip(text, x));
@@ -235,7 +236,7 @@ fn optional_delimited(text: &[u8], nonterminal: u32, opening: u32, closing: u32,
 
 // What a step takes at a place, by its kind.
 pub fn step_at(book: &[u8], index: &[usize], text: &[u8], step: Step, x: usize) -> Taken
-    ensures { λ r. ⌜ takenOf r ≡ stepAt (bookAt book index) (now (text .entry)) step x ⌝ }
+    ensures { λ r. ⌜ takenOf r ≡ stepAt (bookAt book index) (atEntry text) step x ⌝ }
 {
     match step {
         Step::Character(a) => character(text, a, x),
@@ -276,7 +277,7 @@ pub fn step_at(book: &[u8], index: &[usize], text: &[u8], step: Step, x: usize) 
 // ---- Lists
 // 44 is the comma. One that is there is taken; one looked for in vain still leaves the place skipped.
 pub fn after_element(text: &[u8], comma: bool, place: usize) -> After
-    ensures { λ r. ⌜ afterOf r ≡ afterElement (now (text .entry)) comma place ⌝ }
+    ensures { λ r. ⌜ afterOf r ≡ afterElement (atEntry text) comma place ⌝ }
 {
     if !comma {
         return After::Goes(place);
@@ -289,7 +290,7 @@ pub fn after_element(text: &[u8], comma: bool, place: usize) -> After
 
 // Behind a list: the closing of a delimited one, or nothing.
 pub fn closed(text: &[u8], closing: Closing, place: usize) -> End
-    ensures { λ r. ⌜ endOf r ≡ closedAt (now (text .entry)) (closingIn closing) place ⌝ }
+    ensures { λ r. ⌜ endOf r ≡ closedAt (atEntry text) (closingIn closing) place ⌝ }
 {
     let Closing::Character(c) = closing else {
         return End::At(place);
@@ -320,7 +321,7 @@ pub fn closing_error(closing: Closing, at: u32) -> Error
 
 // An identifier was wanted: the text ended, none is there, or it is reserved; else another error.
 fn identifier_error(book: &[u8], index: &[usize], text: &[u8], at: u32, other: Error) -> Error
-    ensures { λ r. ⌜ errorOf r ≡ identifierError (bookAt book index) (now (text .entry)) at (errorOf other) ⌝ }
+    ensures { λ r. ⌜ errorOf r ≡ identifierError (bookAt book index) (atEntry text) at (errorOf other) ⌝ }
 {
     let place = at as usize;
     if place == text.len() {
@@ -337,7 +338,7 @@ fn identifier_error(book: &[u8], index: &[usize], text: &[u8], at: u32, other: E
 
 // Digits were wanted, or the number is too large; where a number is, this isn't asked for.
 fn number_error(text: &[u8], at: u32) -> Error
-    ensures { λ r. ⌜ ((book : Book) → errorOf r ≡ stepError book (now (text .entry)) Step.Number at) ⌝ }
+    ensures { λ r. ⌜ ((book : Book) → errorOf r ≡ stepError book (atEntry text) Step.Number at) ⌝ }
 {
     let place = at as usize;
     if place == text.len() {
@@ -352,7 +353,7 @@ fn number_error(text: &[u8], at: u32) -> Error
 
 // No variable of the kind: a name of another kind, or none.
 fn kind_error(book: &[u8], index: &[usize], text: &[u8], kind: u32, at: u32) -> Error
-    ensures { λ r. ⌜ errorOf r ≡ when (isSome (variableAt (bookAt book index) (now (text .entry)) at))
+    ensures { λ r. ⌜ errorOf r ≡ when (isSome (variableAt (bookAt book index) (atEntry text) at))
         (λ _. error at 8 kind) (λ _. error at 7 0) ⌝ }
 {
     match variable_at(book, index, text, at as usize) {
@@ -366,7 +367,7 @@ fn kind_error(book: &[u8], index: &[usize], text: &[u8], kind: u32, at: u32) -> 
 }
 
 pub fn step_error(book: &[u8], index: &[usize], text: &[u8], step: Step, at: u32) -> Error
-    ensures { λ r. ⌜ errorOf r ≡ stepError (bookAt book index) (now (text .entry)) step at ⌝ }
+    ensures { λ r. ⌜ errorOf r ≡ stepError (bookAt book index) (atEntry text) step at ⌝ }
 {
     match step {
         Step::Character(a) => error_at(at, CHARACTER_WANTED, a),

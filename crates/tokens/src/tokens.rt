@@ -1,6 +1,7 @@
 // What stands at a place of the text: a character, an identifier, a reserved word, a variable.
 ghost use mathlib.Core.Path.{_≡_};
 ghost use Prim.Native.Nat.{_-_};
+ghost use Rattle.characters.specs.Slices.{atEntry};
 ghost use Rattle.book.specs.Index.{bookAt};
 ghost use Rattle.semantics.specs.Tokens.{characterEnd, identifierEnd, reservedAt, freeEnd, variableAt};
 ghost use Rattle.tokens.specs.Maps.{endOf, variableOf};
@@ -30,7 +31,7 @@ pub enum Variable {
 
 // The end of the character `a`, after skipping.
 pub fn character_end(text: &[u8], a: u32, place: usize) -> End
-    ensures { λ r. ⌜ endOf r ≡ characterEnd (now (text .entry)) a place ⌝ }
+    ensures { λ r. ⌜ endOf r ≡ characterEnd (atEntry text) a place ⌝ }
 {
     let at = skip(text, place);
     if at < text.len() {
@@ -42,7 +43,7 @@ pub fn character_end(text: &[u8], a: u32, place: usize) -> End
 }
 
 pub fn identifier_end(text: &[u8], at: usize) -> End
-    ensures { λ r. ⌜ endOf r ≡ identifierEnd (now (text .entry)) at ⌝ }
+    ensures { λ r. ⌜ endOf r ≡ identifierEnd (atEntry text) at ⌝ }
 {
     match identifier_at(text, at) {
         Identifier::Ends(end) => End::At(end),
@@ -58,7 +59,7 @@ pub fn length(at: usize, end: usize) -> usize
 }
 
 pub fn reserved_at(book: &[u8], index: &[usize], text: &[u8], at: usize) -> bool
-    ensures { λ r. ⌜ r ≡ reservedAt (bookAt book index) (now (text .entry)) at ⌝ }
+    ensures { λ r. ⌜ r ≡ reservedAt (bookAt book index) (atEntry text) at ⌝ }
 {
     let End::At(end) = identifier_end(text, at) else {
         return false;
@@ -68,7 +69,7 @@ pub fn reserved_at(book: &[u8], index: &[usize], text: &[u8], at: usize) -> bool
 
 // The end of an identifier that is not reserved.
 pub fn free_end(book: &[u8], index: &[usize], text: &[u8], at: usize) -> End
-    ensures { λ r. ⌜ endOf r ≡ freeEnd (bookAt book index) (now (text .entry)) at ⌝ }
+    ensures { λ r. ⌜ endOf r ≡ freeEnd (bookAt book index) (atEntry text) at ⌝ }
 {
     if reserved_at(book, index, text, at) {
         End::Nothing
@@ -78,7 +79,7 @@ pub fn free_end(book: &[u8], index: &[usize], text: &[u8], at: usize) -> End
 }
 
 pub fn variable_at(book: &[u8], index: &[usize], text: &[u8], at: usize) -> Variable
-    ensures { λ r. ⌜ variableOf r ≡ variableAt (bookAt book index) (now (text .entry)) at ⌝ }
+    ensures { λ r. ⌜ variableOf r ≡ variableAt (bookAt book index) (atEntry text) at ⌝ }
 {
     let End::At(end) = free_end(book, index, text, at) else {
         return Variable::Nothing;

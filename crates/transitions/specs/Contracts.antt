@@ -34,7 +34,7 @@ use Rattle.transitions.specs.declared.stages.Stage.{Stage}
 use Rattle.transitions.specs.Outcomes.{Runs, MadeBy, given}
 use Rattle.transitions.specs.Fit.{Fit}
 use Rattle.transitions.specs.Steps as steps
-use Rattle.transitions.specs.Steps.{Part, nextRows, sideRows, unopenedRows, tokenRows}
+use Rattle.transitions.specs.Steps.{ModelPart, nextRows, sideRows, unopenedRows, tokenRows}
 
 -- ---- What is asked
 -- "above 4,096 bytes" is a refusal, so that a text's places fit into 32 bits
@@ -75,19 +75,19 @@ Continues book index text store rows before r part =
     (λ cells. part (bookAt book index) (atEntry text) (given before cells (tableAt rows)))
 
 -- a part that calls nothing, and what the path does next
-abbrev pub Stages : Lent → Lent → Lent → Lent → Progress → State → Stage → (Book → List ℕ → Part) → Type 0
+abbrev pub Stages : Lent → Lent → Lent → Lent → Progress → State → Stage → (Book → List ℕ → ModelPart) → Type 0
 Stages book index text store here s g part =
     steps.Stages (bookAt book index) (atEntry text) (atEntry store) s (atExit store) (here .variant) g
     (part (bookAt book index) (atEntry text))
 
 -- the same of a part that reads no book
-abbrev pub StagesAll : Lent → Lent → Progress → State → Stage → (Book → List ℕ → Part) → Type 0
+abbrev pub StagesAll : Lent → Lent → Progress → State → Stage → (Book → List ℕ → ModelPart) → Type 0
 StagesAll text store here s g part =
     (book : Book) →
     steps.Stages book (atEntry text) (atEntry store) s (atExit store) (here .variant) g (part book (atEntry text))
 
 -- the same where the steps left come next
-abbrev pub Reaches : Lent → Lent → Lent → Lent → Progress → State → Reached → (Book → List ℕ → Part) → Type 0
+abbrev pub Reaches : Lent → Lent → Lent → Lent → Progress → State → Reached → (Book → List ℕ → ModelPart) → Type 0
 Reaches book index text store here s g part =
     steps.Reaches (bookAt book index) (atEntry text) (atEntry store) s (atExit store) (here .variant) g
     (part (bookAt book index) (atEntry text))
@@ -103,39 +103,39 @@ abbrev pub completes : Progress → FromState
 completes here book text s = completeRows book text (here .call) (here .variant) (here .place) (here .items) s
 
 -- the next step
-abbrev pub takes : Progress → Book → List ℕ → Part
+abbrev pub takes : Progress → Book → List ℕ → ModelPart
 takes here book text inner n c rest s =
     stepsRows book text inner n c (here .variant) (taking (nthStep (book .steps) (here .step)) ∷ rest) (here .place)
     (here .items) s
 
 -- a token was read
-abbrev pub reads : Option Item → ℕ → Progress → Book → List ℕ → Part
+abbrev pub reads : Option Item → ℕ → Progress → Book → List ℕ → ModelPart
 reads item next here book text inner n c rest s =
     tokenRows book text inner n c (here .variant) rest item next (here .items) s
 
 -- a list begins at a place
-abbrev pub lists : Bool → ℕ → Closing → ℕ → Progress → Book → List ℕ → Part
+abbrev pub lists : Bool → ℕ → Closing → ℕ → Progress → Book → List ℕ → ModelPart
 lists comma M closing place here book text inner n c rest s =
     listingRows book text inner n c (here .variant) comma M (closingIn closing) rest
     (stepsRows book text inner n c (here .variant) rest) place (here .items) s
 
 -- kind 13 without its opening
-abbrev pub unopens : ℕ → Progress → Book → List ℕ → Part
+abbrev pub unopens : ℕ → Progress → Book → List ℕ → ModelPart
 unopens place here book text inner n c rest s =
     unopenedRows book text inner n c (here .variant) rest place (here .items) s
 
 -- a list stops at a place
-abbrev pub stops : ℕ → Closing → ℕ → Progress → Book → List ℕ → Part
+abbrev pub stops : ℕ → Closing → ℕ → Progress → Book → List ℕ → ModelPart
 stops values closing place here book text inner n c rest s =
     stopsRows book text (here .variant) values (closingIn closing)
     (stepsRows book text inner n c (here .variant) rest) place (here .items) s
 
 -- the first side of a choice
-abbrev pub sides : Next → Progress → Book → List ℕ → Part
+abbrev pub sides : Next → Progress → Book → List ℕ → ModelPart
 sides next here book text inner n c rest s =
     sideRows book text inner n c (here .variant) rest next (here .place) (here .items) s
 
 -- what follows a parse
-abbrev pub follows : Next → Parse ℕ → Progress → Book → List ℕ → Part
+abbrev pub follows : Next → Parse ℕ → Progress → Book → List ℕ → ModelPart
 follows next q here book text inner n c rest s =
     nextRows book text c (here .variant) rest next (here .items) q s (stepsRows book text inner n)

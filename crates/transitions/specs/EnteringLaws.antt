@@ -33,7 +33,7 @@ use Rattle.calls.specs.CallLaws.{then-row}
 use Rattle.calls.specs.Table.{governorIn, withStoredIn}
 use Rattle.calls.specs.declared.Governor.{Governor}
 use Rattle.cells.specs.Store.{listed}
-use Rattle.cells.specs.declared.numbers.Numbers.{Numbers}
+use Rattle.cells.specs.declared.numbers.CellNumbers.{CellNumbers}
 use Rattle.errors.specs.Maps.{failureOf}
 use Rattle.tokens.specs.Maps.{endOf, variableOf}
 use Rattle.errors.specs.declared.Failure.{Failure}
@@ -125,7 +125,7 @@ module _ (book : Book) (text store : List ℕ) (T T1 T2 : List Row) (n N u : ℕ
       Runs text store (s .cells) store T2 o (λ cells. runIdentifierRows book text n N u (rowState (s .units) cells T))
   identifier-nothing x f o h ex en ef eo = unnamed f o (rw h (sym (ap endOf en) ∙ ex)) ef eo
 
-  module _ (x : End) (end size : ℕ) (c : Numbers) (after : List ℕ) (m : CellOutcome) (h : t ≡ false) (ex : endOf x ≡ freeEnd book text u) (en : x ≡ End.At end)
+  module _ (x : End) (end size : ℕ) (c : CellNumbers) (after : List ℕ) (m : CellOutcome) (h : t ≡ false) (ex : endOf x ≡ freeEnd book text u) (en : x ≡ End.At end)
       (es : size ≡ end - u) (ec : listed c ≡ numbersOf (Cell.name u size))
       (em : (cell : Cell) → listed c ≡ numbersOf cell → MadeBy text store after s m (run.make text cell)) where
     named-from : (cells : List Cell) → namedRows book text n N u (rowState (s .units) cells T2) (some end) ≡ runIdentifierRows book text n N u (rowState (s .units) cells T)

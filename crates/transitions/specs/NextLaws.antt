@@ -34,13 +34,13 @@ use Rattle.transitions.specs.declared.stages.Reached.{Reached}
 use Rattle.transitions.specs.declared.stages.Stage.{Stage}
 use Rattle.transitions.specs.Outcomes.{cellsOf, Spent, MadeBy, withoutFailure, doneWith, failureAt}
 use Rattle.transitions.specs.OutcomeLaws.{given-ok, given-met, failure-done}
-use Rattle.transitions.specs.Steps.{nextRows, choosesRows, doesRows, sideRows, Part, Stages, Reaches, Chosen, Joined}
+use Rattle.transitions.specs.Steps.{nextRows, choosesRows, doesRows, sideRows, ModelPart, Stages, Reaches, Chosen, Joined}
 use Rattle.transitions.specs.Steps.{endedBy, reachedWith, thenSteps}
 use Rattle.transitions.specs.ResumeLaws.{stateIn, bind-met, bind-ok, unit-met, unit-ok, makes-ok, makes-met, resumes-met, resumes-on, made-resumes}
 use Rattle.transitions.specs.StepsLaws.{stopsPart}
 
 -- ---- What follows a parse
-abbrev nextPart : Book → List ℕ → ℕ → Next → ℕ → Parse ℕ → Part
+abbrev nextPart : Book → List ℕ → ℕ → Next → ℕ → Parse ℕ → ModelPart
 nextPart book text j next items q inner n c rest s = nextRows book text c j rest next items q s (stepsRows book text inner n)
 
 pub plain-next : (book : Book) (text before after : List ℕ) (j items : ℕ) (next : Next) (q : Parse ℕ) (s : State) (m : CellOutcome) (r : Reached) (g : Stage) → next ≡ Next.Steps →
@@ -163,7 +163,7 @@ joined-both i before o r a b f l h ea eb e q =
     })
 
 -- ---- Choices
-abbrev sidePart : Book → List ℕ → ℕ → Next → ℕ → ℕ → Part
+abbrev sidePart : Book → List ℕ → ℕ → Next → ℕ → ℕ → ModelPart
 sidePart book text j next at items inner n c rest s = sideRows book text inner n c j rest next at items s
 
 module _ (book : Book) (text before middle : List ℕ) (j at items : ℕ) (s : State) (m : CellOutcome) (w : MadeBy text before middle s m (run.make text Cell.absent)) where

@@ -28,7 +28,7 @@ use Rattle.run_model.specs.Rows.{Row}
 use Rattle.run_model.specs.Model.{rowState, outcome, spendRows, valueCell}
 use Rattle.cells.specs.Store.{Holds, Makes, Making, cellsAfter, listed}
 use Rattle.cells.specs.StoredLaws.{stored-cells}
-use Rattle.cells.specs.declared.numbers.Numbers.{Numbers}
+use Rattle.cells.specs.declared.numbers.CellNumbers.{CellNumbers}
 use Rattle.cells.specs.declared.store.Made as cells
 use Rattle.errors.specs.Maps.{failureOf}
 use Rattle.tokens.specs.Maps.{itemOf}
@@ -127,7 +127,7 @@ pub got-in : (text store : List ℕ) (s : State) (m : CellOutcome) (cell : ℕ) 
 unfolding givenCell
 got-in text store s m cell z e q h = record { is = rw (e, q); held = rw e h }
 
-module _ (text before after : List ℕ) (s : State) (c : Numbers) where
+module _ (text before after : List ℕ) (s : State) (c : CellNumbers) where
   module _ (cell : Cell) (e : listed c ≡ numbersOf cell) (h : Held text before (s .cells)) where
     making : (r : cells.Made) → Makes text before after (s .cells) c r → Making text after (cellsOf before (s .cells)) cell r
     making r w = w .does (cellsOf before (s .cells)) cell (h .holds) (h .counted) e
@@ -170,7 +170,7 @@ module _ (book : Book) (text : List ℕ) (j : ℕ) (p : Bool) (ep : p ≡ nthVar
   unfolding run.begin
   begin-passing store y e h = got-in text store s m 0 _ e (rw (sym ep ∙ y, run.begin)) h
 
-  pub begin-made : (before after : List ℕ) (c : Numbers) → p ≡ false →
+  pub begin-made : (before after : List ℕ) (c : CellNumbers) → p ≡ false →
       ((cell : Cell) → listed c ≡ numbersOf cell → MadeBy text before after s m (run.make text cell)) → listed c ≡ numbersOf Cell.empty →
       MadeBy text before after s m (run.begin book text j)
   unfolding run.begin
@@ -181,7 +181,7 @@ module _ (book : Book) (text : List ℕ) (j : ℕ) (p : Bool) (ep : p ≡ nthVar
   unfolding run.withCell
   with-passing store items item y e h = got-in text store s m item _ e (rw (sym ep ∙ y, run.withCell)) h
 
-  pub with-made : (before after : List ℕ) (items item : ℕ) (c : Numbers) → p ≡ false →
+  pub with-made : (before after : List ℕ) (items item : ℕ) (c : CellNumbers) → p ≡ false →
       ((cell : Cell) → listed c ≡ numbersOf cell → MadeBy text before after s m (run.make text cell)) → listed c ≡ numbersOf (Cell.chain items item) →
       MadeBy text before after s m (run.withCell book text j items item)
   unfolding run.withCell
@@ -192,7 +192,7 @@ module _ (book : Book) (text : List ℕ) (j : ℕ) (p : Bool) (ep : p ≡ nthVar
   unfolding valueCell
   value-passing store items y e h = got-in text store s m items _ e (rw (sym ep ∙ y, valueCell)) h
 
-  pub value-made : (before after : List ℕ) (items : ℕ) (c : Numbers) → p ≡ false →
+  pub value-made : (before after : List ℕ) (items : ℕ) (c : CellNumbers) → p ≡ false →
       ((cell : Cell) → listed c ≡ numbersOf cell → MadeBy text before after s m (run.make text cell)) → listed c ≡ numbersOf (Cell.variant j items) →
       MadeBy text before after s m (valueCell book text j items)
   unfolding valueCell
@@ -242,7 +242,7 @@ module _ (book : Book) (text : List ℕ) (j items : ℕ) (o : Option steps.Item)
   token-nothing store m t et y e h =
       let n = no-item o (sym y ∙ et) in got-in text store s m items _ e (rw (n, run.withToken)) h
 
-  module _ (before middle : List ℕ) (m : CellOutcome) (c : Numbers) (t : Bool) (et : t ≡ isSome o) (y : t ≡ true)
+  module _ (before middle : List ℕ) (m : CellOutcome) (c : CellNumbers) (t : Bool) (et : t ≡ isSome o) (y : t ≡ true)
       (w : (cell : Cell) → listed c ≡ numbersOf cell → MadeBy text before middle s m (run.make text cell))
       (e : (i : steps.Item) → o ≡ some i → listed c ≡ numbersOf (run.itemCell i)) where
     pub token-limit : (m .limit ≡ 0 → ⊥) → MadeBy text before middle s m (run.withToken book text j items o)

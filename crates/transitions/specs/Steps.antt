@@ -112,22 +112,22 @@ module _ (book : Book) (text : List ℕ) (inner : Option RowRunner) (n c j : ℕ
 
 -- ---- What a part that calls nothing promises
 -- a part of the model, whatever runs what is left
-abbrev pub Part : Type 0
-Part = Option RowRunner → ℕ → ℕ → List (Todo ℕ) → RowState → Result Outcome
+abbrev pub ModelPart : Type 0
+ModelPart = Option RowRunner → ℕ → ℕ → List (Todo ℕ) → RowState → Result Outcome
 
 pub record Staged (book : Book) (text store : List ℕ) (j : ℕ) (o : code.Outcome) (doing : Doing) (at items units : ℕ)
-    (cells : List Cell) (z : Part) : Type 0 where
+    (cells : List Cell) (z : ModelPart) : Type 0 where
   pub is : (inner : Option RowRunner) (n c : ℕ) (rest : List (Todo ℕ)) (T : List Row) →
       resumes book text inner n c j rest doing at items (given o (cellsOf store (o .state .cells)) T) ≡
       z inner n c rest (rowState units cells T)
   pub held : Held text store (o .state .cells)
 
-abbrev pub Stages : Book → List ℕ → List ℕ → State → List ℕ → ℕ → Stage → Part → Type 0
+abbrev pub Stages : Book → List ℕ → List ℕ → State → List ℕ → ℕ → Stage → ModelPart → Type 0
 Stages book text before s after j g z =
     Held text before (s .cells) →
     Staged book text after j (g .outcome) (g .doing) (g .place) (g .items) (s .units) (cellsOf before (s .cells)) z
 
-abbrev pub Reaches : Book → List ℕ → List ℕ → State → List ℕ → ℕ → Reached → Part → Type 0
+abbrev pub Reaches : Book → List ℕ → List ℕ → State → List ℕ → ℕ → Reached → ModelPart → Type 0
 Reaches book text before s after j g z =
     Held text before (s .cells) →
     Staged book text after j (g .outcome) Doing.Steps (g .place) (g .items) (s .units) (cellsOf before (s .cells)) z

@@ -53,7 +53,7 @@ use Rattle.transitions.specs.declared.stages.Stage.{Stage}
 use Rattle.transitions.specs.Fit.{Fit}
 use Rattle.transitions.specs.Outcomes.{cellsOf, Held, bare, given, Runs, Spent, MadeIn, MadeBy, withoutFailure, doneWith, failureAt}
 use Rattle.transitions.specs.OutcomeLaws.{given-ok, given-met}
-use Rattle.transitions.specs.Steps.{nextRows, descendsRows, choosesRows, doesRows, unopenedRows, tokenRows, Part, Stages, Reaches, StepSpent}
+use Rattle.transitions.specs.Steps.{nextRows, descendsRows, choosesRows, doesRows, unopenedRows, tokenRows, ModelPart, Stages, Reaches, StepSpent}
 use Rattle.transitions.specs.Steps.{endedBy, reachedWith, thenSteps, thenDoes}
 use Rattle.transitions.specs.ResumeLaws.{stateIn, bind-met, bind-ok, unit-met, unit-ok, makes-ok, makes-met, resumes-met, resumes-on, resumes-failed, made-resumes}
 
@@ -120,7 +120,7 @@ module _ (book : Book) (text : List ℕ) (j values : ℕ) (close : Option ℕ) (
   stops-closed y n = rw (e, stopsRows, _>>=_) (rw n)
 
 -- the list's part of the model
-abbrev pub stopsPart : Book → List ℕ → ℕ → ℕ → Closing → ℕ → ℕ → Part
+abbrev pub stopsPart : Book → List ℕ → ℕ → ℕ → Closing → ℕ → ℕ → ModelPart
 stopsPart book text j values closing at items inner n c rest s = stopsRows book text j values (closingIn closing) (stepsRows book text inner n c j rest) at items s
 
 module _ (book : Book) (text before middle : List ℕ) (j values : ℕ) (closing : Closing) (at items : ℕ) (s : State) (m : CellOutcome)
@@ -275,7 +275,7 @@ token-taken book text before after j items o next s m g w e h =
     })
 
 -- ---- A step
-abbrev stepPart : Book → List ℕ → ℕ → Step → ℕ → ℕ → Part
+abbrev stepPart : Book → List ℕ → ℕ → Step → ℕ → ℕ → ModelPart
 stepPart book text j step x items inner n c rest s = stepsRows book text inner n c j (taking step ∷ rest) x items s
 
 -- what the step took, in the model, on a state whose unit is spent

@@ -1,4 +1,5 @@
 // The first side of a choice, and both sides together.
+ghost use Rattle.characters.specs.Slices.{atEntry};
 ghost use Rattle.calls.specs.Table.{InTable, tableAt};
 ghost use Rattle.transitions.specs.Steps.{Chosen};
 ghost use Rattle.transitions.specs.Contracts.{Short, Fitting, Reaches, sides};
@@ -104,7 +105,7 @@ pub fn first_side(
 // Both sides of a choice.
 pub fn both(text: &[u8], rows: &[u32], here: Progress, a: Outcome, b: Outcome) -> Outcome
     requires { ⌜ InTable (here .call) rows × Short text ⌝ }
-    ensures { λ r. ⌜ Chosen (now (text .entry)) (tableAt rows) (here .call) (here .place) a b r ⌝ }
+    ensures { λ r. ⌜ Chosen (atEntry text) (tableAt rows) (here .call) (here .place) a b r ⌝ }
 {
     if b.limit != 0 {
         return b;

@@ -3,6 +3,7 @@
 ghost use mathlib.Core.Path.{_≡_};
 ghost use mathlib.Core.Bool.{false};
 ghost use mathlib.Core.Option.{some};
+ghost use Rattle.characters.specs.Slices.{atEntry, atExit};
 ghost use Rattle.book.specs.Index.{bookAt};
 ghost use Rattle.semantics.specs.Numbers.{nonterminalWanted};
 ghost use Rattle.semantics.specs.Uses.{hasMark};
@@ -81,7 +82,7 @@ fn stored(
 // A variable that an open call above a row claims.
 fn claimed(book: &[u8], index: &[usize], text: &[u8], rows: &[u32], row: usize, at: u32) -> bool
     requires { ⌜ InTable row rows ⌝ }
-    ensures { λ r. ⌜ r ≡ claimedRows (bookAt book index) (now (text .entry)) (tableAt rows) row at ⌝ }
+    ensures { λ r. ⌜ r ≡ claimedRows (bookAt book index) (atEntry text) (tableAt rows) row at ⌝ }
 {
     match tokens::variable_at(book, index, text, at as usize) {
         Variable::Named {
@@ -161,7 +162,7 @@ fn open(
     state: State,
 ) -> Entered
     requires { ⌜ Ready book index text rows row ⌝ }
-    ensures { λ r. ⌜ Opens (bookAt book index) (now (text .entry)) (now (store .entry)) (now (store .exit))
+    ensures { λ r. ⌜ Opens (bookAt book index) (atEntry text) (atEntry store) (atExit store)
         (tableAt rows) (tableAfter rows) row nonterminal at minimum state r ⌝ }
 {
     if row == 0 {
@@ -201,7 +202,7 @@ pub fn begin_use(
     state: State,
 ) -> Entered
     requires { ⌜ Ready book index text rows row ⌝ }
-    ensures { λ r. ⌜ Enters (bookAt book index) (now (text .entry)) (now (store .entry)) (now (store .exit))
+    ensures { λ r. ⌜ Enters (bookAt book index) (atEntry text) (atEntry store) (atExit store)
         (tableAt rows) (tableAfter rows) row nonterminal at state r ⌝ }
 {
     let spent = spend(state);

@@ -15,7 +15,7 @@ ghost use Rattle.transitions.specs.Contracts.{MakesCell};
 ghost use Rattle.transitions.specs.Fit.{ItemFits};
 use crate::outcomes::State;
 use crate::outcomes::TOO_MANY_CELLS;
-use cells::Numbers;
+use cells::CellNumbers;
 use tokens::Item;
 
 // A cell that was asked for, or the limit.
@@ -36,9 +36,9 @@ fn got(cell: u32, state: State) -> CellOutcome
 }
 
 // The equal cell, or one more.
-pub fn make(text: &[u8], store: &mut [u32], c: Numbers, state: State) -> CellOutcome
+pub fn make(text: &[u8], store: &mut [u32], c: CellNumbers, state: State) -> CellOutcome
     ensures { λ r. ⌜ ((cell : Cell) → listed c ≡ numbersOf cell →
-        MakesCell text store state r (run.make (now (text .entry)) cell)) ⌝ }
+        MakesCell text store state r (run.make (atEntry text) cell)) ⌝ }
 {
     match cells::make(text, store, state.cells, c) {
         cells::Made::At { cell, count } => got(
@@ -72,7 +72,7 @@ pub fn begin(
     j: u32,
     state: State,
 ) -> CellOutcome
-    ensures { λ r. ⌜ MakesCell text store state r (run.begin (bookAt book index) (now (text .entry)) j) ⌝ }
+    ensures { λ r. ⌜ MakesCell text store state r (run.begin (bookAt book index) (atEntry text) j) ⌝ }
 {
     if is_passing(book, index, j) {
         got(0, state)
@@ -92,7 +92,7 @@ pub fn with_cell(
     item: u32,
     state: State,
 ) -> CellOutcome
-    ensures { λ r. ⌜ MakesCell text store state r (run.withCell (bookAt book index) (now (text .entry)) j items item) ⌝ }
+    ensures { λ r. ⌜ MakesCell text store state r (run.withCell (bookAt book index) (atEntry text) j items item) ⌝ }
 {
     if is_passing(book, index, j) {
         got(item, state)
@@ -102,7 +102,7 @@ pub fn with_cell(
 }
 
 // The numbers of what a token adds; of nothing, none are asked for.
-fn item_numbers(item: Item) -> Numbers
+fn item_numbers(item: Item) -> CellNumbers
     requires { ⌜ ItemFits item ⌝ }
     ensures { λ r. ⌜ ((i : steps.Item) → itemOf item ≡ some i → listed r ≡ numbersOf (run.itemCell i)) ⌝ }
 {
@@ -160,7 +160,7 @@ pub fn value(
     items: u32,
     state: State,
 ) -> CellOutcome
-    ensures { λ r. ⌜ MakesCell text store state r (valueCell (bookAt book index) (now (text .entry)) j items) ⌝ }
+    ensures { λ r. ⌜ MakesCell text store state r (valueCell (bookAt book index) (atEntry text) j items) ⌝ }
 {
     if is_passing(book, index, j) {
         got(items, state)

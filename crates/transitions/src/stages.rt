@@ -1,4 +1,10 @@
 // How far a path through a variant is, and what it does next.
+//
+//     Progress ── take_step, next_of ──> Stage    where it came to, and what it does next (Doing)
+//     Progress ── first_side ──────────> Reached  the same where the steps left come next
+//
+// Doing is what a path does before the steps that are left: nothing, a child, perhaps a child, or a list's elements.
+// Next is what follows each parse of the child that it calls: those steps, or the list.
 ghost use mathlib.Core.Path.{_≡_};
 ghost use Rattle.transitions.specs.Steps.{endedBy, reachedWith, thenSteps};
 use crate::items::CellOutcome;

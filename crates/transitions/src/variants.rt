@@ -2,6 +2,7 @@
 ghost use mathlib.Core.Path.{_≡_};
 ghost use Prim.Native.Nat.{_≤_};
 ghost use lib.ListN.{length};
+ghost use Rattle.characters.specs.Slices.{atEntry, atExit};
 ghost use Rattle.characters.specs.Skipping.{skipFrom};
 ghost use Rattle.book.specs.Index.{bookAt};
 ghost use Rattle.semantics.specs.Numbers.{mostNesting};
@@ -31,7 +32,7 @@ pub fn begin_variant(
     state: State,
 ) -> Reached
     requires { ⌜ Ready book index text rows row ⌝ }
-    ensures { λ r. ⌜ Begins (bookAt book index) (now (text .entry)) (now (store .entry)) (now (store .exit))
+    ensures { λ r. ⌜ Begins (bookAt book index) (atEntry text) (atEntry store) (atExit store)
         (tableAt rows) (tableAfter rows) row j state r ⌝ }
 {
     let start = calls::start_of(rows, row);
@@ -68,7 +69,7 @@ pub fn after_variant(
 // The child of the path's call begins where skipping leads.
 pub fn begin_child(text: &[u8], rows: &mut [u32], here: Progress) -> u32
     requires { ⌜ (here .call ≤ mostNesting) × (rowsSize ≤ length (now rows)) × Short text ⌝ }
-    ensures { λ r. ⌜ (r ≡ skipFrom (now (text .entry)) (here .place)) × Changes rows (here .call) (withChild r) ⌝ }
+    ensures { λ r. ⌜ (r ≡ skipFrom (atEntry text) (here .place)) × Changes rows (here .call) (withChild r) ⌝ }
 {
     let at = skipped(text, here.place);
     calls::put_child(rows, here.call, at);

@@ -29,7 +29,7 @@ use Rattle.semantics.specs.Theorem.Failures.{enter-fails}
 use Rattle.semantics.specs.Theorem.Limits.{run-limits}
 use Rattle.semantics.specs.Theorem.Made.{treeFor}
 use Rattle.semantics.specs.Theorem.LinkSteps.{run-ok}
-use Rattle.semantics.specs.Exact.{StandsFor, Reaches, Exact, FoundIsExactlyDerivable}
+use Rattle.semantics.specs.Exact.{StandsFor, ReachesEnd, Exact, FoundIsExactlyDerivable}
 use Rattle.semantics.specs.Theorem.Outcomes.{Says, says-value, says-no-parse, says-none-whole, says-differ}
 use Rattle.semantics.specs.Theorem.Listing.{treeNow, parseFor, stands-for, entry-there, entry-only, entry-once, listed, unlisted, value-once}
 
@@ -98,10 +98,10 @@ module _ (bytes : List ℕ) (book : Book) (accepted : checkBook bytes ≡ Outcom
   derives p m = found _ .0 (Memᴰ·map (treeNow text r) m)
 
   -- the value of a parse that reaches the end is among the whole values
-  reached : (p : Parse Tree) → Reaches book text start p → (s : Source p) × (s .parse .value ∈ wholeValues text (r .set))
+  reached : (p : Parse Tree) → ReachesEnd book text start p → (s : Source p) × (s .parse .value ∈ wholeValues text (r .set))
   reached p d = let s = source p (d .derived) in (s, in-whole text (s .member) (ap (whole text) (s .is) ∙ d .ends))
 
-  reaches : {v : ℕ} → v ∈ wholeValues text (r .set) → (p : Parse ℕ) × (p ∈ r .set) × Reaches book text start (treeNow text r p) × (v ≡ p .value)
+  reaches : {v : ℕ} → v ∈ wholeValues text (r .set) → (p : Parse ℕ) × (p ∈ r .set) × ReachesEnd book text start (treeNow text r p) × (v ≡ p .value)
   reaches m = let w = whole-in text (r .set) m in (w .0, w .1, record { derived = derives (w .0) (w .1); ends = w .2 }, w .3)
 
   -- ---- With lists filled
@@ -110,7 +110,7 @@ module _ (bytes : List ℕ) (book : Book) (accepted : checkBook bytes ≡ Outcom
     exit = filled lentCells lentParses a r
 
     exact-filled : Says book text start (a .refusal) →
-        (a .refusal ≡ 0 → (p : Parse Tree) → Reaches book text start p → StandsFor text (exit .cells) (a .value) (p .value)) → Exact book text start exit
+        (a .refusal ≡ 0 → (p : Parse Tree) → ReachesEnd book text start p → StandsFor text (exit .cells) (a .value) (p .value)) → Exact book text start exit
     exact-filled says cell = record {
       derivable = λ p. (
         λ d. let l = listed text r h lentCells lentParses a p (found p .1 d) in (l .0, omega (arith, l .1, number), l .2),
@@ -155,7 +155,7 @@ module _ (bytes : List ℕ) (book : Book) (accepted : checkBook bytes ≡ Outcom
 
       -- all agree
       module _ (same : allAre v vs ≡ true) where
-        value-is : (p : Parse Tree) → Reaches book text start p → treeFor text (r .state .cells) v ≡ p .value
+        value-is : (p : Parse Tree) → ReachesEnd book text start p → treeFor text (r .state .cells) v ≡ p .value
         value-is p d =
             let q = reached p d in
             ap (treeFor text (r .state .cells)) (all-same (subst (λ l. q .0 .parse .value ∈ l) values (q .1))) ∙ ap (λ (z : Parse Tree). z .value) (q .0 .is)

@@ -17,7 +17,7 @@ use Rattle.semantics.specs.Theorem.Forward.{Kept}
 use Rattle.semantics.specs.Theorem.Numbers.{cell-back, ParseAt, parse-back}
 use Rattle.semantics.specs.Theorem.Standing.{stands-once, Listed, table-stands}
 use Rattle.semantics.specs.Theorem.Made.{treeFor}
-use Rattle.semantics.specs.Exact.{StandsFor, Entry}
+use Rattle.semantics.specs.Exact.{StandsFor, ListEntry}
 
 -- a member stands at some place
 pub place-of : {A : Type 0} (l : List A) (d : A) {a : A} → a ∈ l → (i : ℕ) × (i < length l) × (getD l i d ≡ a)
@@ -54,7 +54,7 @@ module _ (text : List ℕ) (r : Parsed) (h : Kept text r) (lentCells lentParses 
     numbers : ParseAt (written 256 (parseNumbers (r .set)) lentParses) i (parseFor r i)
     numbers = parse-back (r .set) lentParses _ (h .size) i there
 
-    pub entry-there : Entry text at-exit i (treeNow text r (parseFor r i))
+    pub entry-there : ListEntry text at-exit i (treeNow text r (parseFor r i))
     entry-there = record {
       rest = numbers .rest;
       level = numbers .level;
@@ -62,7 +62,7 @@ module _ (text : List ℕ) (r : Parsed) (h : Kept text r) (lentCells lentParses 
       value = subst (λ n. StandsFor text (at-exit .cells) n (treeFor text (r .state .cells) (parseFor r i .value))) (sym (numbers .value)) (stands-for (parseFor r i .value) entry-item);
     }
 
-    pub entry-only : (p : Parse Tree) → Entry text at-exit i p → p ≡ treeNow text r (parseFor r i)
+    pub entry-only : (p : Parse Tree) → ListEntry text at-exit i p → p ≡ treeNow text r (parseFor r i)
     entry-only p k =
         let e = entry-there in
         parse-fields p (treeNow text r (parseFor r i)) (sym (k .rest) ∙ e .rest) (sym (k .level) ∙ e .level) (associativity-once _ _ (sym (k .associativity) ∙ e .associativity))
@@ -83,17 +83,17 @@ module _ (text : List ℕ) (r : Parsed) (h : Kept text r) (lentCells lentParses 
       let b = h .values q n in
       same-cell text (r .state .cells) (h .table) (p .value) (q .value) (a .placed) (b .placed) (item-means (p .value) a ∙ ap one e ∙ sym (item-means (q .value) b))
 
-  pub entry-once : (p : Parse Tree) (i k : ℕ) → i < length (r .set) → k < length (r .set) → Entry text at-exit i p → Entry text at-exit k p → i ≡ k
+  pub entry-once : (p : Parse Tree) (i k : ℕ) → i < length (r .set) → k < length (r .set) → ListEntry text at-exit i p → ListEntry text at-exit k p → i ≡ k
   entry-once p i k a b x y =
       distinct-places (h .distinct) _ i k a b
       (entries-once (parseFor r i) (parseFor r k) (getD-in (r .set) i _ a) (getD-in (r .set) k _ b) (sym (entry-only i a p x) ∙ entry-only k b p y))
 
   -- a tree of the set stands in an entry, and an entry's in the set
-  pub listed : (p : Parse Tree) → p ∈ map (treeNow text r) (r .set) → (i : ℕ) × (i < length (r .set)) × Entry text at-exit i p
+  pub listed : (p : Parse Tree) → p ∈ map (treeNow text r) (r .set) → (i : ℕ) × (i < length (r .set)) × ListEntry text at-exit i p
   listed p m =
       let q = Memᴰ·of-map (treeNow text r) (r .set) m in
       let at = place-of (r .set) (record { rest = 0; level = 0; associativity = Associativity.Left; value = 0 }) (q .1) in
-      (at .0, at .1, subst (λ z. Entry text at-exit (at .0) z) (ap (treeNow text r) (at .2) ∙ q .2) (entry-there (at .0) (at .1)))
+      (at .0, at .1, subst (λ z. ListEntry text at-exit (at .0) z) (ap (treeNow text r) (at .2) ∙ q .2) (entry-there (at .0) (at .1)))
 
-  pub unlisted : (p : Parse Tree) (i : ℕ) → i < length (r .set) → Entry text at-exit i p → p ∈ map (treeNow text r) (r .set)
+  pub unlisted : (p : Parse Tree) (i : ℕ) → i < length (r .set) → ListEntry text at-exit i p → p ∈ map (treeNow text r) (r .set)
   unlisted p i there k = Memᴰ·cast (entry-only i there p k) (Memᴰ·map (treeNow text r) (getD-in (r .set) i _ there))
