@@ -29,42 +29,54 @@ module _ (book : List ℕ) (at place : ℕ) where
   -- i of them have been read
   abbrev pub Begun : ℕ → ℕ → ℕ → Type 0
   Begun size i from =
-      (from ≡ place + i) × (after (λ b. 1) (λ k. checked (shaped k) 5 at) book (partOf book place i) (bytesFrom (size - i) i from) ≡ bytesFrom size 0 place)
+      (from ≡ place + i) ×
+      (after (λ b. 1) (λ k. checked (shaped k) 5 at) book (partOf book place i) (bytesFrom (size - i) i from)
+      ≡ bytesFrom size 0 place)
 
   byte-inside : (i from : ℕ) {v q : ℕ} → checked (shaped i) 5 at book from ≡ accepted v q → from < length book
   byte-inside i from e =
       by-test (ltb from (length book)) (λ t. ltb-true _ _ t)
-      (λ t. let s = checked-short (shaped i) 5 at book from (ltb-false from (length book) t) in let z : _≡_ {A = ℕ} 0 1 = cc in absurd (omega arith))
+      (λ t.
+      let s = checked-short (shaped i) 5 at book from (ltb-false from (length book) t) in
+      let z : _≡_ {A = ℕ} 0 1 = cc in absurd (omega arith))
 
   -- a part with one byte more
-  part-snoc : (i : ℕ) → place + i < length book → partOf book place (i + 1) ≡ partOf book place i ++ (getD book (place + i) 0 ∷ [])
+  part-snoc : (i : ℕ) → place + i < length book →
+      partOf book place (i + 1) ≡ partOf book place i ++ (getD book (place + i) 0 ∷ [])
   part-snoc i h =
       let l = length-drop place book in
       rw add-one (take-suc (drop place book) i 0 (omega arith) ∙ rw (getD-drop place book i 0))
 
-  pub begun-on : (size i from : ℕ) {next : ℕ} → i < size → Begun size i from → checked (shaped i) 5 at book from ≡ accepted (getD book from 0) next → Begun size (i + 1) next
+  pub begun-on : (size i from : ℕ) {next : ℕ} → i < size → Begun size i from →
+      checked (shaped i) 5 at book from ≡ accepted (getD book from 0) next → Begun size (i + 1) next
   begun-on size i from {next} h b e =
       let told = checked-told (shaped i) 5 at book from (getD book from 0) next e in
       let from-is = b .0 in
-      let snoc : partOf book place (i + 1) ≡ partOf book place i ++ (getD book from 0 ∷ []) = rw from-is (part-snoc i (omega (arith, byte-inside i from e))) in (
+      let snoc : partOf book place (i + 1) ≡ partOf book place i ++ (getD book from 0 ∷ []) =
+      rw from-is (part-snoc i (omega (arith, byte-inside i from e))) in (
         omega (arith, told .next),
-        rw snoc (sym (row-on (λ b. 1) (λ k. checked (shaped k) 5 at) book (partOf book place i) size i i from h e) ∙ b .1),
+        rw snoc
+            (sym (row-on (λ b. 1) (λ k. checked (shaped k) 5 at) book (partOf book place i) size i i from h e) ∙ b .1),
       )
 
   pub begun-first : (size : ℕ) → Begun size 0 place
   begun-first size = (omega arith, row-begins (λ b. 1) (λ k. checked (shaped k) 5 at) book size 0 place)
 
-  pub begun-stop : (size i from : ℕ) {n p : ℕ} → i < size → Begun size i from → checked (shaped i) 5 at book from ≡ refused n p → bytesFrom size 0 place ≡ refused n p
-  begun-stop size i from h b e = sym (b .1) ∙ row-refused (λ b. 1) (λ k. checked (shaped k) 5 at) book (partOf book place i) size i i from h e
+  pub begun-stop : (size i from : ℕ) {n p : ℕ} → i < size → Begun size i from →
+      checked (shaped i) 5 at book from ≡ refused n p → bytesFrom size 0 place ≡ refused n p
+  begun-stop size i from h b e =
+      sym (b .1) ∙ row-refused (λ b. 1) (λ k. checked (shaped k) 5 at) book (partOf book place i) size i i from h e
 
-  pub begun-last : (size i from : ℕ) → i ≤ size → size ≤ i → Begun size i from → bytesFrom size 0 place ≡ accepted (partOf book place size) from
+  pub begun-last : (size i from : ℕ) → i ≤ size → size ≤ i → Begun size i from →
+      bytesFrom size 0 place ≡ accepted (partOf book place size) from
   begun-last size i from h k b =
       let all : i ≡ size = omega arith in
       sym (b .1) ∙ row-ends (λ b. 1) (λ k. checked (shaped k) 5 at) book (partOf book place i) size i i from k ∙ rw all
 
 -- ---- Spellings
 module _ (book : List ℕ) (place : ℕ) where
-  pub spelling-stop : {n p : ℕ} → checked (between 1 15) 5 place book place ≡ refused n p → spelling book place ≡ refused n p
+  pub spelling-stop : {n p : ℕ} → checked (between 1 15) 5 place book place ≡ refused n p →
+      spelling book place ≡ refused n p
   unfolding spelling
   spelling-stop e = rw e
 
@@ -78,16 +90,23 @@ module _ (book : List ℕ) (place : ℕ) where
 
 -- ---- Entries
 module _ (book : List ℕ) (place greatest : ℕ) where
-  pub entry-stop : {n p : ℕ} → Byte (between 0 greatest) book place (refused n p) → (first : ℕ) → entry greatest book place ≡ refused n p
+  pub entry-stop : {n p : ℕ} → Byte (between 0 greatest) book place (refused n p) → (first : ℕ) →
+      entry greatest book place ≡ refused n p
   unfolding entry
   entry-stop e first = rw e
 
   pub entry-read : (label next : ℕ) (part : Part) → Byte (between 0 greatest) book place (accepted label next) →
-      spelling book next ≡ readingOf part (λ v. partOf book (next + 1) (getD book next 0)) → Valued part 0 → One (Sort.Entry greatest) book place part
+      spelling book next ≡ readingOf part (λ v. partOf book (next + 1) (getD book next 0)) → Valued part 0 →
+      One (Sort.Entry greatest) book place part
   unfolding entry
-  entry-read label next (Part.Refused n p) l e h = one-refused (Sort.Entry greatest) book place (Part.Refused n p) refl (λ first. rw l (rw e))
+  entry-read label next (Part.Refused n p) l e h =
+      one-refused (Sort.Entry greatest) book place (Part.Refused n p) refl (λ first. rw l (rw e))
   entry-read label next (Part.Read v last) l e h =
       let told = checked-told (between 0 greatest) 6 place book place label next l in
       let second : next ≡ place + 1 = told .next in
       let third : next + 1 ≡ place + 2 = omega arith in
-      record { reads = λ first. rw l (rw e (rw (third, told .value, second))); valued = λ first. h; small = omega arith }
+      record {
+        reads = λ first. rw l (rw e (rw (third, told .value, second)));
+        valued = λ first. h;
+        small = omega arith;
+      }

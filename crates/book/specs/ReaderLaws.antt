@@ -37,7 +37,8 @@ between-high low high b e = by-test (leb b high) (λ t. leb-true b high t) (λ t
 
 -- ---- A byte
 module _ (fits : ℕ → Bool) (number at : ℕ) (book : List ℕ) (place : ℕ) where
-  pub checked-bad : place < length book → fits (getD book place 0) ≡ false → checked fits number at book place ≡ refused number at
+  pub checked-bad : place < length book → fits (getD book place 0) ≡ false →
+      checked fits number at book place ≡ refused number at
   unfolding checked
   checked-bad h e = rw (lt-ltb place (length book) h, e)
 
@@ -45,7 +46,8 @@ module _ (fits : ℕ → Bool) (number at : ℕ) (book : List ℕ) (place : ℕ)
   unfolding checked
   checked-short h = rw (le-ltb place (length book) h)
 
-  pub checked-good : place < length book → fits (getD book place 0) ≡ true → checked fits number at book place ≡ accepted (getD book place 0) (place + 1)
+  pub checked-good : place < length book → fits (getD book place 0) ≡ true →
+      checked fits number at book place ≡ accepted (getD book place 0) (place + 1)
   unfolding checked
   checked-good h e = rw (lt-ltb place (length book) h, e)
 
@@ -65,18 +67,25 @@ module _ (fits : ℕ → Bool) (number at : ℕ) (book : List ℕ) (place : ℕ)
       let next : q ≡ place + 1 = cc in
       record { value = value; next = next; fitted = ap fits value ∙ good })
       (λ bad. let b = checked-bad h bad in let z : _≡_ {A = ℕ} 0 1 = cc in absurd (omega arith)))
-      (λ t. let s = checked-short (ltb-false place (length book) t) in let z : _≡_ {A = ℕ} 0 1 = cc in absurd (omega arith))
+      (λ t.
+      let s = checked-short (ltb-false place (length book) t) in let z : _≡_ {A = ℕ} 0 1 = cc in absurd (omega arith))
 
 -- a byte that the code has read, against a range
-module _ (low high number at : ℕ) (book : List ℕ) (place value : ℕ) (h : place < length book) (value-is : value ≡ getD book place 0) where
+module _ (low high number at : ℕ) (book : List ℕ) (place value : ℕ) (h : place < length book)
+    (value-is : value ≡ getD book place 0) where
   pub field-low : value < low → checked (between low high) number at book place ≡ refused number at
-  field-low l = checked-bad (between low high) number at book place h (between-under low high (getD book place 0) (omega arith))
+  field-low l =
+      checked-bad (between low high) number at book place h (between-under low high (getD book place 0) (omega arith))
 
   pub field-high : high < value → checked (between low high) number at book place ≡ refused number at
-  field-high l = checked-bad (between low high) number at book place h (between-over low high (getD book place 0) (omega arith))
+  field-high l =
+      checked-bad (between low high) number at book place h (between-over low high (getD book place 0) (omega arith))
 
-  pub field-read : low ≤ value → value ≤ high → checked (between low high) number at book place ≡ accepted value (place + 1)
-  field-read l k = checked-good (between low high) number at book place h (between-inside low high (getD book place 0) (omega arith) (omega arith)) ∙ rw value-is
+  pub field-read : low ≤ value → value ≤ high →
+      checked (between low high) number at book place ≡ accepted value (place + 1)
+  field-read l k =
+      checked-good (between low high) number at book place h
+      (between-inside low high (getD book place 0) (omega arith) (omega arith)) ∙ rw value-is
 
 -- ---- What follows a part
 module _ {A : Type 0} (c : Checked A) (part : Part) (f : ℕ → A) (e : c ≡ readingOf part f) where
@@ -87,11 +96,13 @@ module _ {A : Type 0} (c : Checked A) (part : Part) (f : ℕ → A) (e : c ≡ r
   stopped told = e ∙ ap (λ (p : Part). readingOf p f) told
 
   -- a refusal is handed on
-  pub stop : {B : Type 0} (K : A → ℕ → Checked B) (g : ℕ → B) {n p : ℕ} → part ≡ Part.Refused n p → andThen c K ≡ readingOf part g
+  pub stop : {B : Type 0} (K : A → ℕ → Checked B) (g : ℕ → B) {n p : ℕ} → part ≡ Part.Refused n p →
+      andThen c K ≡ readingOf part g
   stop K g told = rw (stopped told, told)
 
 -- a refusal as a part says it
-pub handed : {A : Type 0} {c : Checked A} {part : Part} (g : ℕ → A) {n p : ℕ} → c ≡ refused n p → part ≡ Part.Refused n p → c ≡ readingOf part g
+pub handed : {A : Type 0} {c : Checked A} {part : Part} (g : ℕ → A) {n p : ℕ} → c ≡ refused n p →
+    part ≡ Part.Refused n p → c ≡ readingOf part g
 handed g e told = e ∙ sym (ap (λ (x : Part). readingOf x g) told)
 
 -- a part that was refused has no value
@@ -116,7 +127,8 @@ module _ {A : Type 0} (size : A → ℕ) (one : ℕ → Reader A) (book : List �
   after-nothing (refused number place) = refl
   after-nothing (accepted xs next) = refl
 
-  after-one : (before : List A) (x : A) (c : Checked (List A)) → after before (andThen c (λ xs next. accepted (x ∷ xs) next)) ≡ after (before ++ (x ∷ [])) c
+  after-one : (before : List A) (x : A) (c : Checked (List A)) →
+      after before (andThen c (λ xs next. accepted (x ∷ xs) next)) ≡ after (before ++ (x ∷ [])) c
   after-one before x (refused number place) = refl
   after-one before x (accepted xs next) = ap (λ (l : List A). accepted l next) (sym (append-assoc before (x ∷ []) xs))
 
@@ -124,12 +136,14 @@ module _ {A : Type 0} (size : A → ℕ) (one : ℕ → Reader A) (book : List �
   row-begins n sum place = rw sub-zero (after-nothing (row size one n sum book place))
 
   module _ (before : List A) (n i sum place : ℕ) where
-    pub row-refused : i < n → {number at : ℕ} → one sum book place ≡ refused number at → after before (row size one (n - i) sum book place) ≡ refused number at
+    pub row-refused : i < n → {number at : ℕ} → one sum book place ≡ refused number at →
+        after before (row size one (n - i) sum book place) ≡ refused number at
     unfolding row
     row-refused h e = let left : n - i ≡ suc (n - (i + 1)) = omega arith in rw left (rw e)
 
     pub row-on : i < n → {x : A} {next : ℕ} → one sum book place ≡ accepted x next →
-        after before (row size one (n - i) sum book place) ≡ after (before ++ (x ∷ [])) (row size one (n - (i + 1)) (sum + size x) book next)
+        after before (row size one (n - i) sum book place)
+        ≡ after (before ++ (x ∷ [])) (row size one (n - (i + 1)) (sum + size x) book next)
     unfolding row
     row-on h {x} {next} e =
         let left : n - i ≡ suc (n - (i + 1)) = omega arith in
@@ -137,8 +151,11 @@ module _ {A : Type 0} (size : A → ℕ) (one : ℕ → Reader A) (book : List �
 
     pub row-ends : n ≤ i → after before (row size one (n - i) sum book place) ≡ accepted before place
     unfolding row
-    row-ends h = let none-left : n - i ≡ 0 = omega arith in rw none-left (ap (λ (l : List A). accepted l place) (append-nil before))
+    row-ends h =
+        let none-left : n - i ≡ 0 = omega arith in
+        rw none-left (ap (λ (l : List A). accepted l place) (append-nil before))
 
-pub total-snoc : {A : Type 0} (size : A → ℕ) (xs : List A) (x : A) → total size (xs ++ (x ∷ [])) ≡ total size xs + size x
+pub total-snoc : {A : Type 0} (size : A → ℕ) (xs : List A) (x : A) →
+    total size (xs ++ (x ∷ [])) ≡ total size xs + size x
 total-snoc size [] x = omega arith
 total-snoc size (y ∷ xs) x = let h = total-snoc size xs x in omega arith

@@ -20,7 +20,8 @@ use lib.Seq.{drop-cons, getD-at}
 use borrow.Author.Tests.{ltb-true, ltb-false}
 use Rattle.characters.specs.Cases.{by-test}
 use Rattle.characters.specs.Spelling.{same}
-use Rattle.book.specs.Book.{Entry, markNumber, associativityNumber, nthEntry, nthNonterminal, nthVariant, nthStep, reservedAs, isReserved, lookupFrom, lookupName}
+use Rattle.book.specs.Book.{Entry, markNumber, associativityNumber, nthEntry, nthNonterminal, nthVariant, nthStep}
+use Rattle.book.specs.Book.{reservedAs, isReserved, lookupFrom, lookupName}
 use Rattle.book.specs.Check.{markOf, associativityOf, stepOf}
 use Rattle.book.specs.Index.{upTo, countIn, placeIn, firstIn, entryFrom, nonterminalFrom, entriesIn, bookIn}
 use Rattle.book.specs.RowLaws.{upTo-more}
@@ -37,7 +38,8 @@ mark-of-number Mark.Plain = refl
 mark-of-number Mark.Variable = refl
 mark-of-number Mark.Identifier = refl
 
-pub associativity-of-number : (associativity : Associativity) → associativityOf (associativityNumber associativity) ≡ associativity
+pub associativity-of-number : (associativity : Associativity) →
+    associativityOf (associativityNumber associativity) ≡ associativity
 associativity-of-number Associativity.Left = refl
 associativity-of-number Associativity.Right = refl
 associativity-of-number Associativity.None = refl
@@ -67,61 +69,85 @@ module _ {A : Type 0} (f : ℕ → A) where
 -- ---- Records
 module _ (book index : List ℕ) where
   module _ (i : ℕ) where
-    pub nonterminal-in : (count at byte first number : ℕ) (mark : Mark) → count ≡ countIn index 258 → i < count → at ≡ placeIn index 258 i →
+    pub nonterminal-in : (count at byte first number : ℕ) (mark : Mark) → count ≡ countIn index 258 → i < count →
+        at ≡ placeIn index 258 i →
         byte ≡ getD book (at + 0) 0 → mark ≡ markOf byte → first ≡ firstIn index 258 i → number ≡ getD book (at + 1) 0 →
-        _≡_ {A = Nonterminal} (record { mark = mark; first = first; count = number }) (nthNonterminal (bookIn book index) i)
+        _≡_ {A = Nonterminal} (record { mark = mark; first = first; count = number })
+        (nthNonterminal (bookIn book index) i)
     unfolding bookIn
     nonterminal-in count at byte first number mark c-is h at-is b-is m-is f-is n-is =
         rw (m-is, b-is, f-is, n-is, at-is, add-zero) (sym (upTo-in _ (countIn index 258) i _ (omega arith)))
 
     pub nonterminal-out : (count : ℕ) → count ≡ countIn index 258 → count ≤ i →
-        _≡_ {A = Nonterminal} (record { mark = Mark.Plain; first = 0; count = 0 }) (nthNonterminal (bookIn book index) i)
+        _≡_ {A = Nonterminal} (record { mark = Mark.Plain; first = 0; count = 0 })
+        (nthNonterminal (bookIn book index) i)
     unfolding bookIn
     nonterminal-out count c-is h = sym (upTo-out _ (countIn index 258) i _ (omega arith))
 
   module _ (j : ℕ) where
-    pub variant-in : (count at flags level byte first number : ℕ) (associativity : Associativity) → count ≡ countIn index 323 → j < count → at ≡ placeIn index 323 j →
-        flags ≡ getD book (at + 2) 0 → level ≡ getD book (at + 0) 0 → byte ≡ getD book (at + 1) 0 → associativity ≡ associativityOf byte →
+    pub variant-in : (count at flags level byte first number : ℕ) (associativity : Associativity) →
+        count ≡ countIn index 323 → j < count → at ≡ placeIn index 323 j → flags ≡ getD book (at + 2) 0 →
+        level ≡ getD book (at + 0) 0 → byte ≡ getD book (at + 1) 0 → associativity ≡ associativityOf byte →
         first ≡ firstIn index 323 j → number ≡ getD book (at + 3) 0 →
-        _≡_ {A = Variant} (record { level = level; associativity = associativity; committed = eqb (flags % 2) 1; passing = leb 2 flags; first = first; count = number })
-        (nthVariant (bookIn book index) j)
+        _≡_ {A = Variant} (record {
+          level = level;
+          associativity = associativity;
+          committed = eqb (flags % 2) 1;
+          passing = leb 2 flags;
+          first = first;
+          count = number;
+        }) (nthVariant (bookIn book index) j)
     unfolding bookIn
     variant-in count at flags level byte first number associativity c-is h at-is f-is l-is b-is a-is first-is n-is =
-        rw (l-is, a-is, b-is, f-is, first-is, n-is, at-is, add-zero) (sym (upTo-in _ (countIn index 323) j _ (omega arith)))
+        rw (l-is, a-is, b-is, f-is, first-is, n-is, at-is, add-zero)
+        (sym (upTo-in _ (countIn index 323) j _ (omega arith)))
 
     pub variant-out : (count : ℕ) → count ≡ countIn index 323 → count ≤ j →
-        _≡_ {A = Variant} (record { level = 0; associativity = Associativity.Left; committed = false; passing = false; first = 0; count = 0 })
-        (nthVariant (bookIn book index) j)
+        _≡_ {A = Variant} (record {
+          level = 0;
+          associativity = Associativity.Left;
+          committed = false;
+          passing = false;
+          first = 0;
+          count = 0;
+        }) (nthVariant (bookIn book index) j)
     unfolding bookIn
     variant-out count c-is h = sym (upTo-out _ (countIn index 323) j _ (omega arith))
 
   module _ (k : ℕ) where
-    pub step-in : (count at kind a b c : ℕ) (step : Step) → count ≡ countIn index 580 → k < count → at ≡ placeIn index 580 k →
-        kind ≡ getD book (at + 0) 0 → a ≡ getD book (at + 1) 0 → b ≡ getD book (at + 2) 0 → c ≡ getD book (at + 3) 0 → step ≡ stepOf kind a b c →
-        step ≡ nthStep (bookIn book index .steps) k
+    pub step-in : (count at kind a b c : ℕ) (step : Step) → count ≡ countIn index 580 → k < count →
+        at ≡ placeIn index 580 k → kind ≡ getD book (at + 0) 0 → a ≡ getD book (at + 1) 0 → b ≡ getD book (at + 2) 0 →
+        c ≡ getD book (at + 3) 0 → step ≡ stepOf kind a b c → step ≡ nthStep (bookIn book index .steps) k
     unfolding bookIn
     step-in count at kind a b c step c-is h at-is k-is a-is b-is c-is′ s-is =
         rw (s-is, k-is, a-is, b-is, c-is′, at-is, add-zero) (sym (upTo-in _ (countIn index 580) k _ (omega arith)))
 
-    pub step-out : (count : ℕ) → count ≡ countIn index 580 → count ≤ k → Step.Character 0 ≡ nthStep (bookIn book index .steps) k
+    pub step-out : (count : ℕ) → count ≡ countIn index 580 → count ≤ k →
+        Step.Character 0 ≡ nthStep (bookIn book index .steps) k
     unfolding bookIn
     step-out count c-is h = sym (upTo-out _ (countIn index 580) k _ (omega arith))
 
   -- an entry of a section
   module _ (base i : ℕ) where
-    pub entry-in : (count at : ℕ) → count ≡ countIn index base → i < count → at ≡ placeIn index base i → nthEntry (entriesIn book index base) i ≡ entryFrom book at
-    entry-in count at c-is h at-is = rw at-is (upTo-in (λ i. entryFrom book (placeIn index base i)) (countIn index base) i _ (omega arith))
+    pub entry-in : (count at : ℕ) → count ≡ countIn index base → i < count → at ≡ placeIn index base i →
+        nthEntry (entriesIn book index base) i ≡ entryFrom book at
+    entry-in count at c-is h at-is =
+        rw at-is (upTo-in (λ i. entryFrom book (placeIn index base i)) (countIn index base) i _ (omega arith))
 
-    pub entry-out : (count : ℕ) → count ≡ countIn index base → count ≤ i → nthEntry (entriesIn book index base) i ≡ record { label = 0; spelling = [] }
-    entry-out count c-is h = upTo-out (λ i. entryFrom book (placeIn index base i)) (countIn index base) i _ (omega arith)
+    pub entry-out : (count : ℕ) → count ≡ countIn index base → count ≤ i →
+        nthEntry (entriesIn book index base) i ≡ record { label = 0; spelling = [] }
+    entry-out count c-is h =
+        upTo-out (λ i. entryFrom book (placeIn index base i)) (countIn index base) i _ (omega arith)
 
 -- ---- Reserved words
 module _ (wanted : List ℕ) (words : List Entry) (i : ℕ) where
-  pub reserved-on : i < length words → reservedAs wanted (nthEntry words i) ≡ false → isReserved (drop i words) wanted ≡ isReserved (drop (i + 1) words) wanted
+  pub reserved-on : i < length words → reservedAs wanted (nthEntry words i) ≡ false →
+      isReserved (drop i words) wanted ≡ isReserved (drop (i + 1) words) wanted
   unfolding isReserved
   reserved-on h e = rw (drop-cons words i (record { label = 0; spelling = [] }) h, e, add-one)
 
-  pub reserved-hit : i < length words → reservedAs wanted (nthEntry words i) ≡ true → isReserved (drop i words) wanted ≡ true
+  pub reserved-hit : i < length words → reservedAs wanted (nthEntry words i) ≡ true →
+      isReserved (drop i words) wanted ≡ true
   unfolding isReserved
   reserved-hit h e = rw (drop-cons words i (record { label = 0; spelling = [] }) h, e)
 
@@ -135,11 +161,13 @@ words-length book index = upTo-length (λ i. entryFrom book (placeIn index 0 i))
 
 pub nonterminals-length : (book index : List ℕ) → length (bookIn book index .nonterminals) ≡ countIn index 258
 unfolding bookIn
-nonterminals-length book index = upTo-length (λ i. nonterminalFrom book (placeIn index 258 i) (firstIn index 258 i)) (countIn index 258)
+nonterminals-length book index =
+    upTo-length (λ i. nonterminalFrom book (placeIn index 258 i) (firstIn index 258 i)) (countIn index 258)
 
 -- ---- Names
 lookup-snoc : (found : Found) (i : ℕ) (names : List Entry) (n : Entry) (wanted : List ℕ) →
-    lookupFrom found i (names ++ (n ∷ [])) wanted ≡ cond (same wanted (n .spelling)) (Found.Name (i + length names) (n .label)) (lookupFrom found i names wanted)
+    lookupFrom found i (names ++ (n ∷ [])) wanted
+    ≡ cond (same wanted (n .spelling)) (Found.Name (i + length names) (n .label)) (lookupFrom found i names wanted)
 unfolding lookupFrom
 lookup-snoc found i [] n wanted = rw add-zero
 lookup-snoc found i (m ∷ names) n wanted =
@@ -168,16 +196,19 @@ module _ (book index wanted : List ℕ) where
     unfolding bookIn
     last-name = upTo-in nameFrom (countIn index 129) (i - 1) _ (omega arith)
 
-    one-less : lookupBelow i ≡ cond (same wanted (nameFrom (i - 1) .spelling)) (Found.Name (i - 1) (nameFrom (i - 1) .label)) (lookupBelow (i - 1))
+    one-less : lookupBelow i ≡ cond (same wanted (nameFrom (i - 1) .spelling))
+        (Found.Name (i - 1) (nameFrom (i - 1) .label)) (lookupBelow (i - 1))
     one-less =
         let e : i ≡ (i - 1) + 1 = omega arith in
         let l = upTo-length nameFrom (i - 1) in
         let z : 0 + length (upTo (i - 1) nameFrom) ≡ i - 1 = omega arith in
-        ap lookupBelow e ∙ ap (λ (ns : List Entry). lookupName ns wanted) (upTo-more (i - 1) nameFrom) ∙ lookup-snoc Found.Nothing 0 (upTo (i - 1) nameFrom) (nameFrom (i - 1)) wanted ∙ rw z
+        ap lookupBelow e ∙ ap (λ (ns : List Entry). lookupName ns wanted) (upTo-more (i - 1) nameFrom)
+        ∙ lookup-snoc Found.Nothing 0 (upTo (i - 1) nameFrom) (nameFrom (i - 1)) wanted ∙ rw z
 
-    pub lookup-hit : (kind : ℕ) → same wanted (nthEntry (bookIn book index .names) (i - 1) .spelling) ≡ true → kind ≡ nthEntry (bookIn book index .names) (i - 1) .label →
-        lookupBelow i ≡ Found.Name (i - 1) kind
+    pub lookup-hit : (kind : ℕ) → same wanted (nthEntry (bookIn book index .names) (i - 1) .spelling) ≡ true →
+        kind ≡ nthEntry (bookIn book index .names) (i - 1) .label → lookupBelow i ≡ Found.Name (i - 1) kind
     lookup-hit kind e k = one-less ∙ rw (rw last-name at e, k, last-name)
 
-    pub lookup-on : same wanted (nthEntry (bookIn book index .names) (i - 1) .spelling) ≡ false → lookupBelow i ≡ lookupBelow (i - 1)
+    pub lookup-on : same wanted (nthEntry (bookIn book index .names) (i - 1) .spelling) ≡ false →
+        lookupBelow i ≡ lookupBelow (i - 1)
     lookup-on e = one-less ∙ rw (rw last-name at e)

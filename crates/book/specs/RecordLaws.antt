@@ -16,15 +16,18 @@ use borrow.Author.Tests.{le-ltb, eqb-true, eqb-false, leb-true, leb-false, ltb-t
 use Rattle.characters.specs.Cases.{by-test, clash}
 use Rattle.characters.specs.Classes.{between}
 use Rattle.book.specs.Check.{Checked, refused, accepted, checked, nonterminal, variant, step, argument, delimiter}
-use Rattle.book.specs.Index.{readingOf, One, oneOf, recordFrom, belowRange, argumentRange, delimiterRange, allowed}
-use Rattle.book.specs.ReaderLaws.{between-high, between-inside, between-under, between-over, ByteRead, checked-short, checked-bad, checked-good, checked-told, no-value, no-size}
+use Rattle.book.specs.Index.{readingOf, One, oneOf, recordFrom, belowRange, argumentRange, delimiterRange}
+use Rattle.book.specs.Index.{allowed}
+use Rattle.book.specs.ReaderLaws.{between-high, between-inside, between-under, between-over, ByteRead}
+use Rattle.book.specs.ReaderLaws.{checked-short, checked-bad, checked-good, checked-told, no-value, no-size}
 use Rattle.book.specs.declared.parts.Part.{Part}
 use Rattle.book.specs.declared.sections.Sort.{Sort}
 use Rattle.book.specs.declared.sections.Range.{Range}
 use Rattle.book.specs.declared.sections.Allowed.{Allowed}
 
 -- a record that is refused
-pub one-refused : (sort : Sort) (book : List ℕ) (at : ℕ) (part : Part) {n p : ℕ} → part ≡ Part.Refused n p → ((first : ℕ) → oneOf sort first book at ≡ refused n p) → One sort book at part
+pub one-refused : (sort : Sort) (book : List ℕ) (at : ℕ) (part : Part) {n p : ℕ} → part ≡ Part.Refused n p →
+    ((first : ℕ) → oneOf sort first book at ≡ refused n p) → One sort book at part
 one-refused sort book at part told h = record {
   reads = λ first. h first ∙ sym (ap (λ (x : Part). readingOf x (λ v. recordFrom sort book at first)) told);
   valued = λ first. no-value told _;
@@ -37,17 +40,20 @@ Byte fits book place c = checked fits 6 place book place ≡ c
 
 -- ---- Nonterminals
 module _ (book : List ℕ) (place : ℕ) where
-  pub nonterminal-stop : {n p : ℕ} → Byte (between 0 2) book place (refused n p) → (first : ℕ) → nonterminal first book place ≡ refused n p
+  pub nonterminal-stop : {n p : ℕ} → Byte (between 0 2) book place (refused n p) → (first : ℕ) →
+      nonterminal first book place ≡ refused n p
   unfolding nonterminal
   nonterminal-stop e first = rw e
 
-  pub nonterminal-read : (mark next most : ℕ) (part : Part) → Byte (between 0 2) book place (accepted mark next) → most ≡ cond (eqb mark 2) 0 16 →
+  pub nonterminal-read : (mark next most : ℕ) (part : Part) → Byte (between 0 2) book place (accepted mark next) →
+      most ≡ cond (eqb mark 2) 0 16 →
       Byte (between 0 most) book next (readingOf part (λ v. v)) → One Sort.Nonterminal book place part
   unfolding nonterminal
   nonterminal-read mark next most (Part.Refused n p) m most-is e =
       one-refused Sort.Nonterminal book place (Part.Refused n p) refl (λ first. rw m (rw (rw most-is at e)))
   nonterminal-read mark next most (Part.Read number last) m most-is e =
-      let few : most ≤ 16 = by-test (eqb mark 2) (λ t. rw (most-is, t) (omega arith)) (λ t. rw (most-is, t) (omega arith)) in
+      let few : most ≤ 16 =
+      by-test (eqb mark 2) (λ t. rw (most-is, t) (omega arith)) (λ t. rw (most-is, t) (omega arith)) in
       let mark-told = checked-told (between 0 2) 6 place book place mark next m in
       let told = checked-told (between 0 most) 6 next book next number last e in
       let next-is = mark-told .next in
@@ -60,25 +66,31 @@ module _ (book : List ℕ) (place : ℕ) where
 
 -- ---- Variants
 module _ (book : List ℕ) (place : ℕ) where
-  pub variant-stop-level : {n p : ℕ} → Byte (between 0 255) book place (refused n p) → (first : ℕ) → oneOf Sort.Variant first book place ≡ refused n p
+  pub variant-stop-level : {n p : ℕ} → Byte (between 0 255) book place (refused n p) → (first : ℕ) →
+      oneOf Sort.Variant first book place ≡ refused n p
   unfolding variant
   variant-stop-level e first = rw e
 
-  module _ (level next least : ℕ) (l : Byte (between 0 255) book place (accepted level next)) (least-is : least ≡ cond (eqb level 255) 3 0) where
-    pub variant-stop-associativity : {n p : ℕ} → Byte (between least 3) book next (refused n p) → (first : ℕ) → oneOf Sort.Variant first book place ≡ refused n p
+  module _ (level next least : ℕ) (l : Byte (between 0 255) book place (accepted level next))
+      (least-is : least ≡ cond (eqb level 255) 3 0) where
+    pub variant-stop-associativity : {n p : ℕ} → Byte (between least 3) book next (refused n p) → (first : ℕ) →
+        oneOf Sort.Variant first book place ≡ refused n p
     unfolding variant
     variant-stop-associativity e first = rw l (rw (rw least-is at e))
 
     module _ (associativity flags-at : ℕ) (a : Byte (between least 3) book next (accepted associativity flags-at)) where
-      pub variant-stop-flags : {n p : ℕ} → Byte (between 0 3) book flags-at (refused n p) → (first : ℕ) → oneOf Sort.Variant first book place ≡ refused n p
+      pub variant-stop-flags : {n p : ℕ} → Byte (between 0 3) book flags-at (refused n p) → (first : ℕ) →
+          oneOf Sort.Variant first book place ≡ refused n p
       unfolding variant
       variant-stop-flags e first = rw l (rw (rw least-is at a) (rw e))
 
-      pub variant-read : (flags number-at : ℕ) (part : Part) → Byte (between 0 3) book flags-at (accepted flags number-at) →
+      pub variant-read : (flags number-at : ℕ) (part : Part) →
+          Byte (between 0 3) book flags-at (accepted flags number-at) →
           Byte (between 0 8) book number-at (readingOf part (λ v. v)) → One Sort.Variant book place part
       unfolding variant
       variant-read flags number-at (Part.Refused n p) f e =
-          one-refused Sort.Variant book place (Part.Refused n p) refl (λ first. rw l (rw (rw least-is at a) (rw f (rw e))))
+          one-refused Sort.Variant book place (Part.Refused n p) refl
+          (λ first. rw l (rw (rw least-is at a) (rw f (rw e))))
       variant-read flags number-at (Part.Read number last) f e =
           let lt = checked-told (between 0 255) 6 place book place level next l in
           let at = checked-told (between least 3) 6 next book next associativity flags-at a in
@@ -98,7 +110,8 @@ module _ (book : List ℕ) (place : ℕ) where
 
 -- ---- Steps
 empty-range : (b : ℕ) → between 1 0 b ≡ false
-empty-range b = by-test (leb 1 b) (λ t. between-over 1 0 b (leb-true 1 b t)) (λ t. between-under 1 0 b (leb-false 1 b t))
+empty-range b =
+    by-test (leb 1 b) (λ t. between-over 1 0 b (leb-true 1 b t)) (λ t. between-under 1 0 b (leb-false 1 b t))
 
 zero-range : (b : ℕ) → between 0 0 b ≡ eqb b 0
 zero-range b =
@@ -118,7 +131,8 @@ below-fits n b =
     (λ l. between-inside 0 (n - 1) b (omega arith) (omega (arith, ltb-true b n l, some′)) ∙ sym l)
     (λ l. between-over 0 (n - 1) b (omega (arith, ltb-false b n l, some′)) ∙ sym l)))
 
-argument-fits : (words nonterminals kind : ℕ) → Within (argumentRange words nonterminals kind) (argument words nonterminals kind)
+argument-fits : (words nonterminals kind : ℕ) →
+    Within (argumentRange words nonterminals kind) (argument words nonterminals kind)
 argument-fits words nonterminals kind b =
     by-test (eqb kind 0) (λ t. rw t)
     (λ t. rw t (by-test (eqb kind 1) (λ u. rw u (below-fits words b))
@@ -138,28 +152,36 @@ pub record Known (words nonterminals kind : ℕ) (a d : Range) : Type 0 where
   pub argument-is : Within a (argument words nonterminals kind)
   pub delimiter-is : Within d (delimiter kind)
 
-pub allowed-known : (words nonterminals kind : ℕ) (a d : Range) → Allowed.Ranges a d ≡ allowed words nonterminals kind → Known words nonterminals kind a d
+pub allowed-known : (words nonterminals kind : ℕ) (a d : Range) → Allowed.Ranges a d ≡ allowed words nonterminals kind →
+    Known words nonterminals kind a d
 allowed-known words nonterminals kind a d e =
     by-test (leb kind 13)
-    (λ t. let f : allowed words nonterminals kind ≡ Allowed.Ranges (argumentRange words nonterminals kind) (delimiterRange kind) = rw t in
+    (λ t. let f : allowed words nonterminals kind
+    ≡ Allowed.Ranges (argumentRange words nonterminals kind) (delimiterRange kind) = rw t in
     let a-is : a ≡ argumentRange words nonterminals kind = cc in
     let d-is : d ≡ delimiterRange kind = cc in
     record {
       in-range = t;
-      argument-is = λ b. ap (λ (r : Range). between (r .low) (r .high) b) a-is ∙ argument-fits words nonterminals kind b;
+      argument-is =
+          λ b. ap (λ (r : Range). between (r .low) (r .high) b) a-is ∙ argument-fits words nonterminals kind b;
       delimiter-is = λ b. ap (λ (r : Range). between (r .low) (r .high) b) d-is ∙ delimiter-fits kind b;
     })
-    (λ t. let f : allowed words nonterminals kind ≡ Allowed.Refused = rw t in let z : _≡_ {A = ℕ} 0 1 = cc in absurd (omega arith))
+    (λ t.
+    let f : allowed words nonterminals kind ≡ Allowed.Refused = rw t in
+    let z : _≡_ {A = ℕ} 0 1 = cc in absurd (omega arith))
 
-pub allowed-refused : (words nonterminals kind : ℕ) → Allowed.Refused ≡ allowed words nonterminals kind → leb kind 13 ≡ false
+pub allowed-refused : (words nonterminals kind : ℕ) →
+    Allowed.Refused ≡ allowed words nonterminals kind → leb kind 13 ≡ false
 allowed-refused words nonterminals kind e =
     by-test (leb kind 13)
-    (λ t. let f : allowed words nonterminals kind ≡ Allowed.Ranges (argumentRange words nonterminals kind) (delimiterRange kind) = rw t in
+    (λ t. let f : allowed words nonterminals kind
+    ≡ Allowed.Ranges (argumentRange words nonterminals kind) (delimiterRange kind) = rw t in
     let z : _≡_ {A = ℕ} 0 1 = cc in absurd (omega arith))
     (λ t. t)
 
 -- the same test under another name
-same-test : (fits wanted : ℕ → Bool) → ((b : ℕ) → fits b ≡ wanted b) → (book : List ℕ) (place : ℕ) {c : Checked ℕ} → Byte fits book place c → Byte wanted book place c
+same-test : (fits wanted : ℕ → Bool) → ((b : ℕ) → fits b ≡ wanted b) → (book : List ℕ) (place : ℕ) {c : Checked ℕ} →
+    Byte fits book place c → Byte wanted book place c
 same-test fits wanted h book place e = ap (λ (f : ℕ → Bool). checked f 6 place book place) (sym (fun-ext h)) ∙ e
 
 -- the kind, which the code reads whatever it is
@@ -172,10 +194,14 @@ module _ (book : List ℕ) (place : ℕ) where
       by-test (ltb place (length book))
       (λ t. let h = ltb-true place (length book) t in
       by-test (between 0 255 (getD book place 0))
-      (λ good. let g = checked-good (between 0 255) 6 place book place h good in let z : _≡_ {A = ℕ} 0 1 = cc in absurd (omega arith))
+      (λ good.
+      let g = checked-good (between 0 255) 6 place book place h good in
+      let z : _≡_ {A = ℕ} 0 1 = cc in absurd (omega arith))
       (λ bad. checked-bad (between 0 13) 6 place book place h
       (by-test (leb (getD book place 0) 13)
-      (λ u. clash (between-inside 0 255 (getD book place 0) (omega arith) (omega (arith, leb-true (getD book place 0) 13 u))) bad)
+      (λ u.
+      clash (between-inside 0 255 (getD book place 0) (omega arith) (omega (arith, leb-true (getD book place 0) 13 u)))
+      bad)
       (λ u. over (getD book place 0) u))
       ∙ sym (checked-bad (between 0 255) 6 place book place h bad) ∙ e))
       (λ t. let h = ltb-false place (length book) t in
@@ -188,23 +214,30 @@ module _ (book : List ℕ) (place : ℕ) where
     inside : place < length book
     inside =
         by-test (ltb place (length book)) (λ t. ltb-true _ _ t)
-        (λ t. let s = checked-short (between 0 255) 6 place book place (ltb-false place (length book) t) in let z : _≡_ {A = ℕ} 0 1 = cc in absurd (omega arith))
+        (λ t.
+        let s = checked-short (between 0 255) 6 place book place (ltb-false place (length book) t) in
+        let z : _≡_ {A = ℕ} 0 1 = cc in absurd (omega arith))
 
     kind-unknown : leb kind 13 ≡ false → Byte (between 0 13) book place (refused 6 place)
-    kind-unknown t = checked-bad (between 0 13) 6 place book place inside (over (getD book place 0) (rw (kind-told .value) at t))
+    kind-unknown t =
+        checked-bad (between 0 13) 6 place book place inside (over (getD book place 0) (rw (kind-told .value) at t))
 
     kind-known : leb kind 13 ≡ true → Byte (between 0 13) book place (accepted kind next)
     kind-known t =
         let b = rw (kind-told .value) at t in
-        checked-good (between 0 13) 6 place book place inside (between-inside 0 13 (getD book place 0) (omega arith) (leb-true (getD book place 0) 13 b)) ∙ rw (kind-told .value, kind-told .next)
+        checked-good (between 0 13) 6 place book place inside
+        (between-inside 0 13 (getD book place 0) (omega arith) (leb-true (getD book place 0) 13 b))
+        ∙ rw (kind-told .value, kind-told .next)
 
 module _ (words nonterminals : ℕ) (book : List ℕ) (place : ℕ) where
-  pub step-stop-kind : {n p : ℕ} → Byte (between 0 255) book place (refused n p) → (first : ℕ) → oneOf (Sort.Step words nonterminals) first book place ≡ refused n p
+  pub step-stop-kind : {n p : ℕ} → Byte (between 0 255) book place (refused n p) → (first : ℕ) →
+      oneOf (Sort.Step words nonterminals) first book place ≡ refused n p
   unfolding step
   step-stop-kind e first = rw (kind-stop book place e)
 
   module _ (kind next : ℕ) (k : Byte (between 0 255) book place (accepted kind next)) where
-    pub step-unknown : leb kind 13 ≡ false → (first : ℕ) → oneOf (Sort.Step words nonterminals) first book place ≡ refused 6 place
+    pub step-unknown : leb kind 13 ≡ false → (first : ℕ) →
+        oneOf (Sort.Step words nonterminals) first book place ≡ refused 6 place
     unfolding step
     step-unknown t first = rw (kind-unknown book place kind next k t)
 
@@ -216,7 +249,8 @@ module _ (words nonterminals : ℕ) (book : List ℕ) (place : ℕ) where
       Delimiter at c = Byte (between (d .low) (d .high)) book at c
 
       argument-byte : (at : ℕ) {c : Checked ℕ} → Argument at c → Byte (argument words nonterminals kind) book at c
-      argument-byte at e = same-test (between (a .low) (a .high)) (argument words nonterminals kind) (known .argument-is) book at e
+      argument-byte at e =
+          same-test (between (a .low) (a .high)) (argument words nonterminals kind) (known .argument-is) book at e
 
       delimiter-byte : (at : ℕ) {c : Checked ℕ} → Delimiter at c → Byte (delimiter kind) book at c
       delimiter-byte at e = same-test (between (d .low) (d .high)) (delimiter kind) (known .delimiter-is) book at e
@@ -224,21 +258,27 @@ module _ (words nonterminals : ℕ) (book : List ℕ) (place : ℕ) where
       kind-read : Byte (between 0 13) book place (accepted kind next)
       kind-read = kind-known book place kind next k (known .in-range)
 
-      pub step-stop-a : {n p : ℕ} → Argument next (refused n p) → (first : ℕ) → oneOf (Sort.Step words nonterminals) first book place ≡ refused n p
+      pub step-stop-a : {n p : ℕ} → Argument next (refused n p) → (first : ℕ) →
+          oneOf (Sort.Step words nonterminals) first book place ≡ refused n p
       unfolding step
       step-stop-a e first = rw kind-read (rw (argument-byte next e))
 
       module _ (x second-at : ℕ) (ea : Argument next (accepted x second-at)) where
-        pub step-stop-b : {n p : ℕ} → Delimiter second-at (refused n p) → (first : ℕ) → oneOf (Sort.Step words nonterminals) first book place ≡ refused n p
+        pub step-stop-b : {n p : ℕ} → Delimiter second-at (refused n p) → (first : ℕ) →
+            oneOf (Sort.Step words nonterminals) first book place ≡ refused n p
         unfolding step
         step-stop-b e first = rw kind-read (rw (argument-byte next ea) (rw (delimiter-byte second-at e)))
 
         module _ (y third-at : ℕ) (eb : Delimiter second-at (accepted y third-at)) where
-          pub step-stop-c : {n p : ℕ} → Delimiter third-at (refused n p) → (first : ℕ) → oneOf (Sort.Step words nonterminals) first book place ≡ refused n p
+          pub step-stop-c : {n p : ℕ} → Delimiter third-at (refused n p) → (first : ℕ) →
+              oneOf (Sort.Step words nonterminals) first book place ≡ refused n p
           unfolding step
-          step-stop-c e first = rw kind-read (rw (argument-byte next ea) (rw (delimiter-byte second-at eb) (rw (delimiter-byte third-at e))))
+          step-stop-c e first =
+              rw kind-read
+              (rw (argument-byte next ea) (rw (delimiter-byte second-at eb) (rw (delimiter-byte third-at e))))
 
-          pub step-read : (z last : ℕ) → Delimiter third-at (accepted z last) → One (Sort.Step words nonterminals) book place (Part.Read 0 last)
+          pub step-read : (z last : ℕ) → Delimiter third-at (accepted z last) →
+              One (Sort.Step words nonterminals) book place (Part.Read 0 last)
           unfolding step
           step-read z last e =
               let kt = kind-told book place kind next k in
@@ -253,7 +293,8 @@ module _ (words nonterminals : ℕ) (book : List ℕ) (place : ℕ) where
               let z-is : z ≡ getD book (place + 3) 0 = rw fourth at (ct .value) in
               record {
                 reads = λ first.
-                    rw kind-read (rw (argument-byte next ea) (rw (delimiter-byte second-at eb) (rw (delimiter-byte third-at e) (rw (kt .value, x-is, y-is, z-is)))));
+                    rw kind-read (rw (argument-byte next ea) (rw (delimiter-byte second-at eb)
+                    (rw (delimiter-byte third-at e) (rw (kt .value, x-is, y-is, z-is)))));
                 valued = λ first. refl;
                 small = omega arith;
               }

@@ -16,8 +16,10 @@ use lib.ListN.{length, getD, set, length-set}
 use lib.Seq.{getD-set-same, getD-set-other}
 use Rattle.characters.specs.Classes.{between}
 use Rattle.book.specs.Check.{refused, accepted, checked, row, total}
-use Rattle.book.specs.Index.{KeptOutside, One, Row, Few, Section, oneOf, sizeOf, recordFrom, recordsIn, upTo, countIn, placeIn, firstIn}
-use Rattle.book.specs.ReaderLaws.{between-high, checked-told, after, row-begins, row-refused, row-on, row-ends, read, stopped, handed, no-value, value-of, total-snoc}
+use Rattle.book.specs.Index.{KeptOutside, One, Row, Few, Section, oneOf, sizeOf, recordFrom, recordsIn, upTo}
+use Rattle.book.specs.Index.{countIn, placeIn, firstIn}
+use Rattle.book.specs.ReaderLaws.{between-high, checked-told, after, row-begins, row-refused, row-on, row-ends}
+use Rattle.book.specs.ReaderLaws.{read, stopped, handed, no-value, value-of, total-snoc}
 use Rattle.book.specs.declared.parts.Part.{Part}
 use Rattle.book.specs.declared.sections.Sort.{Sort}
 
@@ -50,7 +52,9 @@ stored f s a b h =
 
 -- ---- A row under way: i records have been read, and their numbers stand in the index
 pub record Begun (sort : Sort) (book : List ℕ) (place count base : ℕ) (f g : List ℕ) (i at sum : ℕ) : Type 0 where
-  pub reads : after (sizeOf sort) (oneOf sort) book (recordsIn sort book g base i) (row (sizeOf sort) (oneOf sort) (count - i) sum book at) ≡ row (sizeOf sort) (oneOf sort) count 0 book place
+  pub reads : after (sizeOf sort) (oneOf sort) book (recordsIn sort book g base i)
+      (row (sizeOf sort) (oneOf sort) (count - i) sum book at)
+      ≡ row (sizeOf sort) (oneOf sort) count 0 book place
   pub totals : sum ≡ total (sizeOf sort) (recordsIn sort book g base i)
   pub kept : KeptOutside (base + 1) (base + 1 + 2 * count) f g
 
@@ -63,12 +67,15 @@ module _ (sort : Sort) (book : List ℕ) (place count base : ℕ) (f : List ℕ)
     kept = record { below = λ k l. refl; above = λ k l. refl };
   }
 
-  module _ (g g′ : List ℕ) (i at sum : ℕ) (less : i < count) (b : Begun sort book place count base f g i at sum) (s : Stored g g′ (base + 1 + 2 * i) at sum) where
+  module _ (g g′ : List ℕ) (i at sum : ℕ) (less : i < count) (b : Begun sort book place count base f g i at sum)
+      (s : Stored g g′ (base + 1 + 2 * i) at sum) where
     -- the records before are where they were
     before : recordsIn sort book g′ base i ≡ recordsIn sort book g base i
     before = upTo-same i _ _ (λ k l.
-        let p : placeIn g′ base k ≡ placeIn g base k = s .others (base + 1 + 2 * k) (λ e. omega arith) (λ e. omega arith) in
-        let q : firstIn g′ base k ≡ firstIn g base k = s .others (base + 2 + 2 * k) (λ e. omega arith) (λ e. omega arith) in
+        let p : placeIn g′ base k ≡ placeIn g base k =
+        s .others (base + 1 + 2 * k) (λ e. omega arith) (λ e. omega arith) in
+        let q : firstIn g′ base k ≡ firstIn g base k =
+        s .others (base + 2 + 2 * k) (λ e. omega arith) (λ e. omega arith) in
         rw (p, q))
 
     here : recordFrom sort book (placeIn g′ base i) (firstIn g′ base i) ≡ recordFrom sort book at sum
@@ -86,32 +93,40 @@ module _ (sort : Sort) (book : List ℕ) (place count base : ℕ) (f : List ℕ)
       above = λ k l. s .others k (λ e. omega arith) (λ e. omega arith) ∙ b .kept .above k l;
     }
 
-    pub begun-on : (part : Part) (value next : ℕ) → One sort book at part → part ≡ Part.Read value next → Begun sort book place count base f g′ (i + 1) next (sum + value)
+    pub begun-on : (part : Part) (value next : ℕ) → One sort book at part → part ≡ Part.Read value next →
+        Begun sort book place count base f g′ (i + 1) next (sum + value)
     begun-on part value next o told =
         let x = recordFrom sort book at sum in
-        let e : oneOf sort sum book at ≡ accepted x next = read (oneOf sort sum book at) part (λ v. x) (o .reads sum) told in
+        let e : oneOf sort sum book at ≡ accepted x next =
+        read (oneOf sort sum book at) part (λ v. x) (o .reads sum) told in
         let v : value ≡ sizeOf sort x = value-of told (sizeOf sort x) (o .valued sum) in
         record {
-          reads = rw (one-more, v) (sym (row-on (sizeOf sort) (oneOf sort) book (recordsIn sort book g base i) count i sum at less e) ∙ b .reads);
+          reads = rw (one-more, v)
+              (sym (row-on (sizeOf sort) (oneOf sort) book (recordsIn sort book g base i) count i sum at less e)
+              ∙ b .reads);
           totals = rw (one-more, total-snoc (sizeOf sort) (recordsIn sort book g base i) x, v, b .totals);
           kept = kept-so;
         }
 
-    pub begun-stop : (part : Part) {n p : ℕ} → One sort book at part → part ≡ Part.Refused n p → Row sort book place count base f g′ part
+    pub begun-stop : (part : Part) {n p : ℕ} → One sort book at part → part ≡ Part.Refused n p →
+        Row sort book place count base f g′ part
     begun-stop part o told =
         let x = recordFrom sort book at sum in
         let e = stopped (oneOf sort sum book at) part (λ v. x) (o .reads sum) told in
         record {
-          reads = handed _ (sym (b .reads) ∙ row-refused (sizeOf sort) (oneOf sort) book (recordsIn sort book g base i) count i sum at less e) told;
+          reads = handed _ (sym (b .reads)
+              ∙ row-refused (sizeOf sort) (oneOf sort) book (recordsIn sort book g base i) count i sum at less e) told;
           valued = no-value told _;
           kept = kept-so;
         }
 
-  pub begun-last : (g : List ℕ) (i at sum : ℕ) → i ≤ count → count ≤ i → Begun sort book place count base f g i at sum → Row sort book place count base f g (Part.Read sum at)
+  pub begun-last : (g : List ℕ) (i at sum : ℕ) → i ≤ count → count ≤ i → Begun sort book place count base f g i at sum →
+      Row sort book place count base f g (Part.Read sum at)
   begun-last g i at sum h k b =
       let all : i ≡ count = omega arith in
       record {
-        reads = sym (b .reads) ∙ row-ends (sizeOf sort) (oneOf sort) book (recordsIn sort book g base i) count i sum at k ∙ rw all;
+        reads = sym (b .reads)
+            ∙ row-ends (sizeOf sort) (oneOf sort) book (recordsIn sort book g base i) count i sum at k ∙ rw all;
         valued = rw all at (b .totals);
         kept = b .kept;
       }
@@ -130,7 +145,8 @@ stored-by f g h s a b l e k =
     rw whole (stored f s a b l)
 
 module _ (sort : Sort) (fits : ℕ → Bool) (book : List ℕ) (place high base : ℕ) (f : List ℕ) where
-  pub section-stop : (part : Part) {n p : ℕ} → checked fits 4 place book place ≡ refused n p → part ≡ Part.Refused n p → Section sort fits book place high base f f part
+  pub section-stop : (part : Part) {n p : ℕ} → checked fits 4 place book place ≡ refused n p → part ≡ Part.Refused n p →
+      Section sort fits book place high base f f part
   section-stop part e told =
       record {
         reads = handed _ (rw e) told;
@@ -140,9 +156,11 @@ module _ (sort : Sort) (fits : ℕ → Bool) (book : List ℕ) (place high base 
       }
 
   module _ (value next : ℕ) (e : checked fits 4 place book place ≡ accepted value next) (fitted : value ≤ high) where
-    pub section-read : (g h : List ℕ) (part : Part) → base < length f → g ≡ set f base value → Row sort book next value base g h part → Section sort fits book place high base f h part
+    pub section-read : (g h : List ℕ) (part : Part) → base < length f → g ≡ set f base value →
+        Row sort book next value base g h part → Section sort fits book place high base f h part
     section-read g h part l e′ r =
-        let counted : countIn h base ≡ value = r .kept .below base (omega arith) ∙ rw e′ (getD-set-same f base value 0 l) in
+        let counted : countIn h base ≡ value =
+        r .kept .below base (omega arith) ∙ rw e′ (getD-set-same f base value 0 l) in
         record {
           reads = rw (e, counted) (r .reads);
           valued = rw counted (r .valued);
@@ -154,5 +172,7 @@ module _ (sort : Sort) (fits : ℕ → Bool) (book : List ℕ) (place high base 
         }
 
 -- a count in a range
-pub count-fits : (low high : ℕ) (book : List ℕ) (place value next : ℕ) → checked (between low high) 4 place book place ≡ accepted value next → value ≤ high
-count-fits low high book place value next e = between-high low high value (checked-told (between low high) 4 place book place value next e .fitted)
+pub count-fits : (low high : ℕ) (book : List ℕ) (place value next : ℕ) →
+    checked (between low high) 4 place book place ≡ accepted value next → value ≤ high
+count-fits low high book place value next e =
+    between-high low high value (checked-told (between low high) 4 place book place value next e .fitted)

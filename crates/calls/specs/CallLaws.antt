@@ -20,7 +20,8 @@ use Rattle.book.specs.Check.{associativityOf}
 use Rattle.semantics.specs.Uses.{hasMark, minimumOf}
 use Rattle.semantics.specs.Tokens.{when}
 use Rattle.run_model.specs.Rows.{Row, row, noRow, rowOf, onRow, withSet, withVariant, opened}
-use Rattle.run_model.specs.Rows.{useAt, governs, newestGovernor, RowGovernor, minimum, same-start, governorAt, governorOf, claims, anyClaims}
+use Rattle.run_model.specs.Rows.{useAt, governs, newestGovernor, RowGovernor, minimum, same-start, governorAt}
+use Rattle.run_model.specs.Rows.{governorOf, claims, anyClaims}
 use Rattle.calls.specs.Table.{field}
 
 -- ---- Stores to one row
@@ -30,22 +31,26 @@ row-after T c r h = getD-set-same T c r noRow h
 pub row-else : (T : List Row) (c d : ℕ) (r : Row) → (d ≡ c → ⊥) → rowOf (set T c r) d ≡ rowOf T d
 row-else T c d r h = getD-set-other T c d r noRow h
 
-pub then-row : (T T1 T2 : List Row) (c : ℕ) (r : Row) (F : Row → Row) → c < length T → T1 ≡ set T c r → T2 ≡ onRow T1 c F → T2 ≡ set T c (F r)
+pub then-row : (T T1 T2 : List Row) (c : ℕ) (r : Row) (F : Row → Row) → c < length T → T1 ≡ set T c r →
+    T2 ≡ onRow T1 c F → T2 ≡ set T c (F r)
 then-row T T1 T2 c r F h e k = (rw (e, row-after T c r h) at k) ∙ set-set T c r (F r)
 
 pub open-law : (T : List Row) (c N u : ℕ) → c < length T → (T1 T2 T3 T4 T5 T6 : List Row) →
-    T1 ≡ onRow T c (field 0 1) → T2 ≡ onRow T1 c (field 1 N) → T3 ≡ onRow T2 c (field 2 0) → T4 ≡ onRow T3 c (field 3 u) →
+    T1 ≡ onRow T c (field 0 1) → T2 ≡ onRow T1 c (field 1 N) → T3 ≡ onRow T2 c (field 2 0) →
+    T4 ≡ onRow T3 c (field 3 u) →
     T5 ≡ onRow T4 c (field 7 0) → T6 ≡ onRow T5 c (withSet []) → T6 ≡ onRow T c (opened N u)
 open-law T c N u h T1 T2 T3 T4 T5 T6 e1 e2 e3 e4 e5 e6 =
     let r = rowOf T c in
     let k2 = then-row T T1 T2 c (field 0 1 r) (field 1 N) h e1 e2 in
     let k3 = then-row T T2 T3 c (field 1 N (field 0 1 r)) (field 2 0) h k2 e3 in
-    let k4 = then-row T T3 T4 c (row 1 N 0 (r .start) (r .level) (r .associativity) (r .child) (r .asked) (r .set) (r .run)) (field 3 u) h k3 e4 in
-    let k5 = then-row T T4 T5 c (row 1 N 0 u (r .level) (r .associativity) (r .child) (r .asked) (r .set) (r .run)) (field 7 0) h k4 e5 in
+    let k4 = then-row T T3 T4 c
+    (row 1 N 0 (r .start) (r .level) (r .associativity) (r .child) (r .asked) (r .set) (r .run)) (field 3 u) h k3 e4 in
+    let k5 = then-row T T4 T5 c
+    (row 1 N 0 u (r .level) (r .associativity) (r .child) (r .asked) (r .set) (r .run)) (field 7 0) h k4 e5 in
     then-row T T5 T6 c (row 1 N 0 u (r .level) (r .associativity) (r .child) 0 (r .set) (r .run)) (withSet []) h k5 e6
 
-pub variant-law : (T : List Row) (c l a : ℕ) → c < length T → (T1 T2 : List Row) → T1 ≡ onRow T c (field 4 l) → T2 ≡ onRow T1 c (field 5 a) →
-    T2 ≡ onRow T c (withVariant l a)
+pub variant-law : (T : List Row) (c l a : ℕ) → c < length T → (T1 T2 : List Row) → T1 ≡ onRow T c (field 4 l) →
+    T2 ≡ onRow T1 c (field 5 a) → T2 ≡ onRow T c (withVariant l a)
 variant-law T c l a h T1 T2 e1 e2 = then-row T T1 T2 c (field 4 l (rowOf T c)) (field 5 a) h e1 e2
 
 -- ---- Governors
@@ -58,11 +63,14 @@ module _ (r : Row) (N u : ℕ) where
   unfolding governs
   not-same a b e h f k = rw (eq-eqb (r .live) 1 (sym e ∙ h), ne-eqb (r .nonterminal) N (λ z. k (f ∙ z)))
 
-  pub not-scope : (a b d : ℕ) → a ≡ r .live → a ≡ 1 → b ≡ r .nonterminal → b ≡ N → d ≡ r .scope → (d ≡ 0 → ⊥) → false ≡ governs r N u
+  pub not-scope : (a b d : ℕ) → a ≡ r .live → a ≡ 1 → b ≡ r .nonterminal → b ≡ N → d ≡ r .scope →
+      (d ≡ 0 → ⊥) → false ≡ governs r N u
   unfolding governs
-  not-scope a b d e h f k g l = rw (eq-eqb (r .live) 1 (sym e ∙ h), eq-eqb (r .nonterminal) N (sym f ∙ k), ne-eqb (r .scope) 0 (λ z. l (g ∙ z)))
+  not-scope a b d e h f k g l =
+      rw (eq-eqb (r .live) 1 (sym e ∙ h), eq-eqb (r .nonterminal) N (sym f ∙ k), ne-eqb (r .scope) 0 (λ z. l (g ∙ z)))
 
-  pub by-child : (a b d x : ℕ) → a ≡ r .live → a ≡ 1 → b ≡ r .nonterminal → b ≡ N → d ≡ r .scope → d ≡ 0 → x ≡ r .child → eqb x u ≡ governs r N u
+  pub by-child : (a b d x : ℕ) → a ≡ r .live → a ≡ 1 → b ≡ r .nonterminal → b ≡ N → d ≡ r .scope → d ≡ 0 →
+      x ≡ r .child → eqb x u ≡ governs r N u
   unfolding governs
   by-child a b d x e h f k g l m =
       rw (eq-eqb (r .live) 1 (sym e ∙ h), eq-eqb (r .nonterminal) N (sym f ∙ k), eq-eqb (r .scope) 0 (sym g ∙ l), m)
@@ -72,7 +80,8 @@ module _ (T : List Row) (N u : ℕ) where
   unfolding newestGovernor
   newest-hit k i h = rw (h, newestGovernor)
 
-  newest-on : (k i : ℕ) → governs (rowOf T i) N u ≡ false → newestGovernor T N u (suc k) i ≡ newestGovernor T N u k (suc i)
+  newest-on : (k i : ℕ) → governs (rowOf T i) N u ≡ false →
+      newestGovernor T N u (suc k) i ≡ newestGovernor T N u k (suc i)
   unfolding newestGovernor
   newest-on k i h = rw (h, newestGovernor)
 
@@ -90,16 +99,19 @@ module _ (T : List Row) (N u : ℕ) where
       let b : n + 1 ≡ suc n = omega arith in
       rw (a, b)
 
-  pub seeking-hit : (n i : ℕ) (t : Bool) → Seeking n i → i ≤ 200 → t ≡ governs (rowOf T i) N u → t ≡ true → i ≡ newestGovernor T N u (200 - n) (suc n)
+  pub seeking-hit : (n i : ℕ) (t : Bool) → Seeking n i → i ≤ 200 → t ≡ governs (rowOf T i) N u → t ≡ true →
+      i ≡ newestGovernor T N u (200 - n) (suc n)
   seeking-hit n i t s h e y =
       let a : 201 - i ≡ suc (200 - i) = omega arith in
       sym (rw a (newest-hit (200 - i) i (sym e ∙ y))) ∙ s
 
-  pub seeking-on : (n i : ℕ) (t : Bool) → Seeking n i → i ≤ 200 → t ≡ governs (rowOf T i) N u → t ≡ false → Seeking n (i + 1)
+  pub seeking-on : (n i : ℕ) (t : Bool) → Seeking n i → i ≤ 200 → t ≡ governs (rowOf T i) N u →
+      t ≡ false → Seeking n (i + 1)
   seeking-on n i t s h e y =
       let a : 201 - i ≡ suc (201 - (i + 1)) = omega arith in
       let b : i + 1 ≡ suc i = omega arith in
-      let q : newestGovernor T N u (suc (201 - (i + 1))) i ≡ newestGovernor T N u (201 - (i + 1)) (suc i) = newest-on (201 - (i + 1)) i (sym e ∙ y) in
+      let q : newestGovernor T N u (suc (201 - (i + 1))) i ≡ newestGovernor T N u (201 - (i + 1)) (suc i) =
+      newest-on (201 - (i + 1)) i (sym e ∙ y) in
       ap (newestGovernor T N u (201 - (i + 1))) b ∙ sym q ∙ ap (λ k. newestGovernor T N u k i) (sym a) ∙ s
 
   pub seeking-end : (n i : ℕ) → Seeking n i → 200 < i → i ≡ newestGovernor T N u (200 - n) (suc n)
@@ -113,7 +125,8 @@ unfolding newestGovernor
 newest-above T N u zero i = omega arith
 newest-above T N u (suc k) i = by (governs (rowOf T i) N u) (newest-above T N u k (suc i))
   where
-    by : (t : Bool) → suc i ≤ newestGovernor T N u k (suc i) → i ≤ elim t [ true ↦ i | false ↦ newestGovernor T N u k (suc i) ]
+    by : (t : Bool) → suc i ≤ newestGovernor T N u k (suc i) →
+        i ≤ elim t [ true ↦ i | false ↦ newestGovernor T N u k (suc i) ]
     by true h = omega arith
     by false h = omega arith
 
@@ -136,7 +149,8 @@ governor-above T n N u g e =
         rowIn (when t (λ _. minimum 0) (λ _. when s (λ _. same-start x) (λ _. minimum m))) ≡ suc g →
         (n < g) × (g ≤ 200)
     by true s f q = absurd (omega (arith, q))
-    by false true f q = (omega (arith, newest-above T N u (200 - n) (suc n), q), omega (arith, ltb-false 200 x (sym f), q))
+    by false true f q =
+        (omega (arith, newest-above T N u (200 - n) (suc n), q), omega (arith, ltb-false 200 x (sym f), q))
     by false false f q = absurd (omega (arith, q))
 
 module _ (T : List Row) (n N u g : ℕ) (e : g ≡ newestGovernor T N u (200 - n) (suc n)) where
@@ -148,10 +162,11 @@ module _ (T : List Row) (n N u g : ℕ) (e : g ≡ newestGovernor T N u (200 - n
   unfolding governorAt
   governor-same a h f k = rw (← e, le-ltb 200 g h, eq-eqb (rowOf T g .start) u (sym f ∙ k))
 
-  pub governor-minimum : (a b l m : ℕ) → g ≤ 200 → a ≡ rowOf T g .start → (a ≡ u → ⊥) → b ≡ rowOf T g .associativity → l ≡ rowOf T g .level →
-      m ≡ minimumOf (associativityOf b) l → minimum m ≡ governorOf T n N u
+  pub governor-minimum : (a b l m : ℕ) → g ≤ 200 → a ≡ rowOf T g .start → (a ≡ u → ⊥) → b ≡ rowOf T g .associativity →
+      l ≡ rowOf T g .level → m ≡ minimumOf (associativityOf b) l → minimum m ≡ governorOf T n N u
   unfolding governorAt
-  governor-minimum a b l m h f k eb el em = rw (← e, le-ltb 200 g h, ne-eqb (rowOf T g .start) u (λ z. k (f ∙ z)), em, eb, el)
+  governor-minimum a b l m h f k eb el em =
+      rw (← e, le-ltb 200 g h, ne-eqb (rowOf T g .start) u (λ z. k (f ∙ z)), em, eb, el)
 
 -- ---- Claims
 module _ (book : Book) (r : Row) (u : ℕ) where
@@ -166,18 +181,29 @@ module _ (book : Book) (r : Row) (u : ℕ) where
   pub claims-start : (a b : ℕ) → a ≡ r .live → a ≡ 1 → b ≡ r .start → (b ≡ u → ⊥) → false ≡ claims book r u
   unfolding claims
   claims-start a b e h f k =
-      rw (eq-eqb (r .live) 1 (sym e ∙ h), ne-eqb (r .start) u (λ z. k (f ∙ z)), unmarked (eqb (r .scope) 0), unmarked (hasMark book 1 (r .nonterminal)))
+      rw (
+        eq-eqb (r .live) 1 (sym e ∙ h),
+        ne-eqb (r .start) u (λ z. k (f ∙ z)),
+        unmarked (eqb (r .scope) 0),
+        unmarked (hasMark book 1 (r .nonterminal)),
+      )
 
-  pub claims-scope : (a b d : ℕ) → a ≡ r .live → a ≡ 1 → b ≡ r .start → b ≡ u → d ≡ r .scope → (d ≡ 0 → ⊥) → false ≡ claims book r u
+  pub claims-scope : (a b d : ℕ) → a ≡ r .live → a ≡ 1 → b ≡ r .start → b ≡ u → d ≡ r .scope →
+      (d ≡ 0 → ⊥) → false ≡ claims book r u
   unfolding claims
   claims-scope a b d e h f k g l =
-      rw (eq-eqb (r .live) 1 (sym e ∙ h), ne-eqb (r .scope) 0 (λ z. l (g ∙ z)), unmarked (hasMark book 1 (r .nonterminal)))
+      rw (
+        eq-eqb (r .live) 1 (sym e ∙ h),
+        ne-eqb (r .scope) 0 (λ z. l (g ∙ z)),
+        unmarked (hasMark book 1 (r .nonterminal)),
+      )
 
-  pub claims-mark : (a b d N : ℕ) (t : Bool) → a ≡ r .live → a ≡ 1 → b ≡ r .start → b ≡ u → d ≡ r .scope → d ≡ 0 → N ≡ r .nonterminal → t ≡ hasMark book 1 N →
-      t ≡ claims book r u
+  pub claims-mark : (a b d N : ℕ) (t : Bool) → a ≡ r .live → a ≡ 1 → b ≡ r .start → b ≡ u → d ≡ r .scope → d ≡ 0 →
+      N ≡ r .nonterminal → t ≡ hasMark book 1 N → t ≡ claims book r u
   unfolding claims
   claims-mark a b d N t e h f k g l m q =
-      q ∙ rw (eq-eqb (r .live) 1 (sym e ∙ h), eq-eqb (r .start) u (sym f ∙ k), eq-eqb (r .scope) 0 (sym g ∙ l), m) (both (hasMark book 1 (r .nonterminal)))
+      q ∙ rw (eq-eqb (r .live) 1 (sym e ∙ h), eq-eqb (r .start) u (sym f ∙ k), eq-eqb (r .scope) 0 (sym g ∙ l), m)
+      (both (hasMark book 1 (r .nonterminal)))
     where
       both : (b : Bool) → b ≡ (b && true)
       both true = refl
@@ -206,16 +232,19 @@ module _ (book : Book) (T : List Row) (u : ℕ) where
       let b : n + 1 ≡ suc n = omega arith in
       rw (a, b)
 
-  pub asking-hit : (n i : ℕ) (t : Bool) → Asking n i → i ≤ 200 → t ≡ claims book (rowOf T i) u → t ≡ true → true ≡ anyClaims book T u (200 - n) (suc n)
+  pub asking-hit : (n i : ℕ) (t : Bool) → Asking n i → i ≤ 200 → t ≡ claims book (rowOf T i) u → t ≡ true →
+      true ≡ anyClaims book T u (200 - n) (suc n)
   asking-hit n i t s h e y =
       let a : 201 - i ≡ suc (200 - i) = omega arith in
       sym (rw a (any-hit (200 - i) i (sym e ∙ y))) ∙ s
 
-  pub asking-on : (n i : ℕ) (t : Bool) → Asking n i → i ≤ 200 → t ≡ claims book (rowOf T i) u → t ≡ false → Asking n (i + 1)
+  pub asking-on : (n i : ℕ) (t : Bool) → Asking n i → i ≤ 200 → t ≡ claims book (rowOf T i) u →
+      t ≡ false → Asking n (i + 1)
   asking-on n i t s h e y =
       let a : 201 - i ≡ suc (201 - (i + 1)) = omega arith in
       let b : i + 1 ≡ suc i = omega arith in
-      let q : anyClaims book T u (suc (201 - (i + 1))) i ≡ anyClaims book T u (201 - (i + 1)) (suc i) = any-on (201 - (i + 1)) i (sym e ∙ y) in
+      let q : anyClaims book T u (suc (201 - (i + 1))) i ≡ anyClaims book T u (201 - (i + 1)) (suc i) =
+      any-on (201 - (i + 1)) i (sym e ∙ y) in
       ap (anyClaims book T u (201 - (i + 1))) b ∙ sym q ∙ ap (λ k. anyClaims book T u k i) (sym a) ∙ s
 
   pub asking-end : (n i : ℕ) → Asking n i → 200 < i → false ≡ anyClaims book T u (200 - n) (suc n)

@@ -25,7 +25,8 @@ use Rattle.calls.specs.CallLaws.{row-after, then-row}
 
 -- ---- A stored answer
 pub answer-law : (T T1 T2 T3 : List Row) (n g : ℕ) → n < length T → g < length T → T1 ≡ onRow T g wasAsked →
-    T2 ≡ onRow T1 n (withSet (kept (useAt (rowOf T1 g)) (rowOf T1 g .set))) → T3 ≡ onRow T2 n ended → T3 ≡ withStoredIn T n g
+    T2 ≡ onRow T1 n (withSet (kept (useAt (rowOf T1 g)) (rowOf T1 g .set))) →
+    T3 ≡ onRow T2 n ended → T3 ≡ withStoredIn T n g
 answer-law T T1 T2 T3 n g h k e1 e2 e3 =
     let r : rowOf T1 g ≡ wasAsked (rowOf T g) = rw e1 (row-after T g (wasAsked (rowOf T g)) k) in
     let l : n < length T1 = rw e1 (simp length-set h) in
@@ -34,10 +35,12 @@ answer-law T T1 T2 T3 n g h k e1 e2 e3 =
     ∙ ap (λ t. onRow t n (λ t. ended (withSet (kept (useAt (rowOf T g)) (rowOf T g .set)) t))) e1
 
 -- ---- A parse joins the run's set, in the model
-pub run-added-model : (r : Bool) (T U : List Row) (c : ℕ) (p : Parse ℕ) → RunAdded r T U c p → (book : Book) (text : List ℕ) (units : ℕ) (cells : List Cell) →
+pub run-added-model : (r : Bool) (T U : List Row) (c : ℕ) (p : Parse ℕ) → RunAdded r T U c p →
+    (book : Book) (text : List ℕ) (units : ℕ) (cells : List Cell) →
     addRun book text c p (rowState units cells T) ≡ cond r (ok (outcome none (rowState units cells U))) (met 22 units)
 unfolding addRun _>>=_
-run-added-model true T U c p a book text units cells = rw (a .now _, _>>=_) (ap (λ t. ok (outcome none (rowState units cells t))) (sym (a .only)))
+run-added-model true T U c p a book text units cells =
+    rw (a .now _, _>>=_) (ap (λ t. ok (outcome none (rowState units cells t))) (sym (a .only)))
 run-added-model false T U c p a book text units cells = rw (a .now _, _>>=_)
 
 -- ---- The first run
@@ -49,7 +52,8 @@ some-parse : {A : Type 0} (a b : A) (l : List (Parse ℕ)) → (length l ≡ 0 �
 some-parse a b [] h = absurd (h refl)
 some-parse a b (p ∷ ps) h = refl
 
-module _ (T T1 : List Row) (c k : ℕ) (l : c < length T) (e1 : T1 ≡ onRow T c copied) (ek : k ≡ length (rowOf T1 c .set)) where
+module _ (T T1 : List Row) (c k : ℕ) (l : c < length T) (e1 : T1 ≡ onRow T c copied)
+    (ek : k ≡ length (rowOf T1 c .set)) where
   now-copied : rowOf T1 c ≡ copied (rowOf T c)
   now-copied = rw e1 (row-after T c (copied (rowOf T c)) l)
 
@@ -74,10 +78,12 @@ module _ (T T1 : List Row) (c k : ℕ) (l : c < length T) (e1 : T1 ≡ onRow T c
       record {
         now = λ book text again failure units cells.
             some-parse _ _ (rowOf T c .run) (λ z. h (found-run ∙ z))
-            ∙ rw (eq-eqb (rowOf T c .asked) 1 (sym (ea ∙ ap (λ r. r .asked) now-copied) ∙ y)) (ap (λ t. again (rowState units cells t)) (sym e1));
+            ∙ rw (eq-eqb (rowOf T c .asked) 1 (sym (ea ∙ ap (λ r. r .asked) now-copied) ∙ y))
+            (ap (λ t. again (rowState units cells t)) (sym e1));
       }
 
-  pub first-over : (U : List Row) (a : ℕ) → (k ≡ 0 → ⊥) → a ≡ rowOf T1 c .asked → (a ≡ 1 → ⊥) → U ≡ onRow T1 c ended → SettledFirst Settled.Over T U c
+  pub first-over : (U : List Row) (a : ℕ) → (k ≡ 0 → ⊥) → a ≡ rowOf T1 c .asked → (a ≡ 1 → ⊥) → U ≡ onRow T1 c ended →
+      SettledFirst Settled.Over T U c
   unfolding settleFirst
   first-over U a h ea y e =
       record {
@@ -92,9 +98,13 @@ module _ (T : List Row) (c : ℕ) (t : Bool) (e : t ≡ allIn (rowOf T c .set) (
   pub next-over : (U : List Row) → t ≡ true → U ≡ onRow T c ended → SettledNext Settled.Over T U c
   unfolding settle
   next-over U y f =
-      record { now = λ book text again failure units cells. rw (sym e ∙ y) (ap (λ t. ok (outcome none (rowState units cells t))) (sym f)) }
+      record {
+        now = λ book text again failure units cells.
+            rw (sym e ∙ y) (ap (λ t. ok (outcome none (rowState units cells t))) (sym f));
+      }
 
-  pub next-again : (U : List Row) (r : Bool) → t ≡ false → RunJoined r T U c → r ≡ true → SettledNext Settled.Again T U c
+  pub next-again : (U : List Row) (r : Bool) → t ≡ false → RunJoined r T U c → r ≡ true →
+      SettledNext Settled.Again T U c
   unfolding settle _>>=_
   next-again U r n J y =
       record {
@@ -106,4 +116,7 @@ module _ (T : List Row) (c : ℕ) (t : Bool) (e : t ≡ allIn (rowOf T c .set) (
   pub next-full : (U : List Row) (r : Bool) → t ≡ false → RunJoined r T U c → r ≡ false → SettledNext Settled.Full T U c
   unfolding settle _>>=_
   next-full U r n J y =
-      record { now = λ book text again failure units cells. rw (sym e ∙ n, rw y at (J .now (record { units = units; cells = cells; asked = [] })), _>>=_) }
+      record {
+        now = λ book text again failure units cells.
+            rw (sym e ∙ n, rw y at (J .now (record { units = units; cells = cells; asked = [] })), _>>=_);
+      }

@@ -61,11 +61,13 @@ unfolding rowsFrom
 rows-apart b zero o h = refl
 rows-apart b (suc k) o h = rw (row-apart b o (inr h), rows-apart (b + 522) k o (omega arith))
 
-rows-change : (f g : List ℕ) (b k c p : ℕ) → c < k → p ≡ b + c * 522 → Only f g p 522 → rowsFrom g b k ≡ set (rowsFrom f b k) c (rowAt g p)
+rows-change : (f g : List ℕ) (b k c p : ℕ) → c < k → p ≡ b + c * 522 → Only f g p 522 →
+    rowsFrom g b k ≡ set (rowsFrom f b k) c (rowAt g p)
 unfolding rowsFrom
 rows-change f g b zero c p h e o = absurd (omega arith)
 rows-change f g b (suc k) zero p h e o = let q : p ≡ b = omega arith in rw (q, rows-apart (b + 522) k o (omega arith))
-rows-change f g b (suc k) (suc c) p h e o = rw (row-apart b o (inl (omega arith)), rows-change f g (b + 522) k c p (omega arith) (omega arith) o)
+rows-change f g b (suc k) (suc c) p h e o =
+    rw (row-apart b o (inl (omega arith)), rows-change f g (b + 522) k c p (omega arith) (omega arith) o)
 
 rows-read : (f : List ℕ) (b k c p : ℕ) → c < k → p ≡ b + c * 522 → rowOf (rowsFrom f b k) c ≡ rowAt f p
 unfolding rowsFrom
@@ -90,12 +92,14 @@ pub table-read : (f : List ℕ) (c : ℕ) → c ≤ 200 → rowOf (table f) c �
 unfolding table
 table-read f c h = rows-read f 0 201 c (c * 522) (omega arith) (omega arith)
 
-pub table-change : (f g : List ℕ) (c : ℕ) → c ≤ 200 → Only f g (c * 522) 522 → table g ≡ set (table f) c (rowAt g (c * 522))
+pub table-change : (f g : List ℕ) (c : ℕ) → c ≤ 200 → Only f g (c * 522) 522 →
+    table g ≡ set (table f) c (rowAt g (c * 522))
 unfolding table
 table-change f g c h o = rows-change f g 0 201 c (c * 522) (omega arith) (omega arith) o
 
 -- ---- A row after a change of a part of it
-at-set : (f : List ℕ) (b j i x : ℕ) → b + j < length f → getD (set f (b + j) x) (b + i) 0 ≡ cond (eqb j i) x (getD f (b + i) 0)
+at-set : (f : List ℕ) (b j i x : ℕ) → b + j < length f →
+    getD (set f (b + j) x) (b + i) 0 ≡ cond (eqb j i) x (getD f (b + i) 0)
 at-set f b j i x h = by (eqb j i) refl
   where
     by : (t : Bool) → t ≡ eqb j i → getD (set f (b + j) x) (b + i) 0 ≡ cond t x (getD f (b + i) 0)
@@ -150,7 +154,8 @@ row-run b o =
     )
 
 -- ---- The same on the table
-pub table-field : (f : List ℕ) (c : ℕ) → c ≤ 200 → 104922 ≤ length f → (j x : ℕ) → j < 8 → table (set f (c * 522 + j) x) ≡ onRow (table f) c (field j x)
+pub table-field : (f : List ℕ) (c : ℕ) → c ≤ 200 → 104922 ≤ length f → (j x : ℕ) → j < 8 →
+    table (set f (c * 522 + j) x) ≡ onRow (table f) c (field j x)
 table-field f c h len j x k =
     table-change f (set f (c * 522 + j) x) c h (only-set f (c * 522 + j) x (c * 522) 522 (omega arith) (omega arith))
     ∙ rw (row-field f (c * 522) j x k (omega arith), table-read f c h)
@@ -179,12 +184,14 @@ unfolding rowAt
 read-run f c h = rw (table-read f c h)
 
 module _ (f g : List ℕ) (c : ℕ) (h : c ≤ 200) where
-  pub table-set : (T : List (Parse ℕ)) → setAt g (c * 522 + 8) ≡ T → Only f g (c * 522 + 8) 257 → table g ≡ onRow (table f) c (withSet T)
+  pub table-set : (T : List (Parse ℕ)) → setAt g (c * 522 + 8) ≡ T → Only f g (c * 522 + 8) 257 →
+      table g ≡ onRow (table f) c (withSet T)
   table-set T e o =
       table-change f g c h (only-wide (c * 522) 522 (omega arith) (omega arith) o)
       ∙ rw (row-set (c * 522) o, e, table-read f c h)
 
-  pub table-run : (T : List (Parse ℕ)) → setAt g (c * 522 + 265) ≡ T → Only f g (c * 522 + 265) 257 → table g ≡ onRow (table f) c (withRun T)
+  pub table-run : (T : List (Parse ℕ)) → setAt g (c * 522 + 265) ≡ T → Only f g (c * 522 + 265) 257 →
+      table g ≡ onRow (table f) c (withRun T)
   table-run T e o =
       table-change f g c h (only-wide (c * 522) 522 (omega arith) (omega arith) o)
       ∙ rw (row-run (c * 522) o, e, table-read f c h)
@@ -205,16 +212,18 @@ module _ (f g : List ℕ) (c : ℕ) (h : c ≤ 200) where
       }
 
 -- what the use of row d keeps of that row's set
-pub kept-law : (f g : List ℕ) (c d : ℕ) → c ≤ 200 → d ≤ 200 → (b l : ℕ) (a : Associativity) → b ≡ rowOf (table f) d .associativity → a ≡ associativityOf b →
+pub kept-law : (f g : List ℕ) (c d : ℕ) → c ≤ 200 → d ≤ 200 → (b l : ℕ) (a : Associativity) →
+    b ≡ rowOf (table f) d .associativity → a ≡ associativityOf b →
     l ≡ rowOf (table f) d .level → Kept f g (c * 522 + 8) (d * 522 + 8) a l →
     table g ≡ onRow (table f) c (withSet (kept (useAt (rowOf (table f) d)) (rowOf (table f) d .set)))
 kept-law f g c d h k b l a eb ea el K =
     table-set f g c h (kept (useAt (rowOf (table f) d)) (rowOf (table f) d .set))
-    (K .now (useAt (rowOf (table f) d)) (sym (ea ∙ ap associativityOf eb)) (sym el) ∙ ap (kept (useAt (rowOf (table f) d))) (sym (read-set f d k)))
+    (K .now (useAt (rowOf (table f) d)) (sym (ea ∙ ap associativityOf eb)) (sym el)
+    ∙ ap (kept (useAt (rowOf (table f) d))) (sym (read-set f d k)))
     (K .only)
 
 -- a set that is cleared, then gets a parse
-pub set-one : (f g k : List ℕ) (c : ℕ) → c ≤ 200 → (r : Bool) (p : Parse ℕ) → Becomes f g (c * 522 + 8) [] → Appended r g k (c * 522 + 8) p →
-    table k ≡ onRow (table f) c (withSet (p ∷ []))
+pub set-one : (f g k : List ℕ) (c : ℕ) → c ≤ 200 → (r : Bool) (p : Parse ℕ) → Becomes f g (c * 522 + 8) [] →
+    Appended r g k (c * 522 + 8) p → table k ≡ onRow (table f) c (withSet (p ∷ []))
 unfolding appended
 set-one f g k c h r p B A = table-set f k c h (p ∷ []) (A .now ∙ rw (B .now)) (only-trans (B .only) (A .only))

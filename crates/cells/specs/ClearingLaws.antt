@@ -22,14 +22,16 @@ pub record Clearing (f g : List ℕ) (i : ℕ) : Type 0 where
 pub clearing-first : (f : List ℕ) → Clearing f f 0
 clearing-first f = record { done = λ room hash l. absurd (omega arith); below = λ k l. refl; beyond = λ k l. refl }
 
-pub clearing-on : (f g h : List ℕ) (i : ℕ) → i < 1024 → length g ≡ length f → Clearing f g i → h ≡ set g (16384 + i) 0 → Clearing f h (i + 1)
+pub clearing-on : (f g h : List ℕ) (i : ℕ) → i < 1024 → length g ≡ length f → Clearing f g i →
+    h ≡ set g (16384 + i) 0 → Clearing f h (i + 1)
 clearing-on f g h i l lengths so-far e = record {
   done = λ room hash m. rw e (
       by-test (eqb hash i)
       (λ t. rw (eqb-true hash i t) (getD-set-same g (16384 + i) 0 0 (omega arith)))
       (λ t.
       let other = eqb-false hash i t in
-      getD-set-other g (16384 + i) (16384 + hash) 0 0 (λ z. other (omega arith)) ∙ so-far .done room hash (omega (arith, other))));
+      getD-set-other g (16384 + i) (16384 + hash) 0 0 (λ z. other (omega arith))
+      ∙ so-far .done room hash (omega (arith, other))));
   below = λ k m. rw e (getD-set-other g (16384 + i) k 0 0 (λ z. omega arith) ∙ so-far .below k m);
   beyond = λ k m. rw e (getD-set-other g (16384 + i) k 0 0 (λ z. omega arith) ∙ so-far .beyond k m);
 }

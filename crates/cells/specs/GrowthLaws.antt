@@ -19,7 +19,8 @@ use Rattle.semantics.specs.Cells.{Cell, numbersOf, identityOf, findCell}
 use Rattle.semantics.specs.Run.{make}
 use Rattle.cells.specs.declared.numbers.CellNumbers.{CellNumbers}
 use Rattle.cells.specs.declared.store.Made.{Made}
-use Rattle.cells.specs.Store.{listed, hashOf, numbersAt, linkAt, headAt, findIn, pushed, madeAs, madeIn, Leads, here, next, Holds, Making, Makes}
+use Rattle.cells.specs.Store.{listed, hashOf, numbersAt, linkAt, headAt, findIn, pushed, madeAs, madeIn, Leads}
+use Rattle.cells.specs.Store.{here, next, Holds, Making, Makes}
 use Rattle.cells.specs.NumbersLaws.{hash-lt}
 use Rattle.cells.specs.IndexLaws.{finds, not-found}
 
@@ -35,7 +36,8 @@ pub record Pushed (f g : List ℕ) (c : CellNumbers) (n hash : ℕ) : Type 0 whe
   pub links : (i : ℕ) → 0 < i → i < n → linkAt g i ≡ linkAt f i
   pub heads : (i : ℕ) → i < 1024 → (i ≡ hash → ⊥) → headAt g i ≡ headAt f i
 
-module _ (f : List ℕ) (c : CellNumbers) (n hash : ℕ) (room : 17408 ≤ length f) (least : 0 < n) (most : n ≤ 4096) (small : hash < 1024) where
+module _ (f : List ℕ) (c : CellNumbers) (n hash : ℕ) (room : 17408 ≤ length f) (least : 0 < n) (most : n ≤ 4096)
+    (small : hash < 1024) where
   abbrev one : List ℕ
   one = set f (n * 3 - 3) (c .form)
 
@@ -82,23 +84,29 @@ module _ (f : List ℕ) (c : CellNumbers) (n hash : ℕ) (room : 17408 ≤ lengt
         ∙ getD-set-other two (n * 3 - 3 + 2) (n * 3 - 3 + 1) (c .b) 0 (λ e. omega arith)
         ∙ getD-set-same one (n * 3 - 3 + 1) (c .a) 0 (simp length-set (omega arith));
     b = low (n * 3 - 3 + 2) (omega arith) ∙ getD-set-same two (n * 3 - 3 + 2) (c .b) 0 (simp length-set (omega arith));
-    link = past-head (12287 + n) (λ e. omega arith) ∙ getD-set-same three (12287 + n) (headAt f hash) 0 (simp length-set (omega arith));
+    link = past-head (12287 + n) (λ e. omega arith)
+        ∙ getD-set-same three (12287 + n) (headAt f hash) 0 (simp length-set (omega arith));
     head = getD-set-same four (16384 + hash) n 0 (simp length-set (omega arith));
     before = λ i h. low i (omega arith) ∙ past-cell i (inl h);
-    links = λ i l h. past-head (12287 + i) (λ e. omega arith) ∙ past-link (12287 + i) (λ e. omega arith) ∙ past-cell (12287 + i) (inr (omega arith));
-    heads = λ i l h. past-head (16384 + i) (λ e. h (omega arith)) ∙ past-link (16384 + i) (λ e. omega arith) ∙ past-cell (16384 + i) (inr (omega arith));
+    links =
+        λ i l h. past-head (12287 + i) (λ e. omega arith) ∙ past-link (12287 + i) (λ e. omega arith)
+        ∙ past-cell (12287 + i) (inr (omega arith));
+    heads =
+        λ i l h. past-head (16384 + i) (λ e. h (omega arith)) ∙ past-link (16384 + i) (λ e. omega arith)
+        ∙ past-cell (16384 + i) (inr (omega arith));
   }
 
 -- by five stores
 pub pushed-by : (f : List ℕ) (c : CellNumbers) (n hash older : ℕ) → older ≡ headAt f hash → {g₁ g₂ g₃ g₄ g₅ : List ℕ}
-    → g₁ ≡ set f (n * 3 - 3) (c .form) → g₂ ≡ set g₁ (n * 3 - 3 + 1) (c .a) → g₃ ≡ set g₂ (n * 3 - 3 + 2) (c .b) → g₄ ≡ set g₃ (12287 + n) older
-    → g₅ ≡ set g₄ (16384 + hash) n → g₅ ≡ pushed f c n hash
+    → g₁ ≡ set f (n * 3 - 3) (c .form) → g₂ ≡ set g₁ (n * 3 - 3 + 1) (c .a) → g₃ ≡ set g₂ (n * 3 - 3 + 2) (c .b) →
+    g₄ ≡ set g₃ (12287 + n) older → g₅ ≡ set g₄ (16384 + hash) n → g₅ ≡ pushed f c n hash
 unfolding pushed
 pushed-by f c n hash older e e₁ e₂ e₃ e₄ e₅ = rw (e₅, e₄, e₃, e₂, e₁, e)
 
 -- ---- One cell more
-module _ (text f g : List ℕ) (cells : List Cell) (held : Holds text f cells) (cell : Cell) (c : CellNumbers) (numbers : listed c ≡ numbersOf cell)
-    (fits : length cells < 4096) (new : (i : ℕ) → i < length cells → identityOf text cell ≡ identityOf text (getD cells i Cell.empty) → ⊥)
+module _ (text f g : List ℕ) (cells : List Cell) (held : Holds text f cells) (cell : Cell) (c : CellNumbers)
+    (numbers : listed c ≡ numbersOf cell) (fits : length cells < 4096)
+    (new : (i : ℕ) → i < length cells → identityOf text cell ≡ identityOf text (getD cells i Cell.empty) → ⊥)
     (p : Pushed f g c (suc (length cells)) (hashOf text c)) where
   lengths : length (cells ++ (cell ∷ [])) ≡ suc (length cells)
   lengths = length-append cells (cell ∷ []) ∙ omega arith
@@ -130,14 +138,16 @@ module _ (text f g : List ℕ) (cells : List Cell) (held : Holds text f cells) (
   link-still : (n : ℕ) → 0 < n → n ≤ length cells → linkAt g n ≡ linkAt f n
   link-still n h l = p .links n h (omega arith)
 
-  stored-more : (i : ℕ) → (i ≡ length cells) ⊎ (i < length cells) → listed (numbersAt g (suc i)) ≡ numbersOf (getD (cells ++ (cell ∷ [])) i Cell.empty)
+  stored-more : (i : ℕ) → (i ≡ length cells) ⊎ (i < length cells) →
+      listed (numbersAt g (suc i)) ≡ numbersOf (getD (cells ++ (cell ∷ [])) i Cell.empty)
   stored-more i (inl e) = rw (e, last-is) (ap listed numbers-new ∙ numbers)
   stored-more i (inr l) = rw (earlier-is i l) (ap listed (numbers-still (suc i) (omega arith) l) ∙ held .stored i l)
 
   abbrev identity : ℕ → List ℕ
   identity i = identityOf text (getD (cells ++ (cell ∷ [])) i Cell.empty)
 
-  once-more : (i k : ℕ) → (i ≡ length cells) ⊎ (i < length cells) → (k ≡ length cells) ⊎ (k < length cells) → identity i ≡ identity k → i ≡ k
+  once-more : (i k : ℕ) → (i ≡ length cells) ⊎ (i < length cells) → (k ≡ length cells) ⊎ (k < length cells) →
+      identity i ≡ identity k → i ≡ k
   once-more i k (inl x) (inl y) e = x ∙ sym y
   once-more i k (inl x) (inr y) e = absurd (new k y (rw (x, last-is, earlier-is k y) at e))
   once-more i k (inr x) (inl y) e = absurd (new i x (sym (rw (y, last-is, earlier-is i x) at e)))
@@ -152,14 +162,19 @@ module _ (text f g : List ℕ) (cells : List Cell) (held : Holds text f cells) (
   older-more : (n : ℕ) → 0 < n → n ≤ suc (length cells) → linkAt g n < n
   older-more n h l =
       by-test (eqb n (suc (length cells)))
-      (λ t. let e = eqb-true n (suc (length cells)) t in rw (e, p .link) (omega (arith, held .heads (hashOf text c) (hash-lt text c))))
-      (λ t. let e = eqb-false n (suc (length cells)) t in let m : n ≤ length cells = omega (arith, e) in rw (link-still n h m) (held .older n h m))
+      (λ t.
+      let e = eqb-true n (suc (length cells)) t in
+      rw (e, p .link) (omega (arith, held .heads (hashOf text c) (hash-lt text c))))
+      (λ t.
+      let e = eqb-false n (suc (length cells)) t in let m : n ≤ length cells = omega (arith, e) in
+      rw (link-still n h m) (held .older n h m))
 
   leads-still : (m n : ℕ) → Leads f m n → m ≤ length cells → Leads g m n
   leads-still m n here l = here
   leads-still m n (next h d) l =
       let older = held .older m (omega (arith, h)) l in
-      let rest : Leads g (linkAt g m) n = rw (link-still m (omega (arith, h)) l) (leads-still (linkAt f m) n d (omega arith)) in
+      let rest : Leads g (linkAt g m) n =
+      rw (link-still m (omega (arith, h)) l) (leads-still (linkAt f m) n d (omega arith)) in
       next h rest
 
   -- a chain that led from its head does so still
@@ -180,7 +195,8 @@ module _ (text f g : List ℕ) (cells : List Cell) (held : Holds text f cells) (
       (λ t.
       let e = eqb-false n (suc (length cells)) t in
       let m : n ≤ length cells = omega (arith, e) in
-      rw (numbers-still n h m) (leads-more (hashOf text (numbersAt f n)) n (hash-lt text (numbersAt f n)) (held .reached n h m)))
+      rw (numbers-still n h m) (leads-more (hashOf text (numbersAt f n)) n
+      (hash-lt text (numbersAt f n)) (held .reached n h m)))
 
   pub holds-more : Holds text g (cells ++ (cell ∷ []))
   holds-more = record {
@@ -194,7 +210,8 @@ module _ (text f g : List ℕ) (cells : List Cell) (held : Holds text f cells) (
   }
 
 -- ---- `make`
-module _ (text store : List ℕ) (cells : List Cell) (held : Holds text store cells) (cell : Cell) (c : CellNumbers) (numbers : listed c ≡ numbersOf cell) where
+module _ (text store : List ℕ) (cells : List Cell) (held : Holds text store cells) (cell : Cell) (c : CellNumbers)
+    (numbers : listed c ≡ numbersOf cell) where
   abbrev sought : ℕ
   sought = findIn text store c (length cells) (headAt store (hashOf text c))
 
@@ -212,14 +229,17 @@ module _ (text store : List ℕ) (cells : List Cell) (held : Holds text store ce
       }
 
   making-new : sought ≡ 0 → length cells < 4096
-      → Making text (pushed store c (suc (length cells)) (hashOf text c)) cells cell (Made.At (suc (length cells)) (suc (length cells)))
+      → Making text (pushed store c (suc (length cells)) (hashOf text c)) cells cell
+      (Made.At (suc (length cells)) (suc (length cells)))
   unfolding make
   making-new h fits =
       let t = lt-ltb (length cells) (suc (length cells)) (omega arith) in
-      let p = has-pushed store c (suc (length cells)) (hashOf text c) (held .room) (omega arith) fits (hash-lt text c) in
+      let p =
+      has-pushed store c (suc (length cells)) (hashOf text c) (held .room) (omega arith) fits (hash-lt text c) in
       record {
         is = λ s e. rw (e, finds-it, eq-eqb sought 0 h, lt-ltb (length cells) 4096 fits, t);
-        holds = rw t (holds-more text store _ cells held cell c numbers fits (not-found text store cells held cell c numbers h) p);
+        holds = rw t (holds-more text store _ cells held cell c numbers fits
+            (not-found text store cells held cell c numbers h) p);
         count = rw t (sym (length-append cells (cell ∷ []) ∙ omega arith));
       }
 
@@ -239,7 +259,8 @@ module _ (text store : List ℕ) (cells : List Cell) (held : Holds text store ce
       by-test (ltb (length cells) 4096)
       (λ t. rw (le-ltb 0 sought (omega arith), t, add-one) (making-new none (ltb-true (length cells) 4096 t)))
       (λ t. rw (le-ltb 0 sought (omega arith), t) (making-full none (ltb-false (length cells) 4096 t))))
-      (λ z. let some-cell = eqb-false sought 0 z in rw (lt-ltb 0 sought (omega (arith, some-cell))) (making-found some-cell))
+      (λ z.
+      let some-cell = eqb-false sought 0 z in rw (lt-ltb 0 sought (omega (arith, some-cell))) (making-found some-cell))
 
 module _ (text f : List ℕ) (count : ℕ) (c : CellNumbers) where
   pushed-beyond : (n hash i : ℕ) → n ≤ 4096 → hash < 1024 → 17408 ≤ i → getD (pushed f c n hash) i 0 ≡ getD f i 0
@@ -261,10 +282,13 @@ module _ (text f : List ℕ) (count : ℕ) (c : CellNumbers) where
       (λ t. rw t)
       (λ t.
       by-test (ltb count 4096)
-      (λ u. let fits = ltb-true count 4096 u in rw (t, u) (pushed-beyond (count + 1) (hashOf text c) i (omega arith) (hash-lt text c) h))
+      (λ u.
+      let fits = ltb-true count 4096 u in
+      rw (t, u) (pushed-beyond (count + 1) (hashOf text c) i (omega arith) (hash-lt text c) h))
       (λ u. rw (t, u)))
 
-  makes : (g : List ℕ) (r : Made) → r ≡ madeIn text f count c .0 → g ≡ madeIn text f count c .1 → Makes text f g count c r
+  makes : (g : List ℕ) (r : Made) → r ≡ madeIn text f count c .0 →
+      g ≡ madeIn text f count c .1 → Makes text f g count c r
   makes g r e s = record {
     is = e;
     store = s;
@@ -273,7 +297,8 @@ module _ (text f : List ℕ) (count : ℕ) (c : CellNumbers) where
   }
 
   -- by the code's way to what was made
-  module _ (hash first n : ℕ) (h : hash ≡ hashOf text c) (e : first ≡ headAt f hash) (found : n ≡ findIn text f c count first) where
+  module _ (hash first n : ℕ) (h : hash ≡ hashOf text c) (e : first ≡ headAt f hash)
+      (found : n ≡ findIn text f c count first) where
     way : n ≡ findIn text f c count (headAt f (hashOf text c))
     way = found ∙ ap (findIn text f c count) (e ∙ ap (headAt f) h)
 
@@ -281,7 +306,8 @@ module _ (text f : List ℕ) (count : ℕ) (c : CellNumbers) where
     makes-found l = let t = lt-ltb 0 n l in makes f (Made.At n count) (rw (← way, t)) (rw (← way, t))
 
     module _ (none : n ≤ 0) where
-      pub makes-new : count < 4096 → (g : List ℕ) → g ≡ pushed f c (count + 1) hash → Makes text f g count c (Made.At (count + 1) (count + 1))
+      pub makes-new : count < 4096 → (g : List ℕ) → g ≡ pushed f c (count + 1) hash →
+          Makes text f g count c (Made.At (count + 1) (count + 1))
       makes-new l g p =
           let t = le-ltb 0 n none in
           let u = lt-ltb count 4096 l in

@@ -32,20 +32,26 @@ module _ (text : List ℕ) (c : CellNumbers) where
   unfolding identityIn
   identity-other h = rw (ne-eqb (c .form) 4 h)
 
-pub identity-numbers : (text : List ℕ) (cell : Cell) (c : CellNumbers) → listed c ≡ numbersOf cell → identityIn text c ≡ identityOf text cell
+pub identity-numbers : (text : List ℕ) (cell : Cell) (c : CellNumbers) → listed c ≡ numbersOf cell →
+    identityIn text c ≡ identityOf text cell
 unfolding identityOf numbersOf
 identity-numbers text Cell.empty c e = let form : c .form ≡ 1 = cc in identity-other text c (λ z. omega arith) ∙ e
-identity-numbers text (Cell.chain items item) c e = let form : c .form ≡ 2 = cc in identity-other text c (λ z. omega arith) ∙ e
-identity-numbers text (Cell.variant j items) c e = let form : c .form ≡ 3 = cc in identity-other text c (λ z. omega arith) ∙ e
+identity-numbers text (Cell.chain items item) c e =
+    let form : c .form ≡ 2 = cc in identity-other text c (λ z. omega arith) ∙ e
+identity-numbers text (Cell.variant j items) c e =
+    let form : c .form ≡ 3 = cc in identity-other text c (λ z. omega arith) ∙ e
 identity-numbers text (Cell.name place size) c e =
     let form : c .form ≡ 4 = cc in
     let places : c .a ≡ place = cc in
     let sizes : c .b ≡ size = cc in
     identity-name text c form ∙ rw (places, sizes)
-identity-numbers text (Cell.number high low) c e = let form : c .form ≡ 5 = cc in identity-other text c (λ z. omega arith) ∙ e
-identity-numbers text (Cell.variable i kind) c e = let form : c .form ≡ 6 = cc in identity-other text c (λ z. omega arith) ∙ e
+identity-numbers text (Cell.number high low) c e =
+    let form : c .form ≡ 5 = cc in identity-other text c (λ z. omega arith) ∙ e
+identity-numbers text (Cell.variable i kind) c e =
+    let form : c .form ≡ 6 = cc in identity-other text c (λ z. omega arith) ∙ e
 identity-numbers text Cell.absent c e = let form : c .form ≡ 7 = cc in identity-other text c (λ z. omega arith) ∙ e
-identity-numbers text (Cell.list items) c e = let form : c .form ≡ 8 = cc in identity-other text c (λ z. omega arith) ∙ e
+identity-numbers text (Cell.list items) c e =
+    let form : c .form ≡ 8 = cc in identity-other text c (λ z. omega arith) ∙ e
 
 -- ---- Equality
 module _ (text : List ℕ) (c d : CellNumbers) where
@@ -78,7 +84,9 @@ module _ (text : List ℕ) (c d : CellNumbers) where
 
       pub same-b : c .a ≡ d .a → sameIn text c d ≡ eqb (c .b) (d .b)
       unfolding same
-      same-b e = by-numbers ∙ rw (eq-eqb (c .form) (d .form) forms, eq-eqb (c .a) (d .a) e) (by-test (eqb (c .b) (d .b)) (λ t. rw t) (λ t. rw t))
+      same-b e =
+          by-numbers ∙ rw (eq-eqb (c .form) (d .form) forms, eq-eqb (c .a) (d .a) e)
+          (by-test (eqb (c .b) (d .b)) (λ t. rw t) (λ t. rw t))
 
 -- ---- Hashes
 hash-from-lt : (hash : ℕ) (xs : List ℕ) → hash < 1024 → hashFrom hash xs < 1024
@@ -90,7 +98,8 @@ pub hash-lt : (text : List ℕ) (c : CellNumbers) → hashOf text c < 1024
 hash-lt text c = hash-from-lt 0 _ (omega arith)
 
 module _ (hash : ℕ) (bytes : List ℕ) (i : ℕ) where
-  pub hash-on : i < length bytes → hashFrom hash (drop i bytes) ≡ hashFrom (mixed hash (getD bytes i 0)) (drop (i + 1) bytes)
+  pub hash-on : i < length bytes →
+      hashFrom hash (drop i bytes) ≡ hashFrom (mixed hash (getD bytes i 0)) (drop (i + 1) bytes)
   unfolding hashFrom
   hash-on h = rw (drop-cons bytes i 0 h, add-one, hashFrom)
 

@@ -26,10 +26,12 @@ numbers-taken (c ∷ cells) (x ∷ []) room h = absurd (omega arith)
 numbers-taken (c ∷ cells) (x ∷ y ∷ []) room h = absurd (omega arith)
 numbers-taken (c ∷ cells) (x ∷ y ∷ z ∷ l) room h =
     let three : 3 * suc (length cells) ≡ suc (suc (suc (3 * length cells))) = omega arith in
-    let rest : take (3 * length cells) l ≡ cellNumbers cells = numbers-taken cells l (omega arith) (λ i m. later i (h (suc i) (omega arith))) in
+    let rest : take (3 * length cells) l ≡ cellNumbers cells =
+    numbers-taken cells l (omega arith) (λ i m. later i (h (suc i) (omega arith))) in
     rw (three, rest) (ap (λ (these : List ℕ). these ++ cellNumbers cells) (h 0 (omega arith)))
   where
-    later : (i : ℕ) → threeAt (x ∷ y ∷ z ∷ l) (suc i) ≡ numbersOf (getD cells i Cell.empty) → threeAt l i ≡ numbersOf (getD cells i Cell.empty)
+    later : (i : ℕ) → threeAt (x ∷ y ∷ z ∷ l) (suc i) ≡ numbersOf (getD cells i Cell.empty) →
+        threeAt l i ≡ numbersOf (getD cells i Cell.empty)
     later i e =
         let first : 3 * suc i ≡ suc (suc (suc (3 * i))) = omega arith in
         let second : 3 * suc i + 1 ≡ suc (suc (suc (3 * i + 1))) = omega arith in
@@ -45,4 +47,5 @@ module _ (text store : List ℕ) (cells : List Cell) (held : Holds text store ce
 
   pub stored-cells : storedCells store (length cells) ≡ cells
   unfolding cellsIn
-  stored-cells = rw stored-numbers (ap cellsIn (sym (append-nil (cellNumbers cells))) ∙ cells-in cells [] ∙ append-nil cells)
+  stored-cells =
+      rw stored-numbers (ap cellsIn (sym (append-nil (cellNumbers cells))) ∙ cells-in cells [] ∙ append-nil cells)

@@ -66,5 +66,7 @@ unfolding classOf
 above-space b h =
     let a : between 9 13 b ≡ false = rw (le-leb 9 b (omega arith), lt-leb b 13 (omega arith)) in
     by-test (between 48 57 b) (λ t. rw (a, ne-eqb b 32 (λ e. omega (arith, e)), t)) (λ t.
-    by-test (between 65 90 b || between 97 122 b || eqb b 95) (λ u. rw (a, ne-eqb b 32 (λ e. omega (arith, e)), t, u)) (λ u.
-    by-test (leb 128 b) (λ v. rw (a, ne-eqb b 32 (λ e. omega (arith, e)), t, u, v)) (λ v. rw (a, ne-eqb b 32 (λ e. omega (arith, e)), t, u, v))))
+    by-test (between 65 90 b || between 97 122 b || eqb b 95)
+    (λ u. rw (a, ne-eqb b 32 (λ e. omega (arith, e)), t, u)) (λ u.
+    by-test (leb 128 b) (λ v. rw (a, ne-eqb b 32 (λ e. omega (arith, e)), t, u, v))
+    (λ v. rw (a, ne-eqb b 32 (λ e. omega (arith, e)), t, u, v))))

@@ -34,7 +34,8 @@ module _ (text : List ℕ) (place : ℕ) where
       by-test (ltb place (length text)) (λ t. ltb-true _ _ t)
       (λ t. clash e (rw (List·getD-eq-default text 0 (ltb-false place (length text) t))))
 
-  pub identifier-letter : isOf Letter (getD text place 0) ≡ true → identifierAt text place ≡ Identifier.Ends (spanEnd Word text (place + 1))
+  pub identifier-letter : isOf Letter (getD text place 0) ≡ true →
+      identifierAt text place ≡ Identifier.Ends (spanEnd Word text (place + 1))
   unfolding identifierAt
   identifier-letter e = rw e
 
@@ -47,13 +48,16 @@ module _ (text : List ℕ) (place : ℕ) where
   identifier-out h =
       by-test (isOf Letter (getD text place 0)) (λ e. absurd (omega (arith, letter-inside e))) (λ e. identifier-none e)
 
-  pub identifier-bounds : (end : ℕ) → identifierAt text place ≡ Identifier.Ends end → (place < end) × (end ≤ length text)
+  pub identifier-bounds : (end : ℕ) → identifierAt text place ≡ Identifier.Ends end →
+      (place < end) × (end ≤ length text)
   identifier-bounds end e =
       by-test (isOf Letter (getD text place 0))
       (λ t. let inside = letter-inside t in
       let l = identifier-letter t in
-      let q : spanEnd Word text (place + 1) ≡ end = cc in
-      (omega (arith, span-forward Word text (place + 1)), omega (arith, span-within Word text (place + 1) (omega arith))))
+      let q : spanEnd Word text (place + 1) ≡ end = cc in (
+        omega (arith, span-forward Word text (place + 1)),
+        omega (arith, span-within Word text (place + 1) (omega arith)),
+      ))
       (λ t. let n = identifier-none t in let z : _≡_ {A = ℕ} 0 1 = cc in absurd (omega arith))
 
 -- ---- Numbers
@@ -68,7 +72,8 @@ unfolding decimal
 decimal-on value digits i h = rw (drop-cons digits i 0 h, add-one)
 
 -- a value that is too large after a digit stays so
-pub decimal-large : (value : ℕ) (digits : List ℕ) (i : ℕ) → i < length digits → largest < value * 10 + (getD digits i 0 - 48) → largest < decimal value (drop i digits)
+pub decimal-large : (value : ℕ) (digits : List ℕ) (i : ℕ) → i < length digits →
+    largest < value * 10 + (getD digits i 0 - 48) → largest < decimal value (drop i digits)
 decimal-large value digits i h l =
     let g = decimal-grows (value * 10 + (getD digits i 0 - 48)) (drop (i + 1) digits) in
     rw (decimal-on value digits i h) (omega arith)
@@ -104,16 +109,22 @@ module _ (text : List ℕ) (place : ℕ) where
   number-out h = number-none (span-out Digits text place h)
 
   pub number-some : (spanEnd Digits text place ≡ place → ⊥) →
-      numberAt text place ≡ numberOf (decimal 0 (partOf text place (spanEnd Digits text place - place))) (spanEnd Digits text place)
+      numberAt text place
+      ≡ numberOf (decimal 0 (partOf text place (spanEnd Digits text place - place))) (spanEnd Digits text place)
   unfolding numberAt
   number-some h = rw (ne-eqb (spanEnd Digits text place) place h)
 
-  pub number-bounds : (value end : ℕ) → numberAt text place ≡ Number.Value value end → (place < end) × (end ≤ length text) × (value < 2 ^ 64)
+  pub number-bounds : (value end : ℕ) → numberAt text place ≡ Number.Value value end →
+      (place < end) × (end ≤ length text) × (value < 2 ^ 64)
   number-bounds value end e =
       by-test (eqb (spanEnd Digits text place) place)
       (λ t. let n = number-none (eqb-true _ _ t) in let z : _≡_ {A = ℕ} 0 1 = cc in absurd (omega arith))
       (λ t. let moved = eqb-false (spanEnd Digits text place) place t in
-      let told = number-told (decimal 0 (partOf text place (spanEnd Digits text place - place))) (spanEnd Digits text place) value end (sym (number-some moved) ∙ e) in
+      let told =
+      number-told (decimal 0 (partOf text place (spanEnd Digits text place - place))) (spanEnd Digits text place) value
+      end (sym (number-some moved) ∙ e) in
       let forward = span-forward Digits text place in
-      let inside : place ≤ length text = by-test (ltb place (length text)) (λ l. omega (arith, ltb-true place (length text) l)) (λ l. absurd (moved (span-out Digits text place (ltb-false place (length text) l)))) in
+      let inside : place ≤ length text =
+      by-test (ltb place (length text)) (λ l. omega (arith, ltb-true place (length text) l))
+      (λ l. absurd (moved (span-out Digits text place (ltb-false place (length text) l)))) in
       (omega (arith, moved), omega (arith, span-within Digits text place inside), told .0))

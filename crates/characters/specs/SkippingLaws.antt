@@ -21,7 +21,8 @@ use borrow.Author.Tests.{lt-ltb, le-ltb, eq-eqb, ne-eqb, eqb-true, eqb-false, lt
 use Rattle.characters.specs.Cases.{by-test, clash}
 use Rattle.characters.specs.ClassLaws.{above-space}
 use Rattle.characters.specs.Classes.{isOf, classOf}
-use Rattle.characters.specs.Skipping.{belongs, leading, spanEnd, commentAt, commentEnd, roundEnd, skipRounds, skipFrom}
+use Rattle.characters.specs.Skipping.{belongs, leading, spanEnd, commentAt, commentEnd, roundEnd, skipRounds}
+use Rattle.characters.specs.Skipping.{skipFrom}
 use Rattle.characters.specs.declared.classes.Class.the-variants.{Whitespace}
 use Rattle.characters.specs.declared.skipping.Span.{Span}
 use Rattle.characters.specs.declared.skipping.Span.the-variants.{Spaces, Line}
@@ -49,7 +50,8 @@ module _ (test : ℕ → Bool) where
   leading-all [] i h = absurd (omega arith)
   leading-all (b ∷ bs) zero h = by-test (test b) (λ e. e) (λ e. absurd (omega (arith, leading-stop b bs e)))
   leading-all (b ∷ bs) (suc i) h =
-      by-test (test b) (λ e. leading-all bs i (omega (arith, leading-on b bs e))) (λ e. absurd (omega (arith, leading-stop b bs e)))
+      by-test (test b) (λ e. leading-all bs i (omega (arith, leading-on b bs e)))
+      (λ e. absurd (omega (arith, leading-stop b bs e)))
 
   -- and the next one doesn't
   leading-longest : (bs : List ℕ) → leading test bs < length bs → test (getD bs (leading test bs) 0) ≡ false
@@ -62,11 +64,13 @@ module _ (test : ℕ → Bool) where
 
 -- ---- Spans
 module _ (span : Span) (text : List ℕ) (place : ℕ) where
-  pub span-on : place < length text → belongs span (getD text place 0) ≡ true → spanEnd span text place ≡ spanEnd span text (place + 1)
+  pub span-on : place < length text → belongs span (getD text place 0) ≡ true →
+      spanEnd span text place ≡ spanEnd span text (place + 1)
   unfolding spanEnd
   span-on h e =
       let d : leading (belongs span) (drop place text) ≡ suc (leading (belongs span) (drop (place + 1) text)) =
-      rw (add-one, drop-cons text place 0 h) (leading-on (belongs span) (getD text place 0) (drop (suc place) text) e) in
+      rw (add-one, drop-cons text place 0 h)
+      (leading-on (belongs span) (getD text place 0) (drop (suc place) text) e) in
       omega arith
 
   pub span-stop : place < length text → belongs span (getD text place 0) ≡ false → spanEnd span text place ≡ place
@@ -93,10 +97,12 @@ module _ (span : Span) (text : List ℕ) (place : ℕ) where
   unfolding spanEnd
   span-all i h l =
       let k : place + (i - place) ≡ i = omega arith in
-      let t : belongs span (getD (drop place text) (i - place) 0) ≡ true = leading-all (belongs span) (drop place text) (i - place) (omega arith) in
+      let t : belongs span (getD (drop place text) (i - place) 0) ≡ true =
+      leading-all (belongs span) (drop place text) (i - place) (omega arith) in
       rw (getD-drop place text (i - place) 0, k) at t
 
-  pub span-longest : spanEnd span text place < length text → belongs span (getD text (spanEnd span text place) 0) ≡ false
+  pub span-longest : spanEnd span text place < length text →
+      belongs span (getD text (spanEnd span text place) 0) ≡ false
   unfolding spanEnd
   span-longest h =
       let t : belongs span (getD (drop place text) (leading (belongs span) (drop place text)) 0) ≡ false =
@@ -122,10 +128,12 @@ module _ (text : List ℕ) (place : ℕ) where
   unfolding commentEnd
   comment-within l =
       let h = span-within Line text place l in
-      by-test (ltb (spanEnd Line text place) (length text)) (λ e. rw e (omega (arith, ltb-true (spanEnd Line text place) (length text) e))) (λ e. rw e h)
+      by-test (ltb (spanEnd Line text place) (length text))
+      (λ e. rw e (omega (arith, ltb-true (spanEnd Line text place) (length text) e))) (λ e. rw e h)
 
   -- through the line feed, or to the end
-  pub comment-on : place < length text → eqb (getD text place 0) 10 ≡ false → commentEnd text place ≡ commentEnd text (place + 1)
+  pub comment-on : place < length text → eqb (getD text place 0) 10 ≡ false →
+      commentEnd text place ≡ commentEnd text (place + 1)
   unfolding commentEnd
   comment-on h e = rw (span-on Line text place h (ap not e))
 
@@ -159,7 +167,8 @@ module _ (text : List ℕ) (place : ℕ) where
 
 -- ---- Rounds
 module _ (text : List ℕ) (place : ℕ) where
-  pub round-comment : commentAt text (spanEnd Spaces text place) ≡ true → roundEnd text place ≡ commentEnd text (spanEnd Spaces text place)
+  pub round-comment : commentAt text (spanEnd Spaces text place) ≡ true →
+      roundEnd text place ≡ commentEnd text (spanEnd Spaces text place)
   unfolding roundEnd
   round-comment e = rw (e, roundEnd)
 
@@ -218,7 +227,9 @@ module _ (text : List ℕ) (place : ℕ) where
       let s = round-no-space r in
       let f = span-forward Spaces text (place + 1) in
       by-test (ltb place (length text))
-      (λ t. by-test (isOf Whitespace (getD text place 0)) (λ e. absurd (omega (arith, span-on Spaces text place (ltb-true place (length text) t) e))) (λ e. e))
+      (λ t.
+      by-test (isOf Whitespace (getD text place 0))
+      (λ e. absurd (omega (arith, span-on Spaces text place (ltb-true place (length text) t) e))) (λ e. e))
       (λ t. rw (List·getD-eq-default text 0 (ltb-false place (length text) t)))
 
 -- ---- Skipping
@@ -228,20 +239,27 @@ module _ (text : List ℕ) where
   skip-rounds-stop zero place r = refl
   skip-rounds-stop (suc n) place r = rw (eq-eqb (roundEnd text place) place r, skipRounds)
 
-  pub skip-rounds-on : (n place : ℕ) → (roundEnd text place ≡ place → ⊥) → skipRounds (suc n) text place ≡ skipRounds n text (roundEnd text place)
+  pub skip-rounds-on : (n place : ℕ) → (roundEnd text place ≡ place → ⊥) →
+      skipRounds (suc n) text place ≡ skipRounds n text (roundEnd text place)
   unfolding skipRounds
   skip-rounds-on n place r = rw (ne-eqb (roundEnd text place) place r, skipRounds)
 
   -- as many rounds as bytes are left are enough
-  enough : (n m place : ℕ) → length text ≤ place + n → length text ≤ place + m → skipRounds n text place ≡ skipRounds m text place
-  enough zero m place h k = skip-rounds-stop zero place (round-out text place (omega arith)) ∙ sym (skip-rounds-stop m place (round-out text place (omega arith)))
-  enough (suc n) zero place h k = skip-rounds-stop (suc n) place (round-out text place (omega arith)) ∙ sym (skip-rounds-stop zero place (round-out text place (omega arith)))
+  enough : (n m place : ℕ) → length text ≤ place + n → length text ≤ place + m →
+      skipRounds n text place ≡ skipRounds m text place
+  enough zero m place h k =
+      skip-rounds-stop zero place (round-out text place (omega arith))
+      ∙ sym (skip-rounds-stop m place (round-out text place (omega arith)))
+  enough (suc n) zero place h k =
+      skip-rounds-stop (suc n) place (round-out text place (omega arith))
+      ∙ sym (skip-rounds-stop zero place (round-out text place (omega arith)))
   enough (suc n) (suc m) place h k =
       let f = round-forward text place in
       by-test (eqb (roundEnd text place) place)
       (λ e. skip-rounds-stop (suc n) place (eqb-true _ _ e) ∙ sym (skip-rounds-stop (suc m) place (eqb-true _ _ e)))
       (λ e. let ne = eqb-false (roundEnd text place) place e in
-      skip-rounds-on n place ne ∙ enough n m (roundEnd text place) (omega (arith, ne)) (omega (arith, ne)) ∙ sym (skip-rounds-on m place ne))
+      skip-rounds-on n place ne ∙ enough n m (roundEnd text place) (omega (arith, ne)) (omega (arith, ne))
+      ∙ sym (skip-rounds-on m place ne))
 
   -- "repeat until a round drops nothing": these two laws say that the definition's rounds never run out
   pub skip-stop : (place : ℕ) → roundEnd text place ≡ place → skipFrom text place ≡ place
@@ -254,7 +272,9 @@ module _ (text : List ℕ) where
       let f = round-forward text place in
       by-test (eqb (roundEnd text place) place)
       (λ e. ap (λ (p : ℕ). skipRounds (length text) text p) (sym (eqb-true _ _ e)))
-      (λ e. enough (length text) (suc (length text)) place (omega arith) (omega arith) ∙ skip-rounds-on (length text) place (eqb-false _ _ e))
+      (λ e.
+      enough (length text) (suc (length text)) place (omega arith) (omega arith)
+      ∙ skip-rounds-on (length text) place (eqb-false _ _ e))
 
   skip-rounds-forward : (n place : ℕ) → place ≤ skipRounds n text place
   unfolding skipRounds
@@ -275,14 +295,17 @@ module _ (text : List ℕ) where
       (λ e. omega (arith, skip-rounds-stop (suc n) place (eqb-true _ _ e)))
       (λ e. omega (arith, skip-rounds-on n place (eqb-false _ _ e)))
 
-  skip-rounds-still : (n place : ℕ) → length text ≤ place + n → roundEnd text (skipRounds n text place) ≡ skipRounds n text place
+  skip-rounds-still : (n place : ℕ) → length text ≤ place + n →
+      roundEnd text (skipRounds n text place) ≡ skipRounds n text place
   unfolding skipRounds
   skip-rounds-still zero place h = round-out text place (omega arith)
   skip-rounds-still (suc n) place h =
       let f = round-forward text place in
       by-test (eqb (roundEnd text place) place)
       (λ e. rw (skip-rounds-stop (suc n) place (eqb-true _ _ e)) (eqb-true _ _ e))
-      (λ e. let ne = eqb-false (roundEnd text place) place e in rw (skip-rounds-on n place ne) (skip-rounds-still n (roundEnd text place) (omega (arith, ne))))
+      (λ e.
+      let ne = eqb-false (roundEnd text place) place e in
+      rw (skip-rounds-on n place ne) (skip-rounds-still n (roundEnd text place) (omega (arith, ne))))
 
 module _ (text : List ℕ) (place : ℕ) where
   -- skipping never goes back

@@ -27,7 +27,8 @@ module _ (bytes : List ℕ) (start size : ℕ) where
   pub part-rest : length bytes - start ≤ size → take (length bytes - start) (drop start bytes) ≡ partOf bytes start size
   part-rest h =
       let l = length-drop start bytes in
-      take-all (length bytes - start) (drop start bytes) (omega arith) ∙ sym (take-all size (drop start bytes) (omega arith))
+      take-all (length bytes - start) (drop start bytes) (omega arith)
+      ∙ sym (take-all size (drop start bytes) (omega arith))
 
 -- ---- Equality
 -- the test tells whether the two lists are equal

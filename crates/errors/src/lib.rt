@@ -38,8 +38,8 @@ pub const NONTERMINAL_WANTED: u32 = 11;
 
 pub const MORE_WANTED: u32 = 12;
 
-// The place, which is compared, stands between the two numbers that are only handed on: side by side these would be read
-// as one number of 64 bits, and the reading waits until both were written (docs/PERFORMANCE.md).
+// The place, which is compared, stands between the two numbers that are only handed on: side by side these would be
+// read as one number of 64 bits, and the reading waits until both were written (docs/PERFORMANCE.md).
 pub struct Error {
     pub kind: u32,
     pub place: u32,

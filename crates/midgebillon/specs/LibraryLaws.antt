@@ -22,11 +22,13 @@ use Rattle.run.specs.declared.reader.Answer as code
 use Rattle.printing.specs.Printing.{lineBytes, refusedLine}
 use Rattle.printing.specs.Lines.{Prints}
 use Rattle.printing.specs.declared.line.Length.{Length}
-use Rattle.midgebillon.specs.Library.{answerAt, storing, ReadInto, isAnswer, namesOf, lineFor, PrintsInto, lengthOf}
+use Rattle.midgebillon.specs.Library.{answerAt, storing, ReadInto, isAnswer, namesOf, lineFor, PrintsInto}
+use Rattle.midgebillon.specs.Library.{lengthOf}
 
 -- ---- Reading
 -- the numbers stored are read back, and those behind them stay
-stored : (a : code.Answer) (l : List ℕ) → 7 ≤ length l → (answerAt (storing a l) ≡ answerIn a) × (drop 7 (storing a l) ≡ drop 7 l)
+stored : (a : code.Answer) (l : List ℕ) → 7 ≤ length l →
+    (answerAt (storing a l) ≡ answerIn a) × (drop 7 (storing a l) ≡ drop 7 l)
 stored a [] h = absurd (omega arith)
 stored a (x ∷ []) h = absurd (omega arith)
 stored a (x ∷ y ∷ []) h = absurd (omega arith)
@@ -41,14 +43,14 @@ module _ (bytes text : List ℕ) (start allowance : ℕ) (cells parses numbers :
   untouched h = record { few = λ k. (refl, refl, refl); reads = λ k. absurd (omega (arith, h, k)); behind = refl }
 
   pub answers : (cells′ parses′ numbers′ : List ℕ) (a : code.Answer) → 7 ≤ length numbers →
-      Reads bytes text start (answerOf cells parses bytes text start allowance) (answered a cells′ parses′) → numbers′ ≡ storing a numbers →
-      ReadInto bytes text start allowance cells cells′ parses parses′ numbers numbers′
+      Reads bytes text start (answerOf cells parses bytes text start allowance) (answered a cells′ parses′) →
+      numbers′ ≡ storing a numbers → ReadInto bytes text start allowance cells cells′ parses parses′ numbers numbers′
   answers cells′ parses′ numbers′ a h r e =
       subst (λ (l : List ℕ). ReadInto bytes text start allowance cells cells′ parses parses′ numbers l) (sym e)
       (record {
         few = λ k. absurd (omega (arith, h, k));
-        reads = λ k. subst (λ x. Reads bytes text start (answerOf cells parses bytes text start allowance) (record { answer = x; cells = cells′; parses = parses′ }))
-            (sym (stored a numbers h .0)) r;
+        reads = λ k. subst (λ x. Reads bytes text start (answerOf cells parses bytes text start allowance)
+            (record { answer = x; cells = cells′; parses = parses′ })) (sym (stored a numbers h .0)) r;
         behind = stored a numbers h .1;
       })
 
@@ -56,11 +58,13 @@ module _ (bytes text : List ℕ) (start allowance : ℕ) (cells parses numbers :
 -- no line is empty, so that the length 0 says that there is none
 pub some-line : (names : List Entry) (text cells : List ℕ) (a : Answer) → 0 < length (lineBytes names text cells a)
 unfolding lineBytes refusedLine
-some-line names text cells a = by-test (eqb (a .refusal) 0) (λ t. rw (t, lineBytes) (omega arith)) (λ t. rw (t, lineBytes) (omega arith))
+some-line names text cells a =
+    by-test (eqb (a .refusal) 0) (λ t. rw (t, lineBytes) (omega arith)) (λ t. rw (t, lineBytes) (omega arith))
 
 -- no line: nothing is written
 nothing : (out : List ℕ) → PrintsInto [] out out 0
-nothing out = record { size-is = rw (le-leb 0 (length out) (omega arith)); out-is = rw (le-leb 0 (length out) (omega arith)) }
+nothing out =
+    record { size-is = rw (le-leb 0 (length out) (omega arith)); out-is = rw (le-leb 0 (length out) (omega arith)) }
 
 -- a line that is printed as a whole or not at all
 whole : (line out out′ : List ℕ) (r : Length) → Prints line out out′ r → PrintsInto line out out′ (lengthOf r)
@@ -74,12 +78,14 @@ whole line out out′ r p =
     record { size-is = rw (t, e); out-is = rw (t, e) (p .out-is ∙ rw t) })
 
 -- the line of a refusal names nothing of the book
-names-unused : (names names′ : List Entry) (text cells : List ℕ) (a : Answer) → (a .refusal ≡ 0 → ⊥) → lineBytes names text cells a ≡ lineBytes names′ text cells a
+names-unused : (names names′ : List Entry) (text cells : List ℕ) (a : Answer) → (a .refusal ≡ 0 → ⊥) →
+    lineBytes names text cells a ≡ lineBytes names′ text cells a
 unfolding lineBytes
 names-unused names names′ text cells a h = rw (ne-eqb (a .refusal) 0 h, lineBytes)
 
 -- a value's book is accepted
-value-accepted : (v : Verdict) (cells : List ℕ) (a : Answer) → isAnswer v cells a ≡ true → a .refusal ≡ 0 → v ≡ Verdict.Accepted
+value-accepted : (v : Verdict) (cells : List ℕ) (a : Answer) → isAnswer v cells a ≡ true →
+    a .refusal ≡ 0 → v ≡ Verdict.Accepted
 value-accepted Verdict.Accepted cells a t e = refl
 value-accepted (Verdict.Refused number place) cells a t e = clash t (rw (eq-eqb (a .refusal) 0 e))
 
@@ -88,15 +94,17 @@ module _ (bytes text cells numbers out : List ℕ) where
   few-numbers h = rw (lt-leb 7 (length numbers) h) (nothing out)
 
   -- the numbers are an answer by the code's test, of the verdict on the book
-  module _ (index index′ : List ℕ) (v : Verdict) (a : code.Answer) (test : Bool) (enough : 7 ≤ length numbers) (is : answerIn a ≡ answerAt numbers)
-      (checked : CheckedInto bytes index index′ v) (long : 1091 ≤ length index) (judged : test ≡ isAnswer v cells (answerIn a)) where
+  module _ (index index′ : List ℕ) (v : Verdict) (a : code.Answer) (test : Bool) (enough : 7 ≤ length numbers)
+      (is : answerIn a ≡ answerAt numbers) (checked : CheckedInto bytes index index′ v) (long : 1091 ≤ length index)
+      (judged : test ≡ isAnswer v cells (answerIn a)) where
     verdict-is : v ≡ verdict (checkBook bytes)
     verdict-is = checked .says .case ∙ rw (le-ltb (length index) 1091 long)
 
     tested : leb 7 (length numbers) && isAnswer (verdict (checkBook bytes)) cells (answerAt numbers) ≡ test
     tested =
         rw (le-leb 7 (length numbers) enough)
-        (sym (judged ∙ ap (λ (w : Verdict). isAnswer w cells (answerIn a)) verdict-is ∙ ap (λ (x : Answer). isAnswer (verdict (checkBook bytes)) cells x) is))
+        (sym (judged ∙ ap (λ (w : Verdict). isAnswer w cells (answerIn a)) verdict-is
+        ∙ ap (λ (x : Answer). isAnswer (verdict (checkBook bytes)) cells x) is))
 
     abbrev lineOr : Bool → List ℕ
     lineOr b = cond b (lineBytes (namesOf (checkBook bytes)) text cells (answerAt numbers)) []
@@ -104,16 +112,22 @@ module _ (bytes text cells numbers out : List ℕ) where
     pub no-answer : test ≡ false → PrintsInto (lineFor bytes text cells numbers) out out 0
     no-answer t = subst (λ (l : List ℕ). PrintsInto l out out 0) (sym (ap lineOr (tested ∙ t))) (nothing out)
 
-    same-line : test ≡ true → lineBytes (bookIn bytes index′ .names) text cells (answerIn a) ≡ lineBytes (namesOf (checkBook bytes)) text cells (answerIn a)
+    same-line : test ≡ true →
+        lineBytes (bookIn bytes index′ .names) text cells (answerIn a)
+        ≡ lineBytes (namesOf (checkBook bytes)) text cells (answerIn a)
     same-line t =
         by-test (eqb (a .refusal) 0)
         (λ e.
         let accepted = value-accepted v cells (answerIn a) (sym judged ∙ t) (eqb-true (a .refusal) 0 e) in
         ap (λ (o : Outcome). lineBytes (namesOf o) text cells (answerIn a)) (sym (checked .gives accepted)))
-        (λ e. names-unused (bookIn bytes index′ .names) (namesOf (checkBook bytes)) text cells (answerIn a) (eqb-false (a .refusal) 0 e))
+        (λ e.
+        names-unused (bookIn bytes index′ .names) (namesOf (checkBook bytes)) text cells (answerIn a)
+        (eqb-false (a .refusal) 0 e))
 
-    pub line-printed : (out′ : List ℕ) (r : Length) → test ≡ true → Prints (lineBytes (bookIn bytes index′ .names) text cells (answerIn a)) out out′ r →
+    pub line-printed : (out′ : List ℕ) (r : Length) → test ≡ true →
+        Prints (lineBytes (bookIn bytes index′ .names) text cells (answerIn a)) out out′ r →
         PrintsInto (lineFor bytes text cells numbers) out out′ (lengthOf r)
     line-printed out′ r t p =
         let line = same-line t ∙ ap (λ (x : Answer). lineBytes (namesOf (checkBook bytes)) text cells x) is in
-        subst (λ (l : List ℕ). PrintsInto l out out′ (lengthOf r)) (line ∙ sym (ap lineOr (tested ∙ t))) (whole _ out out′ r p)
+        subst (λ (l : List ℕ). PrintsInto l out out′ (lengthOf r))
+        (line ∙ sym (ap lineOr (tested ∙ t))) (whole _ out out′ r p)

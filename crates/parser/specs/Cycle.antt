@@ -126,8 +126,8 @@ module _ (n : ℕ) where
 
     abbrev pub chooses : Next → ℕ → FromState
     chooses next N book text s =
-        sidesRows book text (runnerRows book text n) n (here .call) (here .variant) (todoAt book here) next N (here .place)
-        (here .items) s
+        sidesRows book text (runnerRows book text n) n (here .call) (here .variant) (todoAt book here) next N
+        (here .place) (here .items) s
 
     abbrev pub proceeds : Doing → FromResult
     proceeds first book text z =

@@ -24,7 +24,8 @@ use Rattle.semantics.specs.Run.{Result, ok, _>>=_, make, withCell}
 use Rattle.run_model.specs.Rows.{Row}
 use Rattle.run_model.specs.Model as model
 use Rattle.run_model.specs.Model.{RowState, rowState, outcome, RowRunner, makes, spendRows, stopsRows}
-use Rattle.run_model.specs.Model.{completeRows, stepsRows, enterChildRows, followedRows, orChild, orAbsentRows, choiceRows, chosenRows}
+use Rattle.run_model.specs.Model.{completeRows, stepsRows, enterChildRows, followedRows, orChild, orAbsentRows}
+use Rattle.run_model.specs.Model.{choiceRows, chosenRows}
 use Rattle.errors.specs.Maps.{failureOf}
 use Rattle.tokens.specs.Maps.{closingIn}
 use Rattle.transitions.specs.declared.outcomes.Outcome.{Outcome}
@@ -35,20 +36,25 @@ use Rattle.transitions.specs.declared.stages.Next.{Next}
 use Rattle.transitions.specs.declared.stages.Reached.{Reached}
 use Rattle.transitions.specs.declared.stages.Stage.{Stage}
 use Rattle.transitions.specs.Outcomes.{cellsOf, Held, given, goesOn, Ran, Runs, failureAt}
-use Rattle.transitions.specs.Steps.{todoFrom, nextRows, descendsRows, choosesRows, doesRows, resumes, sideRows, Stages, Reaches, Chosen}
+use Rattle.transitions.specs.Steps.{todoFrom, nextRows, descendsRows, choosesRows, doesRows, resumes, sideRows, Stages}
+use Rattle.transitions.specs.Steps.{Reaches, Chosen}
 use Rattle.parser.specs.Cycle.{sidesRows, rankOf}
 use Rattle.parser.specs.ResultLaws.{Going, bind-assoc, bind-assoc-in, limit-ends, goes-to, goes-on, ended}
 
 -- ---- Choices
-sides-optional : (book : Book) (text : List ℕ) (inner : Option RowRunner) (n c j : ℕ) (rest : List (Todo ℕ)) (M x items : ℕ) (s : RowState) →
-    sidesRows book text inner n c j rest Next.Steps M x items s ≡ choosesRows book text inner n c j rest Next.Steps M x items s
+sides-optional : (book : Book) (text : List ℕ) (inner : Option RowRunner) (n c j : ℕ) (rest : List (Todo ℕ))
+    (M x items : ℕ) (s : RowState) →
+    sidesRows book text inner n c j rest Next.Steps M x items s
+    ≡ choosesRows book text inner n c j rest Next.Steps M x items s
 unfolding sidesRows choosesRows sideRows nextRows orAbsentRows
 sides-optional book text inner n c j rest M x items s =
-    bind-assoc-in (makes (make text Cell.absent) s) (λ absent. makes (withCell book text j items (absent .cell)) (absent .state))
+    bind-assoc-in (makes (make text Cell.absent) s)
+    (λ absent. makes (withCell book text j items (absent .cell)) (absent .state))
     (λ m. stepsRows book text inner n c j rest x (m .cell) (m .state))
     (λ a. orChild book text inner n c M (nextRows book text c j rest Next.Steps items) x a)
 
-sides-elements : (book : Book) (text : List ℕ) (inner : Option RowRunner) (n c j : ℕ) (rest : List (Todo ℕ)) (l : list.List) (x items : ℕ) (s : RowState) →
+sides-elements : (book : Book) (text : List ℕ) (inner : Option RowRunner) (n c j : ℕ) (rest : List (Todo ℕ))
+    (l : list.List) (x items : ℕ) (s : RowState) →
     sidesRows book text inner n c j rest (Next.Elements l) (l .nonterminal) x items s ≡
     choosesRows book text inner n c j rest (Next.Elements l) (l .nonterminal) x items s
 unfolding sidesRows choosesRows sideRows nextRows choiceRows
@@ -57,94 +63,121 @@ sides-elements book text inner n c j rest l x items s =
     (λ t. stopsRows book text j (l .values) (closingIn (l .closing)) (stepsRows book text inner n c j rest) x items t)
     (λ a. orChild book text inner n c (l .nonterminal) (nextRows book text c j rest (Next.Elements l) items) x a)
 
-module _ (book : Book) (text : List ℕ) (inner : Option RowRunner) (n c j : ℕ) (rest : List (Todo ℕ)) (next : Next) (M x items : ℕ) (s : State)
-    (st0 st1 st2 : List ℕ) (T U : List Row) (f : Reached) (a : Outcome)
+module _ (book : Book) (text : List ℕ) (inner : Option RowRunner) (n c j : ℕ) (rest : List (Todo ℕ)) (next : Next)
+    (M x items : ℕ) (s : State) (st0 st1 st2 : List ℕ) (T U : List Row) (f : Reached) (a : Outcome)
     (F : Reaches book text st0 s st1 j f (λ inner n c rest s. sideRows book text inner n c j rest next x items s))
     (G : Runs text st1 (f .outcome .state .cells) st2 U a (λ cells.
     resumes book text inner n c j rest Doing.Steps (f .place) (f .items) (given (f .outcome) cells T))) where
   first-side : Held text st0 (s .cells) →
-      (given a (cellsOf st2 (a .state .cells)) U >>= (λ y. orChild book text inner n c M (nextRows book text c j rest next items) x y)) ≡
-      sidesRows book text inner n c j rest next M x items (rowState (s .units) (cellsOf st0 (s .cells)) T)
+      (given a (cellsOf st2 (a .state .cells)) U
+      >>= (λ y. orChild book text inner n c M (nextRows book text c j rest next items) x y))
+      ≡ sidesRows book text inner n c j rest next M x items (rowState (s .units) (cellsOf st0 (s .cells)) T)
   unfolding sidesRows
   first-side held =
       let d = F held in
-      ap (λ (z : Result model.Outcome). z >>= (λ y. orChild book text inner n c M (nextRows book text c j rest next items) x y))
+      ap (λ (z : Result model.Outcome).
+      z >>= (λ y. orChild book text inner n c M (nextRows book text c j rest next items) x y))
       (G (d .held) .is ∙ d .is inner n c rest T)
 
   pub choice-stopped : (a .limit ≡ 0 → ⊥) →
-      Runs text st0 (s .cells) st2 U a (λ cells. sidesRows book text inner n c j rest next M x items (rowState (s .units) cells T))
+      Runs text st0 (s .cells) st2 U a
+      (λ cells. sidesRows book text inner n c j rest next M x items (rowState (s .units) cells T))
   choice-stopped h held =
-      record { is = limit-ends a (cellsOf st2 (a .state .cells)) U _ h ∙ first-side held; held = G (F held .held) .held }
+      record {
+        is = limit-ends a (cellsOf st2 (a .state .cells)) U _ h ∙ first-side held;
+        held = G (F held .held) .held;
+      }
 
   module _ (h : a .limit ≡ 0) (st3 : List ℕ) (U1 : List Row) (b r : Outcome)
-      (D : Runs text st2 (a .state .cells) st3 U1 b (λ cells. descendsRows book text inner n c j rest next M x items (rowState (a .state .units) cells U)))
+      (D : Runs text st2 (a .state .cells) st3 U1 b
+      (λ cells. descendsRows book text inner n c j rest next M x items (rowState (a .state .units) cells U)))
       (C : Chosen text U1 c x a b r) where
-    pub choice-both : Runs text st0 (s .cells) st3 U1 r (λ cells. sidesRows book text inner n c j rest next M x items (rowState (s .units) cells T))
+    pub choice-both : Runs text st0 (s .cells) st3 U1 r
+        (λ cells. sidesRows book text inner n c j rest next M x items (rowState (s .units) cells T))
     unfolding descendsRows orChild
     choice-both held =
         let g = G (F held .held) in
         let d = D (g .held) in
-        let y : model.Outcome = outcome (failureOf (failureAt a)) (rowState (a .state .units) (cellsOf st2 (a .state .cells)) U) in
+        let y : model.Outcome =
+        outcome (failureOf (failureAt a)) (rowState (a .state .units) (cellsOf st2 (a .state .cells)) U) in
         record {
           is =
               ap (λ k. given r (cellsOf st3 k) U1) (C .cells)
               ∙ C .is book inner n (cellsOf st3 (b .state .cells))
-              ∙ ap (λ (z : Result model.Outcome). z >>= (λ o. ok (chosenRows book text inner n c (skipFrom text x) (failureOf (failureAt a)) o))) (d .is)
-              ∙ bind-assoc (enterChildRows book text inner n c M x (rowState (a .state .units) (cellsOf st2 (a .state .cells)) U))
+              ∙ ap (λ (z : Result model.Outcome).
+              z >>= (λ o. ok (chosenRows book text inner n c (skipFrom text x) (failureOf (failureAt a)) o))) (d .is)
+              ∙ bind-assoc (enterChildRows book text inner n c M x
+              (rowState (a .state .units) (cellsOf st2 (a .state .cells)) U))
               (λ o. followedRows book text inner n (nextRows book text c j rest next items) o)
               (λ o. ok (chosenRows book text inner n c (skipFrom text x) (failureOf (failureAt a)) o))
-              ∙ sym (goes-to a (cellsOf st2 (a .state .cells)) U (λ y. orChild book text inner n c M (nextRows book text c j rest next items) x y) h)
+              ∙ sym (goes-to a (cellsOf st2 (a .state .cells)) U
+              (λ y. orChild book text inner n c M (nextRows book text c j rest next items) x y) h)
               ∙ first-side held;
           held = subst (λ k. Held text st3 k) (sym (C .cells)) (d .held);
         }
 
 -- ---- What a path does next
-module _ (book : Book) (text : List ℕ) (inner : Option RowRunner) (n c j : ℕ) (rest : List (Todo ℕ)) (doing : Doing) (at items : ℕ) (o : Outcome)
-    (st0 : List ℕ) (T : List Row) where
+module _ (book : Book) (text : List ℕ) (inner : Option RowRunner) (n c j : ℕ) (rest : List (Todo ℕ)) (doing : Doing)
+    (at items : ℕ) (o : Outcome) (st0 : List ℕ) (T : List Row) where
   resume-ended : goesOn o ≡ false →
-      Runs text st0 (o .state .cells) st0 T o (λ cells. resumes book text inner n c j rest doing at items (given o cells T))
+      Runs text st0 (o .state .cells) st0 T o
+      (λ cells. resumes book text inner n c j rest doing at items (given o cells T))
   unfolding resumes
   resume-ended h held =
       record {
         is = ended o (cellsOf st0 (o .state .cells)) T
-            (λ y. elim (y .failure) [ some e ↦ ok (outcome (some e) (y .state)) | none ↦ doesRows book text inner n c j rest doing at items (y .state) ]) (λ e s. refl) h;
+            (λ y. elim (y .failure) [
+              | some e ↦ ok (outcome (some e) (y .state))
+              | none ↦ doesRows book text inner n c j rest doing at items (y .state)
+            ]) (λ e s. refl) h;
         held = held;
       }
 
   resume-does : (st1 : List ℕ) (U : List Row) (r : Outcome) → goesOn o ≡ true →
-      Runs text st0 (o .state .cells) st1 U r (λ cells. doesRows book text inner n c j rest doing at items (rowState (o .state .units) cells T)) →
-      Runs text st0 (o .state .cells) st1 U r (λ cells. resumes book text inner n c j rest doing at items (given o cells T))
+      Runs text st0 (o .state .cells) st1 U r
+      (λ cells. doesRows book text inner n c j rest doing at items (rowState (o .state .units) cells T)) →
+      Runs text st0 (o .state .cells) st1 U r
+      (λ cells. resumes book text inner n c j rest doing at items (given o cells T))
   unfolding resumes _>>=_
   resume-does st1 U r h k held =
       let q = k held in
       record { is = q .is ∙ rw (goes-on o (cellsOf st0 (o .state .cells)) T h); held = q .held }
 
 -- each of them
-module _ (book : Book) (text : List ℕ) (inner : Option RowRunner) (n c j : ℕ) (rest : List (Todo ℕ)) (doing : Doing) (at items : ℕ) (o : Outcome)
+module _ (book : Book) (text : List ℕ) (inner : Option RowRunner) (n c j : ℕ) (rest : List (Todo ℕ)) (doing : Doing)
+    (at items : ℕ) (o : Outcome)
     (st0 : List ℕ) (T : List Row) (st1 : List ℕ) (U : List Row) (r : Outcome) (h : goesOn o ≡ true) where
-  by-part : (z : RowState → Result model.Outcome) → ((s : RowState) → z s ≡ doesRows book text inner n c j rest doing at items s) →
+  by-part : (z : RowState → Result model.Outcome) →
+      ((s : RowState) → z s ≡ doesRows book text inner n c j rest doing at items s) →
       Runs text st0 (o .state .cells) st1 U r (λ cells. z (rowState (o .state .units) cells T)) →
-      Runs text st0 (o .state .cells) st1 U r (λ cells. resumes book text inner n c j rest doing at items (given o cells T))
+      Runs text st0 (o .state .cells) st1 U r
+      (λ cells. resumes book text inner n c j rest doing at items (given o cells T))
   by-part z e k =
       resume-does book text inner n c j rest doing at items o st0 T st1 U r h (λ held.
       let q = k held in
       record { is = q .is ∙ e (rowState (o .state .units) (cellsOf st0 (o .state .cells)) T); held = q .held })
 
   resume-steps : doing ≡ Doing.Steps →
-      Runs text st0 (o .state .cells) st1 U r (λ cells. stepsRows book text inner n c j rest at items (rowState (o .state .units) cells T)) →
-      Runs text st0 (o .state .cells) st1 U r (λ cells. resumes book text inner n c j rest doing at items (given o cells T))
+      Runs text st0 (o .state .cells) st1 U r
+      (λ cells. stepsRows book text inner n c j rest at items (rowState (o .state .units) cells T)) →
+      Runs text st0 (o .state .cells) st1 U r
+      (λ cells. resumes book text inner n c j rest doing at items (given o cells T))
   unfolding doesRows
   resume-steps e k = by-part (λ s. stepsRows book text inner n c j rest at items s) (λ s. rw e) k
 
   resume-child : (M : ℕ) → doing ≡ Doing.Child M →
-      Runs text st0 (o .state .cells) st1 U r (λ cells. descendsRows book text inner n c j rest Next.Steps M at items (rowState (o .state .units) cells T)) →
-      Runs text st0 (o .state .cells) st1 U r (λ cells. resumes book text inner n c j rest doing at items (given o cells T))
+      Runs text st0 (o .state .cells) st1 U r
+      (λ cells. descendsRows book text inner n c j rest Next.Steps M at items (rowState (o .state .units) cells T)) →
+      Runs text st0 (o .state .cells) st1 U r
+      (λ cells. resumes book text inner n c j rest doing at items (given o cells T))
   unfolding doesRows
   resume-child M e k = by-part (λ s. descendsRows book text inner n c j rest Next.Steps M at items s) (λ s. rw e) k
 
   resume-optional : (M : ℕ) → doing ≡ Doing.Optional M →
-      Runs text st0 (o .state .cells) st1 U r (λ cells. sidesRows book text inner n c j rest Next.Steps M at items (rowState (o .state .units) cells T)) →
-      Runs text st0 (o .state .cells) st1 U r (λ cells. resumes book text inner n c j rest doing at items (given o cells T))
+      Runs text st0 (o .state .cells) st1 U r
+      (λ cells. sidesRows book text inner n c j rest Next.Steps M at items (rowState (o .state .units) cells T)) →
+      Runs text st0 (o .state .cells) st1 U r
+      (λ cells. resumes book text inner n c j rest doing at items (given o cells T))
   unfolding doesRows
   resume-optional M e k =
       by-part (λ s. sidesRows book text inner n c j rest Next.Steps M at items s)
@@ -152,8 +185,10 @@ module _ (book : Book) (text : List ℕ) (inner : Option RowRunner) (n c j : ℕ
 
   resume-elements : (l : list.List) → doing ≡ Doing.Elements l →
       Runs text st0 (o .state .cells) st1 U r (λ cells.
-      sidesRows book text inner n c j rest (Next.Elements l) (l .nonterminal) at items (rowState (o .state .units) cells T)) →
-      Runs text st0 (o .state .cells) st1 U r (λ cells. resumes book text inner n c j rest doing at items (given o cells T))
+      sidesRows book text inner n c j rest (Next.Elements l) (l .nonterminal) at items
+      (rowState (o .state .units) cells T)) →
+      Runs text st0 (o .state .cells) st1 U r
+      (λ cells. resumes book text inner n c j rest doing at items (given o cells T))
   unfolding doesRows
   resume-elements l e k =
       by-part (λ s. sidesRows book text inner n c j rest (Next.Elements l) (l .nonterminal) at items s)
@@ -184,12 +219,14 @@ pub rank-elements : (doing : Doing) (l : list.List) → doing ≡ Doing.Elements
 rank-elements doing l e = rw e
 
 -- the path has come so far: what is left of it from here is what was left of it at first
-module _ (book : Book) (text : List ℕ) (inner : Option RowRunner) (n c j step left : ℕ) (doing : Doing) (at items : ℕ) (o : Outcome)
-    (st0 : List ℕ) (c0 : ℕ) (z : Result model.Outcome) (st : List ℕ) (T : List Row)
+module _ (book : Book) (text : List ℕ) (inner : Option RowRunner) (n c j step left : ℕ) (doing : Doing) (at items : ℕ)
+    (o : Outcome) (st0 : List ℕ) (c0 : ℕ) (z : Result model.Outcome) (st : List ℕ) (T : List Row)
     (inv : Held text st0 c0 → Going text st (o .state .cells)
-    (resumes book text inner n c j (todoFrom book step left) doing at items (given o (cellsOf st (o .state .cells)) T)) z) where
+    (resumes book text inner n c j (todoFrom book step left) doing at items (given o (cellsOf st (o .state .cells)) T))
+    z) where
   then-whole : (st1 : List ℕ) (U : List Row) (r : Outcome) →
-      Runs text st (o .state .cells) st1 U r (λ cells. resumes book text inner n c j (todoFrom book step left) doing at items (given o cells T)) →
+      Runs text st (o .state .cells) st1 U r
+      (λ cells. resumes book text inner n c j (todoFrom book step left) doing at items (given o cells T)) →
       Held text st0 c0 → Ran text st1 U r z
   then-whole st1 U r k held =
       let g = inv held in
@@ -197,34 +234,43 @@ module _ (book : Book) (text : List ℕ) (inner : Option RowRunner) (n c j step 
       record { is = q .is ∙ g .is; held = q .held }
 
   pub path-ended : goesOn o ≡ false → Held text st0 c0 → Ran text st T o z
-  path-ended h = then-whole st T o (resume-ended book text inner n c j (todoFrom book step left) doing at items o st T h)
+  path-ended h =
+      then-whole st T o (resume-ended book text inner n c j (todoFrom book step left) doing at items o st T h)
 
   module _ (h : goesOn o ≡ true) where
     pub path-child : (st1 : List ℕ) (U : List Row) (r : Outcome) (M : ℕ) → doing ≡ Doing.Child M →
         Runs text st (o .state .cells) st1 U r (λ cells.
-        descendsRows book text inner n c j (todoFrom book step left) Next.Steps M at items (rowState (o .state .units) cells T)) →
-        Held text st0 c0 → Ran text st1 U r z
-    path-child st1 U r M e k = then-whole st1 U r (resume-child book text inner n c j (todoFrom book step left) doing at items o st T st1 U r h M e k)
+        descendsRows book text inner n c j (todoFrom book step left) Next.Steps M at items
+        (rowState (o .state .units) cells T)) → Held text st0 c0 → Ran text st1 U r z
+    path-child st1 U r M e k =
+        then-whole st1 U r
+        (resume-child book text inner n c j (todoFrom book step left) doing at items o st T st1 U r h M e k)
 
     pub path-optional : (st1 : List ℕ) (U : List Row) (r : Outcome) (M : ℕ) → doing ≡ Doing.Optional M →
         Runs text st (o .state .cells) st1 U r (λ cells.
-        sidesRows book text inner n c j (todoFrom book step left) Next.Steps M at items (rowState (o .state .units) cells T)) →
-        Held text st0 c0 → Ran text st1 U r z
-    path-optional st1 U r M e k = then-whole st1 U r (resume-optional book text inner n c j (todoFrom book step left) doing at items o st T st1 U r h M e k)
+        sidesRows book text inner n c j (todoFrom book step left) Next.Steps M at items
+        (rowState (o .state .units) cells T)) → Held text st0 c0 → Ran text st1 U r z
+    path-optional st1 U r M e k =
+        then-whole st1 U r
+        (resume-optional book text inner n c j (todoFrom book step left) doing at items o st T st1 U r h M e k)
 
     pub path-elements : (st1 : List ℕ) (U : List Row) (r : Outcome) (l : list.List) → doing ≡ Doing.Elements l →
         Runs text st (o .state .cells) st1 U r (λ cells.
-        sidesRows book text inner n c j (todoFrom book step left) (Next.Elements l) (l .nonterminal) at items (rowState (o .state .units) cells T)) →
-        Held text st0 c0 → Ran text st1 U r z
-    path-elements st1 U r l e k = then-whole st1 U r (resume-elements book text inner n c j (todoFrom book step left) doing at items o st T st1 U r h l e k)
+        sidesRows book text inner n c j (todoFrom book step left) (Next.Elements l) (l .nonterminal) at items
+        (rowState (o .state .units) cells T)) → Held text st0 c0 → Ran text st1 U r z
+    path-elements st1 U r l e k =
+        then-whole st1 U r
+        (resume-elements book text inner n c j (todoFrom book step left) doing at items o st T st1 U r h l e k)
 
     module _ (e : doing ≡ Doing.Steps) where
       pub path-end : (st1 : List ℕ) (U : List Row) (r : Outcome) → left ≡ 0 →
-          Runs text st (o .state .cells) st1 U r (λ cells. completeRows book text c j at items (rowState (o .state .units) cells T)) →
+          Runs text st (o .state .cells) st1 U r
+          (λ cells. completeRows book text c j at items (rowState (o .state .units) cells T)) →
           Held text st0 c0 → Ran text st1 U r z
       unfolding stepsRows
       path-end st1 U r l k =
-          then-whole st1 U r (resume-steps book text inner n c j (todoFrom book step left) doing at items o st T st1 U r h e (λ held.
+          then-whole st1 U r
+          (resume-steps book text inner n c j (todoFrom book step left) doing at items o st T st1 U r h e (λ held.
           let q = k held in
           record { is = q .is ∙ rw l; held = q .held }))
 
@@ -235,17 +281,19 @@ module _ (book : Book) (text : List ℕ) (inner : Option RowRunner) (n c j step 
       resumes-steps cells = rw (goes-on o cells T h, e)
 
       pub path-step : (st1 : List ℕ) (g : Stage) → (left ≡ 0 → ⊥) → step + left ≤ length (book .steps) →
-          Stages book text st (o .state) st1 j g (λ inner n c rest s. stepsRows book text inner n c j (taking (nthStep (book .steps) step) ∷ rest) at items s) →
+          Stages book text st (o .state) st1 j g (λ inner n c rest s.
+          stepsRows book text inner n c j (taking (nthStep (book .steps) step) ∷ rest) at items s) →
           Held text st0 c0 → Going text st1 (g .outcome .state .cells)
-          (resumes book text inner n c j (todoFrom book (step + 1) (left - 1)) (g .doing) (g .place) (g .items) (given (g .outcome) (cellsOf st1 (g .outcome .state .cells)) T)) z
+          (resumes book text inner n c j (todoFrom book (step + 1) (left - 1)) (g .doing) (g .place) (g .items)
+          (given (g .outcome) (cellsOf st1 (g .outcome .state .cells)) T)) z
       path-step st1 g l k S held =
           let v = inv held in
           let d = S (v .held) in
           record {
             is =
                 d .is inner n c (todoFrom book (step + 1) (left - 1)) T
-                ∙ ap (λ (todo : List (Todo ℕ)). stepsRows book text inner n c j todo at items (rowState (o .state .units) (cellsOf st (o .state .cells)) T))
-                (sym (todo-step book step left l k))
+                ∙ ap (λ (todo : List (Todo ℕ)). stepsRows book text inner n c j todo at items
+                (rowState (o .state .units) (cellsOf st (o .state .cells)) T)) (sym (todo-step book step left l k))
                 ∙ sym (resumes-steps (cellsOf st (o .state .cells)))
                 ∙ v .is;
             held = d .held;

@@ -38,13 +38,15 @@ pub sub-end : (n i : ℕ) → n ≤ i → n - i ≡ 0
 sub-end n i h = omega arith
 
 -- ---- One part after another
-pub bind-assoc : {A B C : Type 0} (m : Result A) (f : A → Result B) (g : B → Result C) → ((m >>= f) >>= g) ≡ (m >>= (λ a. f a >>= g))
+pub bind-assoc : {A B C : Type 0} (m : Result A) (f : A → Result B) (g : B → Result C) →
+    ((m >>= f) >>= g) ≡ (m >>= (λ a. f a >>= g))
 unfolding _>>=_
 bind-assoc (met number units) f g = refl
 bind-assoc (ok a) f g = refl
 
 -- a result that is only changed in between
-pub bind-map : {A B C : Type 0} (m : Result A) (f : A → B) (g : B → Result C) → ((m >>= (λ a. ok (f a))) >>= g) ≡ (m >>= (λ a. g (f a)))
+pub bind-map : {A B C : Type 0} (m : Result A) (f : A → B) (g : B → Result C) →
+    ((m >>= (λ a. ok (f a))) >>= g) ≡ (m >>= (λ a. g (f a)))
 unfolding _>>=_
 bind-map (met number units) f g = refl
 bind-map (ok a) f g = refl
@@ -63,11 +65,13 @@ bind-map-in (ok a) r f g = bind-map (r a) f g
 
 module _ (o : Outcome) (cells : List Cell) (T : List Row) where
   -- a limit ends all that would follow
-  pub limit-ends : (K : model.Outcome → Result model.Outcome) → (o .limit ≡ 0 → ⊥) → given o cells T ≡ (given o cells T >>= K)
+  pub limit-ends : (K : model.Outcome → Result model.Outcome) → (o .limit ≡ 0 → ⊥) →
+      given o cells T ≡ (given o cells T >>= K)
   unfolding _>>=_
   limit-ends K h = rw (given-met o cells T h)
 
-  pub goes-to : (K : model.Outcome → Result model.Outcome) → o .limit ≡ 0 → (given o cells T >>= K) ≡ K (outcome (failureOf (failureAt o)) (rowState (o .state .units) cells T))
+  pub goes-to : (K : model.Outcome → Result model.Outcome) → o .limit ≡ 0 →
+      (given o cells T >>= K) ≡ K (outcome (failureOf (failureAt o)) (rowState (o .state .units) cells T))
   unfolding _>>=_
   goes-to K e = rw (given-ok o cells T e)
 
@@ -95,14 +99,16 @@ module _ (o : Outcome) (cells : List Cell) (T : List Row) where
   goes-on e = given-ok o cells T (goes-without-limit o e) ∙ rw (goes-without-failure o e)
 
   -- what a failure ends
-  pub ended : (K : model.Outcome → Result model.Outcome) → ((e : Error) (s : RowState) → K (outcome (some e) s) ≡ ok (outcome (some e) s)) →
+  pub ended : (K : model.Outcome → Result model.Outcome) →
+      ((e : Error) (s : RowState) → K (outcome (some e) s) ≡ ok (outcome (some e) s)) →
       goesOn o ≡ false → given o cells T ≡ (given o cells T >>= K)
   unfolding goesOn _>>=_
   ended K k h =
       by-test (eqb (o .limit) 0)
       (λ t.
       let f : failureAt o ≡ Failure.At (o .error) = rw (and-false (eqb (o .failed) 0) (rw t at h)) in
-      rw (given-ok o cells T (eqb-true (o .limit) 0 t) ∙ ap (λ (x : Failure). ok (outcome (failureOf x) (rowState (o .state .units) cells T))) f) (sym (k _ _)))
+      rw (given-ok o cells T (eqb-true (o .limit) 0 t)
+      ∙ ap (λ (x : Failure). ok (outcome (failureOf x) (rowState (o .state .units) cells T))) f) (sym (k _ _)))
       (λ t. limit-ends o cells T K (eqb-false (o .limit) 0 t))
     where
       and-false : (b : Bool) → (true && b) ≡ false → b ≡ false

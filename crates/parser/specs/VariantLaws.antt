@@ -48,15 +48,18 @@ unfolding variantsRows variantRows _>>=_
 variants-turn book text run c m k j e s =
     by-test (leb m (nthVariant book j .level))
     (λ t. rw t (sym (bind-map-in (makes (begin book text j) s) (λ b.
-    run c j (todoOf book (nthVariant book j)) (rowOf (s .rows) c .start) (b .cell) (atRow c (takeVariant book text j) (b .state)))
-    (λ o. outcome (joinWith e (counted book text (bareCall (rowOf (s .rows) c .nonterminal) (rowOf (s .rows) c .start)) j (o .failure))) (o .state))
+    run c j (todoOf book (nthVariant book j)) (rowOf (s .rows) c .start) (b .cell)
+    (atRow c (takeVariant book text j) (b .state)))
+    (λ o. outcome (joinWith e (counted book text (bareCall (rowOf (s .rows) c .nonterminal) (rowOf (s .rows) c .start))
+    j (o .failure))) (o .state))
     (λ o. variantsRows book text run c m k (suc j) (o .failure) (o .state)))))
     (λ t. rw t)
 
-module _ (book : Book) (text : List ℕ) (run : RowRunner) (n m k first i : ℕ) (st0 : List ℕ) (c0 : ℕ) (z : Result model.Outcome)
-    (st : List ℕ) (T : List Row) (o : Outcome)
+module _ (book : Book) (text : List ℕ) (run : RowRunner) (n m k first i : ℕ) (st0 : List ℕ) (c0 : ℕ)
+    (z : Result model.Outcome) (st : List ℕ) (T : List Row) (o : Outcome)
     (inv : Held text st0 c0 → Going text st (o .state .cells)
-    (variantsRows book text run n m (k - i) (first + i) (failureOf (failureAt o)) (rowState (o .state .units) (cellsOf st (o .state .cells)) T)) z) where
+    (variantsRows book text run n m (k - i) (first + i) (failureOf (failureAt o))
+    (rowState (o .state .units) (cellsOf st (o .state .cells)) T)) z) where
   pub variants-end : k ≤ i → o .limit ≡ 0 → Held text st0 c0 → Ran text st T o z
   unfolding variantsRows
   variants-end h e held =
@@ -67,12 +70,14 @@ module _ (book : Book) (text : List ℕ) (run : RowRunner) (n m k first i : ℕ)
       (r : Runs text st (o .state .cells) st1 U next (λ cells.
       variantRows book text run n m j (failureOf (failureAt o)) (rowState (o .state .units) cells T))) where
     variant-turn : Held text st0 c0 →
-        (given next (cellsOf st1 (next .state .cells)) U >>= (λ y. variantsRows book text run n m (k - (i + 1)) (first + (i + 1)) (y .failure) (y .state))) ≡ z
+        (given next (cellsOf st1 (next .state .cells)) U
+        >>= (λ y. variantsRows book text run n m (k - (i + 1)) (first + (i + 1)) (y .failure) (y .state))) ≡ z
     variant-turn held =
         let g = inv held in
         let a : suc j ≡ first + (i + 1) = omega (arith, ej) in
         rw (r (g .held) .is, ← a)
-        (sym (variants-turn book text run n m (k - (i + 1)) j (failureOf (failureAt o)) (rowState (o .state .units) (cellsOf st (o .state .cells)) T))
+        (sym (variants-turn book text run n m (k - (i + 1)) j (failureOf (failureAt o))
+        (rowState (o .state .units) (cellsOf st (o .state .cells)) T))
         ∙ (rw (sub-turn k i l, ← ej) at (g .is)))
 
     pub variants-stop : (next .limit ≡ 0 → ⊥) → Held text st0 c0 → Ran text st1 U next z
@@ -88,20 +93,23 @@ module _ (book : Book) (text : List ℕ) (run : RowRunner) (n m k first i : ℕ)
         record { is = sym (goes-to next (cellsOf st1 (next .state .cells)) U _ h) ∙ variant-turn held; held = q .held }
 
 -- the variants of a call are one run of it
-one-run-is : (book : Book) (text : List ℕ) (run : RowRunner) (n m N : ℕ) (called : Nonterminal) (s : State) (o : Outcome) (T T1 : List Row) (cells : List Cell) →
+one-run-is : (book : Book) (text : List ℕ) (run : RowRunner) (n m N : ℕ) (called : Nonterminal) (s : State)
+    (o : Outcome) (T T1 : List Row) (cells : List Cell) →
     N ≡ rowOf T n .nonterminal → T1 ≡ onRow T n (withRun []) → called ≡ nthNonterminal book N →
     o ≡ doneWith Failure.None s →
-    variantsRows book text run n m (called .count) (called .first) (failureOf (failureAt o)) (rowState (o .state .units) cells T1) ≡
-    oneRunRows book text run n m (rowState (s .units) cells T)
+    variantsRows book text run n m (called .count) (called .first) (failureOf (failureAt o))
+    (rowState (o .state .units) cells T1)
+    ≡ oneRunRows book text run n m (rowState (s .units) cells T)
 unfolding oneRunRows
 one-run-is book text run n m N called s o T T1 cells eN eT ec eo = rw (eo, ec, eT, eN)
 
-pub one-run-whole : (book : Book) (text : List ℕ) (run : RowRunner) (n m N : ℕ) (called : Nonterminal) (s : State) (o : Outcome) (T T1 : List Row)
-    (st st1 : List ℕ) (U : List Row) (r : Outcome) →
+pub one-run-whole : (book : Book) (text : List ℕ) (run : RowRunner) (n m N : ℕ) (called : Nonterminal) (s : State)
+    (o : Outcome) (T T1 : List Row) (st st1 : List ℕ) (U : List Row) (r : Outcome) →
     N ≡ rowOf T n .nonterminal → T1 ≡ onRow T n (withRun []) → called ≡ nthNonterminal book N →
     o ≡ doneWith Failure.None s →
     (Held text st (o .state .cells) → Ran text st1 U r
-    (variantsRows book text run n m (called .count) (called .first) (failureOf (failureAt o)) (rowState (o .state .units) (cellsOf st (o .state .cells)) T1))) →
+    (variantsRows book text run n m (called .count) (called .first) (failureOf (failureAt o))
+    (rowState (o .state .units) (cellsOf st (o .state .cells)) T1))) →
     Runs text st (s .cells) st1 U r (λ cells. oneRunRows book text run n m (rowState (s .units) cells T))
 one-run-whole book text run n m N called s o T T1 st st1 U r eN eT ec eo k held =
     let same : o .state .cells ≡ s .cells = ap (λ (x : Outcome). x .state .cells) eo in
@@ -118,20 +126,25 @@ one-run-whole book text run n m N called s o T T1 st st1 U r eN eT ec eo k held 
 -- what a variant's failure counts for
 variantCounts : Book → List ℕ → ℕ → ℕ → Outcome → List Row → model.Outcome → Result model.Outcome
 variantCounts book text n j before T y =
-    ok (outcome (joinWith (failureOf (failureAt before)) (counted book text (bareCall (rowOf T n .nonterminal) (rowOf T n .start)) j (y .failure))) (y .state))
+    ok (outcome (joinWith (failureOf (failureAt before))
+    (counted book text (bareCall (rowOf T n .nonterminal) (rowOf T n .start)) j (y .failure))) (y .state))
 
-variant-level : (book : Book) (text : List ℕ) (n m j : ℕ) (before : Outcome) (T : List Row) (cells : List Cell) → leb m (nthVariant book j .level) ≡ true →
-    variantRows book text (innerRunner book text n) n m j (failureOf (failureAt before)) (rowState (before .state .units) cells T) ≡
-    (makes (begin book text j) (rowState (before .state .units) cells T) >>= (λ b.
-    innerRunner book text n n j (todoOf book (nthVariant book j)) (rowOf T n .start) (b .cell) (atRow n (takeVariant book text j) (b .state))
-    >>= variantCounts book text n j before T))
+variant-level : (book : Book) (text : List ℕ) (n m j : ℕ) (before : Outcome) (T : List Row) (cells : List Cell) →
+    leb m (nthVariant book j .level) ≡ true →
+    variantRows book text (innerRunner book text n) n m j (failureOf (failureAt before))
+    (rowState (before .state .units) cells T)
+    ≡ (makes (begin book text j) (rowState (before .state .units) cells T) >>= (λ b.
+    innerRunner book text n n j (todoOf book (nthVariant book j)) (rowOf T n .start) (b .cell)
+    (atRow n (takeVariant book text j) (b .state)) >>= variantCounts book text n j before T))
 unfolding variantRows variantCounts
 variant-level book text n m j before T cells t = rw t
 
-module _ (book : Book) (text : List ℕ) (n m j : ℕ) (before : Outcome) (w : Variant) (ew : w ≡ nthVariant book j) (T : List Row) (st0 : List ℕ) where
+module _ (book : Book) (text : List ℕ) (n m j : ℕ) (before : Outcome) (w : Variant) (ew : w ≡ nthVariant book j)
+    (T : List Row) (st0 : List ℕ) where
   pub variant-skipped : w .level < m → before .limit ≡ 0 →
       Runs text st0 (before .state .cells) st0 T before (λ cells.
-      variantRows book text (innerRunner book text n) n m j (failureOf (failureAt before)) (rowState (before .state .units) cells T))
+      variantRows book text (innerRunner book text n) n m j (failureOf (failureAt before))
+      (rowState (before .state .units) cells T))
   unfolding variantRows
   variant-skipped l e held =
       let t : leb m (nthVariant book j .level) ≡ false = lt-leb m (nthVariant book j .level) (rw ew at l) in
@@ -140,35 +153,40 @@ module _ (book : Book) (text : List ℕ) (n m j : ℕ) (before : Outcome) (w : V
   module _ (l : m ≤ w .level) (st1 st2 : List ℕ) (U U1 : List Row) (b : Reached) (o r : Outcome)
       (B : Begins book text st0 st1 T U n j (before .state) b)
       (G : Runs text st1 (b .outcome .state .cells) st2 U1 o (λ cells.
-      resumes book text (runnerRows book text (n - 1)) (n - 1) n j (todoFrom book (w .first) (w .count)) Doing.Steps (b .place) (b .items) (given (b .outcome) cells U)))
-      (C : VariantEnded book j (b .place) before o r) where
+      resumes book text (runnerRows book text (n - 1)) (n - 1) n j (todoFrom book (w .first) (w .count)) Doing.Steps
+      (b .place) (b .items) (given (b .outcome) cells U))) (C : VariantEnded book j (b .place) before o r) where
     pub variant-ran : Runs text st0 (before .state .cells) st2 U1 r (λ cells.
-        variantRows book text (innerRunner book text n) n m j (failureOf (failureAt before)) (rowState (before .state .units) cells T))
+        variantRows book text (innerRunner book text n) n m j (failureOf (failureAt before))
+        (rowState (before .state .units) cells T))
     unfolding variantCounts
     variant-ran held =
         let d = B held in
         let q = G (d .held) in
-        let count : VariantEnded book j (rowOf T n .start) before o r = subst (λ x. VariantEnded book j x before o r) (d .start) C in
+        let count : VariantEnded book j (rowOf T n .start) before o r =
+        subst (λ x. VariantEnded book j x before o r) (d .start) C in
         record {
           is =
               ap (λ k. given r (cellsOf st2 k) U1) (count .cells)
               ∙ count .is text (rowOf T n .nonterminal) (cellsOf st2 (o .state .cells)) U1
               ∙ ap (λ (x : Result model.Outcome). x >>= variantCounts book text n j before T)
-              (q .is ∙ ap (λ (v : Variant). resumes book text (runnerRows book text (n - 1)) (n - 1) n j (todoOf book v) Doing.Steps (b .place) (b .items)
-              (given (b .outcome) (cellsOf st1 (b .outcome .state .cells)) U)) ew
+              (q .is ∙ ap (λ (v : Variant). resumes book text (runnerRows book text (n - 1)) (n - 1) n j (todoOf book v)
+              Doing.Steps (b .place) (b .items) (given (b .outcome) (cellsOf st1 (b .outcome .state .cells)) U)) ew
               ∙ d .is (runnerRows book text (n - 1)) (n - 1) (todoOf book (nthVariant book j)))
-              ∙ bind-assoc (makes (begin book text j) (rowState (before .state .units) (cellsOf st0 (before .state .cells)) T))
-              (λ b. innerRunner book text n n j (todoOf book (nthVariant book j)) (rowOf T n .start) (b .cell) (atRow n (takeVariant book text j) (b .state)))
-              (variantCounts book text n j before T)
-              ∙ sym (variant-level book text n m j before T (cellsOf st0 (before .state .cells)) (le-leb m (nthVariant book j .level) (rw ew at l)));
+              ∙ bind-assoc (makes (begin book text j)
+              (rowState (before .state .units) (cellsOf st0 (before .state .cells)) T))
+              (λ b. innerRunner book text n n j (todoOf book (nthVariant book j)) (rowOf T n .start) (b .cell)
+              (atRow n (takeVariant book text j) (b .state))) (variantCounts book text n j before T)
+              ∙ sym (variant-level book text n m j before T (cellsOf st0 (before .state .cells))
+              (le-leb m (nthVariant book j .level) (rw ew at l)));
           held = subst (λ k. Held text st2 k) (sym (count .cells)) (q .held);
         }
 
 -- ---- Ranges
-pub variants-fit : (book : Book) (text : List ℕ) (N i : ℕ) (called : Nonterminal) → Fit book text → called ≡ nthNonterminal book N → i < called .count →
-    called .first + i < 4294967296
+pub variants-fit : (book : Book) (text : List ℕ) (N i : ℕ) (called : Nonterminal) → Fit book text →
+    called ≡ nthNonterminal book N → i < called .count → called .first + i < 4294967296
 variants-fit book text N i called fit e l =
-    let all : called .first + called .count < 4294967296 = subst (λ (k : Nonterminal). k .first + k .count < 4294967296) (sym e) (fit .variants N) in
+    let all : called .first + called .count < 4294967296 =
+    subst (λ (k : Nonterminal). k .first + k .count < 4294967296) (sym e) (fit .variants N) in
     omega (arith, all, l)
 
 -- the steps of a variant
@@ -177,5 +195,8 @@ pub record StepsFit (book : Book) (w : Variant) : Type 0 where
   pub some-of : w .first + w .count ≤ length (book .steps)
   pub fits : length (book .steps) < 4294967296
 
-pub steps-fit : (book : Book) (text : List ℕ) (j : ℕ) (w : Variant) → Fit book text → w ≡ nthVariant book j → StepsFit book w
-steps-fit book text j w fit e = subst (λ (v : Variant). StepsFit book v) (sym e) (record { few = fit .few j; some-of = fit .steps j; fits = fit .all })
+pub steps-fit : (book : Book) (text : List ℕ) (j : ℕ) (w : Variant) → Fit book text →
+    w ≡ nthVariant book j → StepsFit book w
+steps-fit book text j w fit e =
+    subst (λ (v : Variant). StepsFit book v) (sym e)
+    (record { few = fit .few j; some-of = fit .steps j; fits = fit .all })

@@ -22,12 +22,14 @@ use Rattle.characters.specs.Cases.{by-test}
 use Rattle.characters.specs.Spelling.{partOf}
 use Rattle.book.specs.Book.{Entry, nthEntry}
 use Rattle.semantics.specs.Values.{Tree, no-trees, _▸_}
-use Rattle.semantics.specs.Cells.{Cell, numbersOf, cellOf, cellsIn, Meaning, one, several, treeIn, treesIn, meaningOf, meanings}
+use Rattle.semantics.specs.Cells.{Cell, numbersOf, cellOf, cellsIn, Meaning, one, several, treeIn, treesIn, meaningOf}
+use Rattle.semantics.specs.Cells.{meanings}
 use Rattle.semantics.specs.Theorem.Meanings.{meaning, Prefix, still, new-meaning}
 use Rattle.cells.specs.Store.{listed}
 use Rattle.cells.specs.declared.numbers.CellNumbers.{CellNumbers}
 use Rattle.printing.specs.Printing.{decimal, printed, spaced}
-use Rattle.printing.specs.Cells.{cellIn, CellRead, olderThan, stands, spellingOf, plainBytes, itemBytes, itemsBytes, isChain, gapBytes}
+use Rattle.printing.specs.Cells.{cellIn, CellRead, olderThan, stands, spellingOf, plainBytes, itemBytes}
+use Rattle.printing.specs.Cells.{itemsBytes, isChain, gapBytes}
 
 -- ---- Cells in numbers
 cells-at : (numbers : List ℕ) (i p : ℕ) → p ≡ i * 3 → p + 3 ≤ length numbers
@@ -66,21 +68,25 @@ cell-none numbers n h =
     (λ z. by-test (eqb n 0) (λ t. rw t) (λ t. rw (t, lt-ltb (length numbers) (n * 3) z)))
     h
 
-cell-some : (numbers : List ℕ) (i : ℕ) → i * 3 + 3 ≤ length numbers → cellIn numbers (suc i) ≡ getD (cellsIn numbers) i Cell.empty
+cell-some : (numbers : List ℕ) (i : ℕ) → i * 3 + 3 ≤ length numbers →
+    cellIn numbers (suc i) ≡ getD (cellsIn numbers) i Cell.empty
 cell-some numbers i h =
     let at : suc i * 3 - 3 ≡ i * 3 = omega arith in
     let some : suc i ≡ 0 → ⊥ = λ z. omega arith in
-    rw (ne-eqb (suc i) 0 some, le-ltb (length numbers) (suc i * 3) (omega arith), at) (sym (cells-at numbers i (i * 3) refl h))
+    rw (ne-eqb (suc i) 0 some, le-ltb (length numbers) (suc i * 3) (omega arith), at)
+    (sym (cells-at numbers i (i * 3) refl h))
 
 -- ---- Cells that are read
-pub read-none : (numbers : List ℕ) (n : ℕ) (c : CellNumbers) → listed c ≡ numbersOf Cell.absent → (n ≡ 0) ⊎ (length numbers < n * 3) → CellRead numbers n c
+pub read-none : (numbers : List ℕ) (n : ℕ) (c : CellNumbers) → listed c ≡ numbersOf Cell.absent →
+    (n ≡ 0) ⊎ (length numbers < n * 3) → CellRead numbers n c
 unfolding numbersOf
 read-none numbers n c e h =
     let form : c .form ≡ 7 = cc in
     record { is = rw form (sym (cell-none numbers n h)); placed = λ other. absurd (other form) }
 
 pub read-some : (numbers : List ℕ) (n : ℕ) → 0 < n → n * 3 ≤ length numbers
-    → cellOf (getD numbers (n * 3 - 3) 0) (getD numbers (n * 3 - 3 + 1) 0) (getD numbers (n * 3 - 3 + 2) 0) ≡ cellIn numbers n
+    → cellOf (getD numbers (n * 3 - 3) 0) (getD numbers (n * 3 - 3 + 1) 0) (getD numbers (n * 3 - 3 + 2) 0)
+    ≡ cellIn numbers n
 read-some numbers n some h =
     let new : n ≡ 0 → ⊥ = λ z. omega arith in
     rw (ne-eqb n 0 new, le-ltb (length numbers) (n * 3) h)
@@ -119,11 +125,13 @@ module _ (text : List ℕ) where
       let outside = ltb-false (suc m) (suc i) t in
       rw t (past-meaning (take i C) (suc m) (omega arith)))
 
-  new-one : (C : List Cell) (i : ℕ) → i < length C → meaning text C (suc i) ≡ meaningOf text (meanings text [] (take i C)) (getD C i Cell.empty)
+  new-one : (C : List Cell) (i : ℕ) → i < length C →
+      meaning text C (suc i) ≡ meaningOf text (meanings text [] (take i C)) (getD C i Cell.empty)
   new-one C i h =
       let c = getD C i Cell.empty in
       let size : length (take i C) ≡ i = length-take-le i C (omega arith) in
-      let split : C ≡ (take i C ++ (c ∷ [])) ++ drop (suc i) C = split-at C i Cell.empty h ∙ sym (append-assoc (take i C) (c ∷ []) (drop (suc i) C)) in
+      let split : C ≡ (take i C ++ (c ∷ [])) ++ drop (suc i) C =
+      split-at C i Cell.empty h ∙ sym (append-assoc (take i C) (c ∷ []) (drop (suc i) C)) in
       let prefix : Prefix (take i C ++ (c ∷ [])) C = record { more = drop (suc i) C; is = split } in
       let long = length-append (take i C) (c ∷ []) in
       still text prefix (suc i) (record { least = omega arith; most = omega arith })
@@ -134,7 +142,8 @@ module _ (text : List ℕ) where
     -- `meaningOf`, with older cells by what they stand for among all
     meaningBy : ℕ → Cell → Meaning
     meaningBy n Cell.empty = several no-trees
-    meaningBy n (Cell.chain c item) = several (treesIn (stands text numbers (olderThan n c)) ▸ treeIn (stands text numbers (olderThan n item)))
+    meaningBy n (Cell.chain c item) =
+        several (treesIn (stands text numbers (olderThan n c)) ▸ treeIn (stands text numbers (olderThan n item)))
     meaningBy n (Cell.variant j c) = one (Tree.variant j (treesIn (stands text numbers (olderThan n c))))
     meaningBy n (Cell.name place size) = one (Tree.name (partOf text place size))
     meaningBy n (Cell.number high low) = one (Tree.number (high * 2 ^ 32 + low))
@@ -142,7 +151,8 @@ module _ (text : List ℕ) where
     meaningBy n Cell.absent = one Tree.absent
     meaningBy n (Cell.list c) = one (Tree.list (treesIn (stands text numbers (olderThan n c))))
 
-    by-older : (i : ℕ) → i ≤ length (cellsIn numbers) → (c : Cell) → meaningOf text (meanings text [] (take i (cellsIn numbers))) c ≡ meaningBy (suc i) c
+    by-older : (i : ℕ) → i ≤ length (cellsIn numbers) → (c : Cell) →
+        meaningOf text (meanings text [] (take i (cellsIn numbers))) c ≡ meaningBy (suc i) c
     unfolding meaningOf meaningBy
     by-older i h Cell.empty = refl
     by-older i h (Cell.chain c item) = rw (as-then (cellsIn numbers) i c h, as-then (cellsIn numbers) i item h)
@@ -161,7 +171,8 @@ module _ (text : List ℕ) where
         (λ t.
         let out = ltb-true (length numbers) (suc i * 3) t in
         let none = cells-out numbers i (omega arith) in
-        past-meaning (cellsIn numbers) (suc i) (omega arith) ∙ ap (meaningBy (suc i)) (sym (cell-none numbers (suc i) (inr out))))
+        past-meaning (cellsIn numbers) (suc i) (omega arith)
+        ∙ ap (meaningBy (suc i)) (sym (cell-none numbers (suc i) (inr out))))
         (λ t.
         let within = ltb-false (length numbers) (suc i * 3) t in
         let some = cells-in numbers i (omega arith) in
@@ -193,7 +204,8 @@ form-is (suc (suc (suc (suc (suc (suc zero)))))) a b = inr refl
 form-is (suc (suc (suc (suc (suc (suc (suc zero))))))) a b = inr refl
 form-is (suc (suc (suc (suc (suc (suc (suc (suc zero)))))))) a b = inr refl
 form-is (suc (suc (suc (suc (suc (suc (suc (suc (suc k))))))))) a b =
-    let e : suc (suc (suc (suc (suc (suc (suc (suc (suc k)))))))) - 1 ≡ suc (suc (suc (suc (suc (suc (suc (suc k))))))) = omega arith in
+    let e : suc (suc (suc (suc (suc (suc (suc (suc (suc k)))))))) - 1
+    ≡ suc (suc (suc (suc (suc (suc (suc (suc k))))))) = omega arith in
     inl (rw e)
 
 -- a cell is not of a form that its number isn't
@@ -217,7 +229,8 @@ module _ (names : List Entry) (text : List ℕ) where
   spelling-by Cell.absent n4 n6 = refl
   spelling-by (Cell.list c) n4 n6 = refl
 
-  plain-by : (c : Cell) → (formOf c ≡ 4 → ⊥) → (formOf c ≡ 5 → ⊥) → (formOf c ≡ 6 → ⊥) → plainBytes names text c ≡ 45 ∷ []
+  plain-by : (c : Cell) → (formOf c ≡ 4 → ⊥) → (formOf c ≡ 5 → ⊥) → (formOf c ≡ 6 → ⊥) →
+      plainBytes names text c ≡ 45 ∷ []
   unfolding plainBytes formOf
   plain-by Cell.empty n4 n5 n6 = refl
   plain-by (Cell.chain c item) n4 n5 n6 = refl
@@ -251,11 +264,13 @@ module _ (names : List Entry) (text : List ℕ) where
     unfolding plainBytes
     plain-number e = rw e
 
-    pub plain-variable : form ≡ 6 → plainBytes names text (cellOf form a b) ≡ 36 ∷ spellingOf names text (cellOf form a b)
+    pub plain-variable : form ≡ 6 →
+        plainBytes names text (cellOf form a b) ≡ 36 ∷ spellingOf names text (cellOf form a b)
     unfolding plainBytes spellingOf
     plain-variable e = rw e
 
-    pub plain-absent : (form ≡ 4 → ⊥) → (form ≡ 5 → ⊥) → (form ≡ 6 → ⊥) → plainBytes names text (cellOf form a b) ≡ 45 ∷ []
+    pub plain-absent : (form ≡ 4 → ⊥) → (form ≡ 5 → ⊥) → (form ≡ 6 → ⊥) →
+        plainBytes names text (cellOf form a b) ≡ 45 ∷ []
     plain-absent n4 n5 n6 =
         plain-by (cellOf form a b)
         (form-not form a b 4 n4 (λ z. omega arith) (cellOf form a b) refl)
@@ -285,12 +300,14 @@ module _ (numbers : List ℕ) (n form a b : ℕ) (is : cellOf form a b ≡ cellI
   pub gap-first : (form ≡ 2 → ⊥) → gapBytes numbers true n ≡ []
   gap-first n2 =
       let other : isChain (cellIn numbers n) ≡ false =
-      ap isChain (sym is) ∙ chain-by (cellOf form a b) (form-not form a b 2 n2 (λ z. omega arith) (cellOf form a b) refl) in
+      ap isChain (sym is)
+      ∙ chain-by (cellOf form a b) (form-not form a b 2 n2 (λ z. omega arith) (cellOf form a b) refl) in
       rw other
 
 -- ---- Bytes of a cell, by its form
 module _ (names : List Entry) (text numbers : List ℕ) where
-  item-by : (n : ℕ) (c : Cell) → (formOf c ≡ 3 → ⊥) → (formOf c ≡ 8 → ⊥) → printed names (treeIn (meaningBy text numbers n c)) ≡ plainBytes names text c
+  item-by : (n : ℕ) (c : Cell) → (formOf c ≡ 3 → ⊥) → (formOf c ≡ 8 → ⊥) →
+      printed names (treeIn (meaningBy text numbers n c)) ≡ plainBytes names text c
   unfolding printed treeIn meaningBy plainBytes formOf
   item-by n Cell.empty n3 n8 = refl
   item-by n (Cell.chain c item) n3 n8 = refl
@@ -331,7 +348,8 @@ module _ (names : List Entry) (text numbers : List ℕ) where
   one-more n (Cell.list c) p = refl
 
   after-items : (n : ℕ) (p : List ℕ)
-      → drop 1 (spaced names (treesIn (stands text numbers n)) ++ (32 ∷ p)) ≡ itemsBytes names text numbers true n ++ (gapBytes numbers true n ++ p)
+      → drop 1 (spaced names (treesIn (stands text numbers n)) ++ (32 ∷ p))
+      ≡ itemsBytes names text numbers true n ++ (gapBytes numbers true n ++ p)
   after-items n p = rw (stands-is text numbers n) (one-more n (cellIn numbers n) p)
 
   module _ (n form a b : ℕ) (is : cellOf form a b ≡ cellIn numbers n) where
@@ -343,11 +361,13 @@ module _ (names : List Entry) (text numbers : List ℕ) where
     unfolding printed treeIn meaningBy
     item-variant chain older e = rw older (sym (rw (stands-of, e)))
 
-    pub item-list : (chain : ℕ) → chain ≡ olderThan n a → form ≡ 8 → 91 ∷ (itemsBytes names text numbers true chain ++ (93 ∷ [])) ≡ itemBytes names text numbers n
+    pub item-list : (chain : ℕ) → chain ≡ olderThan n a → form ≡ 8 →
+        91 ∷ (itemsBytes names text numbers true chain ++ (93 ∷ [])) ≡ itemBytes names text numbers n
     unfolding printed treeIn meaningBy
     item-list chain older e = rw older (sym (rw (stands-of, e)))
 
-    pub item-plain : (form ≡ 3 → ⊥) → (form ≡ 8 → ⊥) → plainBytes names text (cellOf form a b) ≡ itemBytes names text numbers n
+    pub item-plain : (form ≡ 3 → ⊥) → (form ≡ 8 → ⊥) →
+        plainBytes names text (cellOf form a b) ≡ itemBytes names text numbers n
     item-plain n3 n8 =
         sym
         (rw stands-of
@@ -359,14 +379,18 @@ module _ (names : List Entry) (text numbers : List ℕ) where
     unfolding spaced
     items-none inList n2 =
         let none : treesIn (stands text numbers n) ≡ no-trees =
-        ap treesIn stands-of ∙ trees-by n (cellOf form a b) (form-not form a b 2 n2 (λ z. omega arith) (cellOf form a b) refl) in
+        ap treesIn stands-of
+        ∙ trees-by n (cellOf form a b) (form-not form a b 2 n2 (λ z. omega arith) (cellOf form a b) refl) in
         by-test inList (λ t. rw (t, none)) (λ t. rw (t, none))
 
     pub items-chain : (inList : Bool) (chain last : ℕ) → chain ≡ olderThan n a → last ≡ olderThan n b → form ≡ 2
-        → itemsBytes names text numbers inList chain ++ (gapBytes numbers inList chain ++ itemBytes names text numbers last)
+        → itemsBytes names text numbers inList chain
+        ++ (gapBytes numbers inList chain ++ itemBytes names text numbers last)
         ≡ itemsBytes names text numbers inList n
     unfolding spaced treesIn meaningBy
     items-chain inList chain last older older-last e =
-        let trees : treesIn (stands text numbers n) ≡ treesIn (stands text numbers chain) ▸ treeIn (stands text numbers last) =
+        let trees : treesIn (stands text numbers n)
+        ≡ treesIn (stands text numbers chain) ▸ treeIn (stands text numbers last) =
         rw (older, older-last) (ap treesIn stands-of ∙ rw e) in
-        by-test inList (λ t. rw (t, trees) (sym (after-items chain (itemBytes names text numbers last)))) (λ t. rw (t, trees))
+        by-test inList
+        (λ t. rw (t, trees) (sym (after-items chain (itemBytes names text numbers last)))) (λ t. rw (t, trees))

@@ -105,8 +105,10 @@ laid-skip (suc j) k out (b ∷ w) h =
 
 -- from byte k of the slice on
 abbrev window-of : ℕ → List ℕ → List ℕ → Filling
-window-of k out w =
-    (before 0 (k + length (take (length out - k) w)), take k out ++ (take (length out - k) w ++ drop (k + length w) out))
+window-of k out w = (
+  before 0 (k + length (take (length out - k) w)),
+  take k out ++ (take (length out - k) w ++ drop (k + length w) out),
+)
 
 laid-window : (k : ℕ) (out w : List ℕ) → k ≤ length out → laid (before 0 k, out) w ≡ window-of k out w
 unfolding laid
@@ -120,9 +122,11 @@ laid-window k out (b ∷ w) h =
     let size : length (set out k b) ≡ length out = length-set out k b in
     let one : length out - k ≡ suc (length out - (k + 1)) = omega arith in
     let sum : k + suc (length w) ≡ k + 1 + length w = omega arith in
-    let more : k + suc (length (take (length out - (k + 1)) w)) ≡ k + 1 + length (take (length out - (k + 1)) w) = omega arith in
+    let more : k + suc (length (take (length out - (k + 1)) w)) ≡ k + 1 + length (take (length out - (k + 1)) w) =
+    omega arith in
     let front : take (k + 1) (set out k b) ≡ take k out ++ (b ∷ []) = rw (add-one k) (take-suc-set out k b inside) in
-    let back : drop (k + 1 + length w) (set out k b) ≡ drop (k + 1 + length w) out = drop-set-lt (k + 1 + length w) out k b (omega arith) in
+    let back : drop (k + 1 + length w) (set out k b) ≡ drop (k + 1 + length w) out =
+    drop-set-lt (k + 1 + length w) out k b (omega arith) in
     rw (lay-store (before 0 k) out b (omega arith) inside, one, sum)
     (laid-window (k + 1) (set out k b) w (omega arith)
     ∙ rw (size, front, back, more)
@@ -134,17 +138,21 @@ laid-window k out (b ∷ w) h =
     let far : length out ≤ k + suc (length w) = omega arith in
     let same : k + 0 ≡ k = omega arith in
     laid-full (before 0 k) out (b ∷ w) (omega arith) past
-    ∙ sym (rw (none, same, take-all k out past, drop-of-length-le out far) (ap (λ (l : List ℕ). (before 0 k, l)) (append-nil out))))
+    ∙ sym (rw (none, same, take-all k out past, drop-of-length-le out far)
+    (ap (λ (l : List ℕ). (before 0 k, l)) (append-nil out))))
 
 -- how long a part of the line is
-part-short : (line : List ℕ) (from room : ℕ) → length line - from ≤ room → length (partOf line from room) ≡ length line - from
-part-short line from room h = let l = length-drop from line in ap length (take-all room (drop from line) (omega arith)) ∙ l
+part-short : (line : List ℕ) (from room : ℕ) → length line - from ≤ room →
+    length (partOf line from room) ≡ length line - from
+part-short line from room h =
+    let l = length-drop from line in ap length (take-all room (drop from line) (omega arith)) ∙ l
 
 part-long : (line : List ℕ) (from room : ℕ) → room ≤ length line - from → length (partOf line from room) ≡ room
 part-long line from room h = let l = length-drop from line in length-take-le room (drop from line) (omega arith)
 
 -- past a part the window holds what it held
-after-part : (line out : List ℕ) (from : ℕ) → drop (length (drop from line)) out ≡ drop (length (partOf line from (length out))) out
+after-part : (line out : List ℕ) (from : ℕ) →
+    drop (length (drop from line)) out ≡ drop (length (partOf line from (length out))) out
 after-part line out from =
     by-test (leb (length (drop from line)) (length out))
     (λ t. let h = leb-true (length (drop from line)) (length out) t in rw (take-all (length out) (drop from line) h))
@@ -213,7 +221,8 @@ module _ (from : ℕ) (line out : List ℕ) where
         (λ t. leb-false (length line) from t)
 
 -- a line that fits, in front of what the slice held
-pub whole-line : (line out out′ : List ℕ) (size : ℕ) → Window 0 line out out′ size → length line ≤ length out → out′ ≡ line ++ drop (length line) out
+pub whole-line : (line out out′ : List ℕ) (size : ℕ) → Window 0 line out out′ size → length line ≤ length out →
+    out′ ≡ line ++ drop (length line) out
 whole-line line out out′ size w h =
     let all : take (length out) line ≡ line = take-all (length out) line h in
     let size-is : size ≡ length line = w .size-is ∙ ap length all in

@@ -15,7 +15,8 @@ use borrow.Author.Tests.{le-leb, lt-leb, leb-true, eq-eqb, ne-eqb}
 use Rattle.characters.specs.Cases.{by-test}
 use Rattle.book.specs.Book.{Entry}
 use Rattle.semantics.specs.Answer.{Answer}
-use Rattle.printing.specs.Printing.{decimal, lineOf, columnOf, valueWord, refusedWord, placeWord, kindWord, argumentWord, lineWord, columnWord, refusedLine, lineBytes}
+use Rattle.printing.specs.Printing.{decimal, lineOf, columnOf, valueWord, refusedWord, placeWord, kindWord}
+use Rattle.printing.specs.Printing.{argumentWord, lineWord, columnWord, refusedLine, lineBytes}
 use Rattle.printing.specs.LayingLaws.{whole-line}
 use Rattle.printing.specs.Cells.{itemBytes}
 use Rattle.printing.specs.Lines.{lengthWithin, Prints, Window}
@@ -26,8 +27,8 @@ pub refused-fields : (text : List ℕ) (a : Answer) (line column : ℕ) → line
     → (refusedWord ++ decimal (a .refusal))
     ++ ((placeWord ++ decimal (a .place))
     ++ ((kindWord ++ decimal (a .kind))
-    ++ ((argumentWord ++ decimal (a .argument)) ++ ((lineWord ++ decimal line) ++ ((columnWord ++ decimal column) ++ (10 ∷ []))))))
-    ≡ refusedLine text a
+    ++ ((argumentWord ++ decimal (a .argument))
+    ++ ((lineWord ++ decimal line) ++ ((columnWord ++ decimal column) ++ (10 ∷ [])))))) ≡ refusedLine text a
 unfolding refusedLine
 refused-fields text a line column l c = rw (l, c)
 
@@ -42,17 +43,22 @@ module _ (names : List Entry) (text numbers : List ℕ) (a : Answer) where
   line-value first e h = rw e (sym (rw (eq-eqb (a .refusal) 0 h, lineBytes)))
 
 -- ---- Whether the line fits
-pub length-in : (limit end : ℕ) (line : List ℕ) → length line ≡ end → end ≤ limit → Length.Bytes end ≡ lengthWithin limit line
+pub length-in : (limit end : ℕ) (line : List ℕ) → length line ≡ end → end ≤ limit →
+    Length.Bytes end ≡ lengthWithin limit line
 length-in limit end line e h = rw (e, le-leb end limit h)
 
 pub length-out : (limit : ℕ) (line : List ℕ) → limit < length line → Length.Longer ≡ lengthWithin limit line
 length-out limit line h = rw (lt-leb (length line) limit h)
 
 module _ (line out : List ℕ) (r : Length) (is : r ≡ lengthWithin (length out) line) where
-  pub prints-whole : (out′ : List ℕ) (size end : ℕ) → r ≡ Length.Bytes end → Window 0 line out out′ size → Prints line out out′ r
+  pub prints-whole : (out′ : List ℕ) (size end : ℕ) → r ≡ Length.Bytes end →
+      Window 0 line out out′ size → Prints line out out′ r
   prints-whole out′ size end e w =
       by-test (leb (length line) (length out))
-      (λ t. record { length-is = is; out-is = rw t (whole-line line out out′ size w (leb-true (length line) (length out) t)) })
+      (λ t. record {
+        length-is = is;
+        out-is = rw t (whole-line line out out′ size w (leb-true (length line) (length out) t));
+      })
       (λ t.
       let longer : r ≡ Length.Longer = is ∙ rw t in
       let never : _≡_ {A = ℕ} 0 1 = cc in

@@ -47,15 +47,18 @@ decimal-digit (suc m) h = let e : suc m % 10 ≡ suc m = omega arith in digits-o
 
 pub decimal-digits : (n : ℕ) → 10 ≤ n → decimal n ≡ decimal (n / 10) ++ ((48 + n % 10) ∷ [])
 decimal-digits zero h = absurd (omega arith)
-decimal-digits (suc m) h = digits-more m (suc m) h ∙ rw (digits-enough m (suc m / 10) (suc m / 10) (omega arith) (omega arith))
+decimal-digits (suc m) h =
+    digits-more m (suc m) h ∙ rw (digits-enough m (suc m / 10) (suc m / 10) (omega arith) (omega arith))
 
 -- ---- Line feeds
 module _ (bytes : List ℕ) (i n : ℕ) where
-  pub feeds-hit : i < length bytes → getD bytes i 0 ≡ 10 → n + 1 + lineFeeds (drop (i + 1) bytes) ≡ n + lineFeeds (drop i bytes)
+  pub feeds-hit : i < length bytes → getD bytes i 0 ≡ 10 →
+      n + 1 + lineFeeds (drop (i + 1) bytes) ≡ n + lineFeeds (drop i bytes)
   unfolding lineFeeds
   feeds-hit h e = rw (drop-cons bytes i 0 h, add-one i, eq-eqb (getD bytes i 0) 10 e) (omega arith)
 
-  pub feeds-miss : i < length bytes → (getD bytes i 0 ≡ 10 → ⊥) → n + lineFeeds (drop (i + 1) bytes) ≡ n + lineFeeds (drop i bytes)
+  pub feeds-miss : i < length bytes → (getD bytes i 0 ≡ 10 → ⊥) →
+      n + lineFeeds (drop (i + 1) bytes) ≡ n + lineFeeds (drop i bytes)
   unfolding lineFeeds
   feeds-miss h e = rw (drop-cons bytes i 0 h, add-one i, ne-eqb (getD bytes i 0) 10 e)
 
@@ -63,17 +66,20 @@ module _ (bytes : List ℕ) (i n : ℕ) where
   unfolding lineFeeds
   feeds-end h = rw (drop-of-length-le bytes h) (omega arith)
 
-  pub since-hit : i < length bytes → getD bytes i 0 ≡ 10 → sinceLineFeed 0 (drop (i + 1) bytes) ≡ sinceLineFeed n (drop i bytes)
+  pub since-hit : i < length bytes → getD bytes i 0 ≡ 10 →
+      sinceLineFeed 0 (drop (i + 1) bytes) ≡ sinceLineFeed n (drop i bytes)
   unfolding sinceLineFeed
   since-hit h e =
       let begins : cond (eqb (getD bytes i 0) 10) 0 (suc n) ≡ 0 = rw (eq-eqb (getD bytes i 0) 10 e) in
       rw (drop-cons bytes i 0 h, add-one i) (ap (λ (k : ℕ). sinceLineFeed k (drop (suc i) bytes)) (sym begins))
 
-  pub since-miss : i < length bytes → (getD bytes i 0 ≡ 10 → ⊥) → sinceLineFeed (n + 1) (drop (i + 1) bytes) ≡ sinceLineFeed n (drop i bytes)
+  pub since-miss : i < length bytes → (getD bytes i 0 ≡ 10 → ⊥) →
+      sinceLineFeed (n + 1) (drop (i + 1) bytes) ≡ sinceLineFeed n (drop i bytes)
   unfolding sinceLineFeed
   since-miss h e =
       let goes-on : cond (eqb (getD bytes i 0) 10) 0 (suc n) ≡ suc n = rw (ne-eqb (getD bytes i 0) 10 e) in
-      rw (drop-cons bytes i 0 h, add-one i, add-one n) (ap (λ (k : ℕ). sinceLineFeed k (drop (suc i) bytes)) (sym goes-on))
+      rw (drop-cons bytes i 0 h, add-one i, add-one n)
+      (ap (λ (k : ℕ). sinceLineFeed k (drop (suc i) bytes)) (sym goes-on))
 
   pub since-end : length bytes ≤ i → sinceLineFeed n (drop i bytes) ≡ n
   unfolding sinceLineFeed

@@ -59,7 +59,8 @@ unfoldable mutual
   -- "variant as `(number items)`, list `[items]`, one space before each item but a list's first, .. absent `-`,
   -- variable `$` and spelling"
   pub printed : List Entry → Tree → List ℕ
-  printed names (Tree.variant j items) = openParenthesis ∷ (decimal j ++ (spaced names items ++ (closeParenthesis ∷ [])))
+  printed names (Tree.variant j items) =
+      openParenthesis ∷ (decimal j ++ (spaced names items ++ (closeParenthesis ∷ [])))
   printed names (Tree.name spelling) = spelling
   printed names (Tree.number n) = decimal n
   printed names (Tree.variable i kind) = dollar ∷ nthEntry names i .spelling

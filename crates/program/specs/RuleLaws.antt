@@ -10,7 +10,8 @@ use Rattle.printing.specs.Lines.{Window}
 
 module _ {from : ℕ} {line out out′ : List ℕ} {size : ℕ} (w : Window from line out out′ size) where
   inside : size ≤ length out′
-  inside = omega (arith, w .size-is, ap length (w .out-is) ∙ length-append (partOf line from (length out)) (drop size out))
+  inside =
+      omega (arith, w .size-is, ap length (w .out-is) ∙ length-append (partOf line from (length out)) (drop size out))
 
   pub window-counts : Counts size out′
   window-counts = (inside, omega (arith, inside, length-take size out′))

@@ -19,11 +19,13 @@ use Rattle.semantics.specs.Steps.{Token, Taken, After, goes, halts, Todo}
 use Rattle.semantics.specs.Cells.{Cell}
 use Rattle.semantics.specs.Run.{Result, met, ok, _>>=_, State, Made, spend}
 use Rattle.run_model.specs.Rows.{Row, row, wasAsked, noRow, rowOf, onRow, RowGovernor, minimum, same-start}
-use Rattle.run_model.specs.Model.{RowState, rowState, Outcome, RowMade, rowMade, RowRunner, unmarked, makes, spendRows, nestedRows}
+use Rattle.run_model.specs.Model.{RowState, rowState, Outcome, RowMade, rowMade, RowRunner, unmarked, makes}
+use Rattle.run_model.specs.Model.{spendRows, nestedRows}
 
 -- ---- Rows that differ in little
 abbrev pub lessMark : Row → Row
-lessMark r = row (r .live) (r .nonterminal) (r .scope) (r .start) (r .level) (r .associativity) (r .child) 0 (r .set) (r .run)
+lessMark r =
+    row (r .live) (r .nonterminal) (r .scope) (r .start) (r .level) (r .associativity) (r .child) 0 (r .set) (r .run)
 
 abbrev pub lessRun : Row → Row
 lessRun r = row (r .live) (r .nonterminal) (r .scope) (r .start) (r .level) (r .associativity) 0 0 (r .set) []
@@ -95,7 +97,8 @@ pub at-refl : {c n : ℕ} {T : List Row} → KeepsAt c n T T
 at-refl = record { other = λ j h k. refl; mine = refl; size = refl }
 
 pub at-then : {c n : ℕ} {T U W : List Row} → KeepsAt c n T U → KeepsAt c n U W → KeepsAt c n T W
-at-then a b = record { other = λ j h k. b .other j h k ∙ a .other j h k; mine = b .mine ∙ a .mine; size = b .size ∙ a .size }
+at-then a b =
+    record { other = λ j h k. b .other j h k ∙ a .other j h k; mine = b .mine ∙ a .mine; size = b .size ∙ a .size }
 
 pub at-put : (c n : ℕ) (T : List Row) (r : Row) → c < length T → Own (rowOf T c) r → KeepsAt c n T (set T c r)
 at-put c n T r h o = record {
@@ -127,8 +130,10 @@ run-of a = record {
 }
 
 -- the last thing that a call does
-pub called-put : (n : ℕ) (T U : List Row) (r : Row) → n < length U → Keeps (suc n) T U → r .live ≡ 0 → Called n T (set U n r)
-called-put n T U r h k e = record { above = keeps-then k (keeps-put n U r); shut = ap (λ r. r .live) (row-put U n r h) ∙ e }
+pub called-put : (n : ℕ) (T U : List Row) (r : Row) → n < length U → Keeps (suc n) T U →
+    r .live ≡ 0 → Called n T (set U n r)
+called-put n T U r h k e =
+    record { above = keeps-then k (keeps-put n U r); shut = ap (λ r. r .live) (row-put U n r h) ∙ e }
 
 pub called-then : {n : ℕ} {T U W : List Row} → Keeps (suc n) T U → Called n U W → Called n T W
 called-then a b = record { above = keeps-then a (b .above); shut = b .shut }
@@ -146,7 +151,8 @@ pub on-ok : {A : Type 0} (Q : A → Type 0) {x : A} → Q x → On Q (ok x)
 unfolding On
 on-ok Q h = h
 
-pub on-bind : {A B : Type 0} (Q : A → Type 0) (R : B → Type 0) (y : Result A) (K : A → Result B) → On Q y → ((x : A) → Q x → On R (K x)) → On R (y >>= K)
+pub on-bind : {A B : Type 0} (Q : A → Type 0) (R : B → Type 0) (y : Result A) (K : A → Result B) → On Q y →
+    ((x : A) → Q x → On R (K x)) → On R (y >>= K)
 unfolding _>>=_ On
 on-bind Q R (met number units) K h k = tt
 on-bind Q R (ok x) K h k = k x h
@@ -162,27 +168,28 @@ unfolding _>>=_ On
 on-any R (met number units) K k = tt
 on-any R (ok x) K k = k x
 
-pub on-when : {A : Type 0} (Q : A → Type 0) (b : Bool) (f g : Unit {0} → Result A) → On Q (f tt) → On Q (g tt) → On Q (when b f g)
+pub on-when : {A : Type 0} (Q : A → Type 0) (b : Bool) (f g : Unit {0} → Result A) → On Q (f tt) →
+    On Q (g tt) → On Q (when b f g)
 on-when Q true f g h k = h
 on-when Q false f g h k = k
 
-pub on-option : {A X : Type 0} (Q : A → Type 0) (o : Option X) (y : Result A) (f : X → Result A) → On Q y → ((x : X) → On Q (f x)) →
-    On Q (elim o [ none ↦ y | some x ↦ f x ])
+pub on-option : {A X : Type 0} (Q : A → Type 0) (o : Option X) (y : Result A) (f : X → Result A) → On Q y →
+    ((x : X) → On Q (f x)) → On Q (elim o [ none ↦ y | some x ↦ f x ])
 on-option Q none y f h k = h
 on-option Q (some x) y f h k = k x
 
-pub on-list : {A X : Type 0} (Q : A → Type 0) (l : List X) (y : Result A) (f : X → List X → Result A) → On Q y → ((x : X) (l : List X) → On Q (f x l)) →
-    On Q (elim l [ [] ↦ y | x ∷ l ↦ f x l ])
+pub on-list : {A X : Type 0} (Q : A → Type 0) (l : List X) (y : Result A) (f : X → List X → Result A) → On Q y →
+    ((x : X) (l : List X) → On Q (f x l)) → On Q (elim l [ [] ↦ y | x ∷ l ↦ f x l ])
 on-list Q [] y f h k = h
 on-list Q (x ∷ l) y f h k = k x l
 
-pub on-after : {A : Type 0} (Q : A → Type 0) (a : After) (f g : ℕ → Result A) → ((y : ℕ) → On Q (f y)) → ((y : ℕ) → On Q (g y)) →
-    On Q (elim a [ goes y ↦ f y | halts y ↦ g y ])
+pub on-after : {A : Type 0} (Q : A → Type 0) (a : After) (f g : ℕ → Result A) → ((y : ℕ) → On Q (f y)) →
+    ((y : ℕ) → On Q (g y)) → On Q (elim a [ goes y ↦ f y | halts y ↦ g y ])
 on-after Q (goes y) f g h k = h y
 on-after Q (halts y) f g h k = k y
 
-pub on-governor : {A : Type 0} (Q : A → Type 0) (g : RowGovernor) (f h : ℕ → Result A) → ((m : ℕ) → On Q (f m)) → ((r : ℕ) → On Q (h r)) →
-    On Q (elim g [ minimum m ↦ f m | same-start r ↦ h r ])
+pub on-governor : {A : Type 0} (Q : A → Type 0) (g : RowGovernor) (f h : ℕ → Result A) → ((m : ℕ) → On Q (f m)) →
+    ((r : ℕ) → On Q (h r)) → On Q (elim g [ minimum m ↦ f m | same-start r ↦ h r ])
 on-governor Q (minimum m) f h a b = a m
 on-governor Q (same-start r) f h a b = b r
 
@@ -207,11 +214,13 @@ on-taken Q (Taken.unopened y) a b c d e f ha hb hc hd he hf = hf y
 
 -- cells are made, and units spent: the rows stay
 pub on-makes : {A : Type 0} (Q : A → Type 0) (f : State → Result Made) (s : RowState) (K : RowMade → Result A) →
-    ((cell units : ℕ) (cells : List Cell) → On Q (K (rowMade cell (rowState units cells (s .rows))))) → On Q (makes f s >>= K)
+    ((cell units : ℕ) (cells : List Cell) → On Q (K (rowMade cell (rowState units cells (s .rows))))) →
+    On Q (makes f s >>= K)
 unfolding makes _>>=_ On
 on-makes Q f s K h = go (f (unmarked s))
   where
-    go : (y : Result Made) → On Q ((y >>= (λ m. ok (rowMade (m .cell) (rowState (m .state .units) (m .state .cells) (s .rows))))) >>= K)
+    go : (y : Result Made) →
+        On Q ((y >>= (λ m. ok (rowMade (m .cell) (rowState (m .state .units) (m .state .cells) (s .rows))))) >>= K)
     go (met number units) = tt
     go (ok m) = h (m .cell) (m .state .units) (m .state .cells)
 
@@ -242,15 +251,16 @@ pub record Fits (c n : ℕ) (T : List Row) : Type 0 where
 
 -- a runner with row m free keeps what it should
 pub record Keeping (m : ℕ) (S : RowRunner) : Type 0 where
-  pub of : (c j : ℕ) (todo : List (Todo ℕ)) (x items : ℕ) (s : RowState) → Fits c m (s .rows) → On (Beside c (suc m) (s .rows)) (S c j todo x items s)
+  pub of : (c j : ℕ) (todo : List (Todo ℕ)) (x items : ℕ) (s : RowState) → Fits c m (s .rows) →
+      On (Beside c (suc m) (s .rows)) (S c j todo x items s)
 
 -- with n levels left there is none, or one with row n - 1 free
 pub data Inner : ℕ → Option RowRunner → Type 0 where
   last : (n : ℕ) → Inner n none
   more : (m : ℕ) (S : RowRunner) → Keeping m S → Inner (suc m) (some S)
 
-pub on-nested : (Q : Outcome → Type 0) (book : Book) (text : List ℕ) (n : ℕ) (inner : Option RowRunner) → Inner n inner →
-    (s : RowState) (f : RowRunner → Result Outcome) →
+pub on-nested : (Q : Outcome → Type 0) (book : Book) (text : List ℕ) (n : ℕ) (inner : Option RowRunner) →
+    Inner n inner → (s : RowState) (f : RowRunner → Result Outcome) →
     ((m : ℕ) (S : RowRunner) → n ≡ suc m → Keeping m S → On Q (f S)) → On Q (nestedRows book text inner n s f)
 unfolding nestedRows On
 on-nested Q book text n inner (last k) s f h = tt

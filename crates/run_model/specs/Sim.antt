@@ -20,9 +20,11 @@ use Rattle.semantics.specs.Uses.{base}
 use Rattle.semantics.specs.Tokens.{when}
 use Rattle.semantics.specs.Steps.{Item, Token, Taken, After, goes, halts, Todo}
 use Rattle.semantics.specs.Cells.{Cell, findCell}
-use Rattle.semantics.specs.Run.{Result, met, ok, _>>=_, State, Parsed, parsed, Made, made, Call, call, Runner, spend, make, itemCell, begin, withCell, withToken, nested}
+use Rattle.semantics.specs.Run.{Result, met, ok, _>>=_, State, Parsed, parsed, Made, made, Call, call, Runner, spend}
+use Rattle.semantics.specs.Run.{make, itemCell, begin, withCell, withToken, nested}
 use Rattle.run_model.specs.Rows.{Row, rowOf, askedAt, marksOf, callOf}
-use Rattle.run_model.specs.Model.{RowState, rowState, Outcome, RowMade, rowMade, RowRunner, unmarked, makes, spendRows, valueCell, nestedRows}
+use Rattle.run_model.specs.Model.{RowState, rowState, Outcome, RowMade, rowMade, RowRunner, unmarked, makes}
+use Rattle.run_model.specs.Model.{spendRows, valueCell, nestedRows}
 use Rattle.run_model.specs.Keeps.{lessVariant, KeepsAt, KeepsRun, On, Keeping, Inner}
 use Rattle.run_model.specs.Views.{path-keeps, sets-keeps}
 
@@ -35,21 +37,23 @@ see f (met number units) = met number units
 see f (ok x) = ok (f x)
 
 -- two parts one after the other, where the first is as seen
-pub then-see : {A B C D : Type 0} (f : A → B) (g : C → D) (Q : A → Type 0) (Y : Result B) (y : Result A) (L : B → Result D) (K : A → Result C) →
+pub then-see : {A B C D : Type 0} (f : A → B) (g : C → D) (Q : A → Type 0) (Y : Result B) (y : Result A)
+    (L : B → Result D) (K : A → Result C) →
     Y ≡ see f y → On Q y → ((x : A) → Q x → L (f x) ≡ see g (K x)) → (Y >>= L) ≡ see g (y >>= K)
 unfolding _>>=_ see On
 then-see f g Q Y (met number units) L K e h k = rw e refl
 then-see f g Q Y (ok x) L K e h k = rw e (k x h)
 
 -- the definition ends with one more thing
-pub last-see : {A B D : Type 0} (f : A → B) (g : A → D) (Y : Result B) (y : Result A) (L : B → Result D) → Y ≡ see f y → ((x : A) → L (f x) ≡ ok (g x)) →
-    (Y >>= L) ≡ see g y
+pub last-see : {A B D : Type 0} (f : A → B) (g : A → D) (Y : Result B) (y : Result A) (L : B → Result D) → Y ≡ see f y →
+    ((x : A) → L (f x) ≡ ok (g x)) → (Y >>= L) ≡ see g y
 unfolding _>>=_ see
 last-see f g Y (met number units) L e k = rw e refl
 last-see f g Y (ok x) L e k = rw e (k x)
 
 -- the same first part
-pub same-see : {A C D : Type 0} (g : C → D) (y : Result A) (L : A → Result D) (K : A → Result C) → ((x : A) → L x ≡ see g (K x)) → (y >>= L) ≡ see g (y >>= K)
+pub same-see : {A C D : Type 0} (g : C → D) (y : Result A) (L : A → Result D) (K : A → Result C) →
+    ((x : A) → L x ≡ see g (K x)) → (y >>= L) ≡ see g (y >>= K)
 unfolding _>>=_ see
 same-see g (met number units) L K k = refl
 same-see g (ok x) L K k = k x
@@ -59,14 +63,15 @@ pub when-see : {A B : Type 0} (g : A → B) (b : Bool) (F H : Unit {0} → Resul
 when-see g true F H f h p q = p refl
 when-see g false F H f h p q = q refl
 
-pub option-see : {A B X : Type 0} (g : A → B) (o : Option X) (Y : Result B) (F : X → Result B) (y : Result A) (f : X → Result A) →
+pub option-see :
+    {A B X : Type 0} (g : A → B) (o : Option X) (Y : Result B) (F : X → Result B) (y : Result A) (f : X → Result A) →
     (o ≡ none → Y ≡ see g y) → ((x : X) → o ≡ some x → F x ≡ see g (f x)) →
     elim o [ none ↦ Y | some x ↦ F x ] ≡ see g (elim o [ none ↦ y | some x ↦ f x ])
 option-see g none Y F y f p q = p refl
 option-see g (some x) Y F y f p q = q x refl
 
-pub list-see : {A B X : Type 0} (g : A → B) (l : List X) (Y : Result B) (F : X → List X → Result B) (y : Result A) (f : X → List X → Result A) →
-    (l ≡ [] → Y ≡ see g y) → ((x : X) (k : List X) → l ≡ x ∷ k → F x k ≡ see g (f x k)) →
+pub list-see : {A B X : Type 0} (g : A → B) (l : List X) (Y : Result B) (F : X → List X → Result B) (y : Result A)
+    (f : X → List X → Result A) → (l ≡ [] → Y ≡ see g y) → ((x : X) (k : List X) → l ≡ x ∷ k → F x k ≡ see g (f x k)) →
     elim l [ [] ↦ Y | x ∷ k ↦ F x k ] ≡ see g (elim l [ [] ↦ y | x ∷ k ↦ f x k ])
 list-see g [] Y F y f p q = p refl
 list-see g (x ∷ k) Y F y f p q = q x k refl
@@ -78,10 +83,12 @@ after-see g (goes y) F H f h p q = p y
 after-see g (halts y) F H f h p q = q y
 
 pub taken-see : {A B : Type 0} (g : A → B) (k : Taken) (a : Result B) (b : Token → Result B) (c d : ℕ → Result B)
-    (e : Bool → ℕ → Option ℕ → ℕ → Result B) (f : ℕ → Result B) (a′ : Result A) (b′ : Token → Result A) (c′ d′ : ℕ → Result A)
-    (e′ : Bool → ℕ → Option ℕ → ℕ → Result A) (f′ : ℕ → Result A) →
-    a ≡ see g a′ → ((t : Token) → b t ≡ see g (b′ t)) → ((M : ℕ) → c M ≡ see g (c′ M)) → ((M : ℕ) → d M ≡ see g (d′ M)) →
-    ((comma : Bool) (M : ℕ) (close : Option ℕ) (y : ℕ) → e comma M close y ≡ see g (e′ comma M close y)) → ((y : ℕ) → f y ≡ see g (f′ y)) →
+    (e : Bool → ℕ → Option ℕ → ℕ → Result B) (f : ℕ → Result B) (a′ : Result A) (b′ : Token → Result A)
+    (c′ d′ : ℕ → Result A) (e′ : Bool → ℕ → Option ℕ → ℕ → Result A) (f′ : ℕ → Result A) →
+    a ≡ see g a′ → ((t : Token) → b t ≡ see g (b′ t)) → ((M : ℕ) → c M ≡ see g (c′ M)) →
+    ((M : ℕ) → d M ≡ see g (d′ M)) →
+    ((comma : Bool) (M : ℕ) (close : Option ℕ) (y : ℕ) → e comma M close y ≡ see g (e′ comma M close y)) →
+    ((y : ℕ) → f y ≡ see g (f′ y)) →
     elim k [
       | Taken.nothing ↦ a
       | Taken.token t ↦ b t
@@ -108,7 +115,8 @@ taken-see g (Taken.unopened y) a b c d e f a′ b′ c′ d′ e′ f′ ha hb h
 -- ---- Functions that don't look at the marks
 pub record Plain (f : State → Result Made) : Type 0 where
   pub of : (units : ℕ) (cells : List Cell) (A B : List Bool) →
-      f (stateOf units cells A) ≡ (f (stateOf units cells B) >>= (λ m. ok (made (m .cell) (stateOf (m .state .units) (m .state .cells) A))))
+      f (stateOf units cells A)
+      ≡ (f (stateOf units cells B) >>= (λ m. ok (made (m .cell) (stateOf (m .state .units) (m .state .cells) A))))
 
 pub plain-ok : (cell : ℕ) → Plain (λ s. ok (made cell s))
 unfolding _>>=_
@@ -132,8 +140,10 @@ unfolding _>>=_
 plain-then f g p q = record { of = λ units cells A B. rw (p .of units cells A B) (go A (f (stateOf units cells B))) }
   where
     go : (A : List Bool) (y : Result Made) →
-        ((y >>= (λ m. ok (made (m .cell) (stateOf (m .state .units) (m .state .cells) A)))) >>= (λ m. g (m .cell) (m .state)))
-        ≡ ((y >>= (λ m. g (m .cell) (m .state))) >>= (λ m. ok (made (m .cell) (stateOf (m .state .units) (m .state .cells) A))))
+        ((y >>= (λ m. ok (made (m .cell) (stateOf (m .state .units) (m .state .cells) A))))
+        >>= (λ m. g (m .cell) (m .state)))
+        ≡ ((y >>= (λ m. g (m .cell) (m .state)))
+        >>= (λ m. ok (made (m .cell) (stateOf (m .state .units) (m .state .cells) A))))
     go A (met number units) = refl
     go A (ok m) = q (m .cell) .of (m .state .units) (m .state .cells) A (m .state .asked)
 
@@ -144,31 +154,37 @@ module _ (book : Book) (text : List ℕ) where
 
   pub plain-value : (j items : ℕ) → Plain (valueCell book text j items)
   unfolding valueCell
-  plain-value j items = plain-when (nthVariant book j .passing) _ _ (plain-ok items) (plain-make text (Cell.variant j items))
+  plain-value j items =
+      plain-when (nthVariant book j .passing) _ _ (plain-ok items) (plain-make text (Cell.variant j items))
 
   pub plain-with : (j items item : ℕ) → Plain (withCell book text j items item)
   unfolding withCell
-  plain-with j items item = plain-when (nthVariant book j .passing) _ _ (plain-ok item) (plain-make text (Cell.chain items item))
+  plain-with j items item =
+      plain-when (nthVariant book j .passing) _ _ (plain-ok item) (plain-make text (Cell.chain items item))
 
   pub plain-token : (j items : ℕ) (item : Option Item) → Plain (withToken book text j items item)
   unfolding withToken
   plain-token j items none = plain-ok items
   plain-token j items (some item) =
-      plain-then _ (λ cell s. withCell book text j items cell s) (plain-make text (itemCell item)) (λ cell. plain-with j items cell)
+      plain-then _ (λ cell s. withCell book text j items cell s) (plain-make text (itemCell item))
+      (λ cell. plain-with j items cell)
 
 pub makes-see : {A B : Type 0} (g : A → B) (f : State → Result Made) → Plain f →
     (s : RowState) (asked : List Bool) (L : Made → Result B) (K : RowMade → Result A) →
-    ((cell units : ℕ) (cells : List Cell) → L (made cell (stateOf units cells asked)) ≡ see g (K (rowMade cell (rowState units cells (s .rows))))) →
+    ((cell units : ℕ) (cells : List Cell) →
+    L (made cell (stateOf units cells asked)) ≡ see g (K (rowMade cell (rowState units cells (s .rows))))) →
     (f (stateOf (s .units) (s .cells) asked) >>= L) ≡ see g (makes f s >>= K)
 unfolding makes _>>=_ see
 makes-see g f p s asked L K h = rw (p .of (s .units) (s .cells) asked []) (go (f (unmarked s)))
   where
-    go : (y : Result Made) → ((y >>= (λ m. ok (made (m .cell) (stateOf (m .state .units) (m .state .cells) asked)))) >>= L)
+    go : (y : Result Made) →
+        ((y >>= (λ m. ok (made (m .cell) (stateOf (m .state .units) (m .state .cells) asked)))) >>= L)
         ≡ see g ((y >>= (λ m. ok (rowMade (m .cell) (rowState (m .state .units) (m .state .cells) (s .rows))))) >>= K)
     go (met number units) = refl
     go (ok m) = h (m .cell) (m .state .units) (m .state .cells)
 
-pub spend-see : {A B : Type 0} (g : A → B) (s : RowState) (asked : List Bool) (L : State → Result B) (K : RowState → Result A) →
+pub spend-see :
+    {A B : Type 0} (g : A → B) (s : RowState) (asked : List Bool) (L : State → Result B) (K : RowState → Result A) →
     ((units : ℕ) → L (stateOf units (s .cells) asked) ≡ see g (K (rowState units (s .cells) (s .rows)))) →
     (spend (stateOf (s .units) (s .cells) asked) >>= L) ≡ see g (spendRows s >>= K)
 unfolding spendRows spend _>>=_ see
@@ -189,7 +205,9 @@ endAt c o = parsed (rowOf (o .state .rows) c .set) (o .failure) (stateAt c (o .s
 
 -- what a call at row n found, behind it
 abbrev pub foundAt : ℕ → Outcome → Parsed
-foundAt n o = parsed (rowOf (o .state .rows) n .set) (o .failure) (stateOf (o .state .units) (o .state .cells) (marksOf (o .state .rows) n))
+foundAt n o =
+    parsed (rowOf (o .state .rows) n .set) (o .failure)
+    (stateOf (o .state .units) (o .state .cells) (marksOf (o .state .rows) n))
 
 -- the call C of row c stands open
 pub record Standing (C : Call) (c : ℕ) (T : List Row) : Type 0 where
@@ -220,7 +238,8 @@ standing-keeps C c T U h k =
       size = k .above .size ∙ h .size;
     }
 
-pub here-keeps : (book : Book) (C : Call) (c f j : ℕ) (T U : List Row) → Here book C c f j T → KeepsAt c f T U → Here book C c f j U
+pub here-keeps : (book : Book) (C : Call) (c f j : ℕ) (T U : List Row) → Here book C c f j T →
+    KeepsAt c f T U → Here book C c f j U
 here-keeps book C c f j T U h k =
     let run : KeepsRun c T U = record {
       above = record { at = λ i l. k .other i (omega (arith, h .below)) (λ e. omega arith); size = k .size };
@@ -236,12 +255,14 @@ here-keeps book C c f j T U h k =
     }
 
 -- the row below is live no longer
-pub here-shut : (book : Book) (C : Call) (c n j : ℕ) (T : List Row) → Here book C c (suc n) j T → rowOf T n .live ≡ 0 → Here book C c n j T
+pub here-shut : (book : Book) (C : Call) (c n j : ℕ) (T : List Row) → Here book C c (suc n) j T →
+    rowOf T n .live ≡ 0 → Here book C c n j T
 here-shut book C c n j T h s = record {
   standing = h .standing;
   level = h .level;
   associativity = h .associativity;
-  idle = λ i a b. by-test (eqb i n) (λ e. let f = eqb-true i n e in rw (f, s)) (λ e. let f = eqb-false i n e in h .idle i (omega (arith, f)) b);
+  idle = λ i a b. by-test (eqb i n) (λ e. let f = eqb-true i n e in rw (f, s)) (λ e.
+      let f = eqb-false i n e in h .idle i (omega (arith, f)) b);
   below = omega (arith, h .below);
   within = h .within;
 }
@@ -249,7 +270,8 @@ here-shut book C c n j T h s = record {
 -- ---- Runners
 -- a runner over rows, with row m free, and one of the definition
 pub record Alike (book : Book) (m : ℕ) (S : RowRunner) (R : Runner) : Type 0 where
-  pub of : (C : Call) (c j : ℕ) (todo : List (Todo ℕ)) (x items : ℕ) (s : RowState) → Here book C c (suc m) j (s .rows) →
+  pub of : (C : Call) (c j : ℕ) (todo : List (Todo ℕ)) (x items : ℕ) (s : RowState) →
+      Here book C c (suc m) j (s .rows) →
       R C j todo x items (rowOf (s .rows) c .run) (stateAt c s) ≡ see (ranAt c) (S c j todo x items s)
 
 -- with n levels left there are none, or two that are alike
@@ -257,11 +279,14 @@ pub data Kin (book : Book) : ℕ → Option RowRunner → Option Runner → Type
   last : (n : ℕ) → Kin book n none none
   more : (m : ℕ) (S : RowRunner) (R : Runner) → Keeping m S → Alike book m S R → Kin book (suc m) (some S) (some R)
 
-pub kin-inner : (book : Book) (n : ℕ) (inner : Option RowRunner) (innerA : Option Runner) → Kin book n inner innerA → Inner n inner
+pub kin-inner : (book : Book) (n : ℕ) (inner : Option RowRunner) (innerA : Option Runner) →
+    Kin book n inner innerA → Inner n inner
 kin-inner book n inner innerA (last k) = Inner.last k
 kin-inner book n inner innerA (more m S R keeping alike) = Inner.more m S keeping
 
-pub nested-see : (g : Outcome → Parsed) (book : Book) (text : List ℕ) (n : ℕ) (inner : Option RowRunner) (innerA : Option Runner) → Kin book n inner innerA →
+pub nested-see :
+    (g : Outcome → Parsed) (book : Book) (text : List ℕ) (n : ℕ) (inner : Option RowRunner) (innerA : Option Runner) →
+    Kin book n inner innerA →
     (s : RowState) (asked : List Bool) (F : Runner → Result Parsed) (f : RowRunner → Result Outcome) →
     ((m : ℕ) (S : RowRunner) (R : Runner) → n ≡ suc m → Keeping m S → Alike book m S R → F R ≡ see g (f S)) →
     nested book text innerA (stateOf (s .units) (s .cells) asked) F ≡ see g (nestedRows book text inner n s f)

@@ -19,17 +19,25 @@ use Rattle.semantics.specs.Tokens.{when, freeEnd, hasClaimant, claimed}
 use Rattle.semantics.specs.Steps.{todoOf}
 use Rattle.semantics.specs.Cells.{Cell}
 use Rattle.semantics.specs.Errors.{Error, error}
-use Rattle.semantics.specs.Run.{Result, met, ok, _>>=_, State, Parsed, parsed, Call, call, withMine, Runner, allIn, kept, add, addAll, ask, newest, others, withAsked, make, failedCall, begin, counted, variants, oneRun, rounds, runCall, named, runIdentifier, nested, reentry, enter}
-use Rattle.run_model.specs.Rows.{Row, opened, ended, withSet, withRun, wasAsked, copied, rowOf, onRow, useAt, askedAt, storedOf, marksOf, pathOf, setsOf, callOf, newestGovernor, governorAt, anyClaims, RowGovernor}
-use Rattle.run_model.specs.Model.{RowState, rowState, Outcome, outcome, RowRunner, bareCall, failsEmpty, takeVariant, variantsRows, oneRunRows, settle, roundsRows, settleFirst, runCallRows, namedRows, runIdentifierRows, nestedRows, storedRows, enterRows}
+use Rattle.semantics.specs.Run.{Result, met, ok, _>>=_, State, Parsed, parsed, Call, call, withMine, Runner, allIn}
+use Rattle.semantics.specs.Run.{kept, add, addAll, ask, newest, others, withAsked, make, failedCall, begin, counted}
+use Rattle.semantics.specs.Run.{variants, oneRun, rounds, runCall, named, runIdentifier, nested, reentry, enter}
+use Rattle.run_model.specs.Rows.{Row, opened, ended, withSet, withRun, wasAsked, copied, rowOf, onRow, useAt}
+use Rattle.run_model.specs.Rows.{askedAt, storedOf, marksOf, pathOf, setsOf, callOf, newestGovernor, governorAt}
+use Rattle.run_model.specs.Rows.{anyClaims, RowGovernor}
+use Rattle.run_model.specs.Model.{RowState, rowState, Outcome, outcome, RowRunner, bareCall, failsEmpty}
+use Rattle.run_model.specs.Model.{takeVariant, variantsRows, oneRunRows, settle, roundsRows, settleFirst}
+use Rattle.run_model.specs.Model.{runCallRows, namedRows, runIdentifierRows, nestedRows, storedRows, enterRows}
 use Rattle.run_model.specs.Keeps.{row-put, run-put, Ran, Keeping}
 use Rattle.run_model.specs.KeepsRun.{keeps-taken, keeps-one-run}
 use Rattle.run_model.specs.Views.{open-put, Picked, Agree, no-governor, after-start, at-start, agree, claims-path}
-use Rattle.run_model.specs.Sim.{stateOf, see, then-see, last-see, same-see, when-see, list-see, plain-make, plain-begin, makes-see, spend-see, stateAt, ranAt, endAt, foundAt, Standing, Here, standing-keeps, Alike, Kin, nested-see}
+use Rattle.run_model.specs.Sim.{stateOf, see, then-see, last-see, same-see, when-see, list-see, plain-make}
+use Rattle.run_model.specs.Sim.{plain-begin, makes-see, spend-see, stateAt, ranAt, endAt, foundAt, Standing, Here}
+use Rattle.run_model.specs.Sim.{standing-keeps, Alike, Kin, nested-see}
 
 -- what a change of row n that keeps its mark shows of the state
-pub state-put : (n units : ℕ) (cells : List Cell) (T : List Row) (r : Row) → n < length T → r .asked ≡ rowOf T n .asked →
-    stateAt n (rowState units cells (set T n r)) ≡ stateAt n (rowState units cells T)
+pub state-put : (n units : ℕ) (cells : List Cell) (T : List Row) (r : Row) → n < length T →
+    r .asked ≡ rowOf T n .asked → stateAt n (rowState units cells (set T n r)) ≡ stateAt n (rowState units cells T)
 state-put n units cells T r h e =
     let f : rowOf (set T n r) n ≡ r = row-put T n r h in
     let m : marksOf (set T n r) n ≡ marksOf T n = open-put askedAt T n r in
@@ -42,7 +50,8 @@ unfolding counted
 counted-bare book text C N u j none e = refl
 counted-bare book text C N u j (some f) e = rw e
 
-failed-bare : (C : Call) (N u : ℕ) (f : Option Error) → N ≡ C .nonterminal → u ≡ C .start → failedCall C f ≡ failedCall (bareCall N u) f
+failed-bare : (C : Call) (N u : ℕ) (f : Option Error) → N ≡ C .nonterminal → u ≡ C .start →
+    failedCall C f ≡ failedCall (bareCall N u) f
 unfolding failedCall
 failed-bare C N u none d e = rw (d, e)
 failed-bare C N u (some f) d e = refl
@@ -52,23 +61,27 @@ add-all-state : (units : ℕ) (cells : List Cell) (A B : List Bool) (set ps : Li
     addAll (stateOf units cells A) set ps ≡ addAll (stateOf units cells B) set ps
 unfolding addAll add _>>=_
 add-all-state units cells A B set [] = refl
-add-all-state units cells A B set (p ∷ ps) = go (add (stateOf units cells B) set p) (λ more. add-all-state units cells A B more ps)
+add-all-state units cells A B set (p ∷ ps) =
+    go (add (stateOf units cells B) set p) (λ more. add-all-state units cells A B more ps)
   where
-    go : (y : Result (List (Parse ℕ))) → ((more : List (Parse ℕ)) → addAll (stateOf units cells A) more ps ≡ addAll (stateOf units cells B) more ps) →
-        (y >>= (λ more. addAll (stateOf units cells A) more ps)) ≡ (y >>= (λ more. addAll (stateOf units cells B) more ps))
+    go : (y : Result (List (Parse ℕ))) →
+        ((more : List (Parse ℕ)) → addAll (stateOf units cells A) more ps ≡ addAll (stateOf units cells B) more ps) →
+        (y >>= (λ more. addAll (stateOf units cells A) more ps))
+        ≡ (y >>= (λ more. addAll (stateOf units cells B) more ps))
     go (met number u) h = refl
     go (ok more) h = h more
 
 -- ---- A call at row n, whose variants run with row m = n - 1 free
-module _ (book : Book) (text : List ℕ) (m : ℕ) (S : RowRunner) (R : Runner) (keeping : Keeping m S) (alike : Alike book m S R)
-    (n : ℕ) (next : n ≡ suc m) (room : n ≤ 200) (least : ℕ) where
+module _ (book : Book) (text : List ℕ) (m : ℕ) (S : RowRunner) (R : Runner) (keeping : Keeping m S)
+    (alike : Alike book m S R) (n : ℕ) (next : n ≡ suc m) (room : n ≤ 200) (least : ℕ) where
   standing-self : (C : Call) (T : List Row) → Standing C n T → Standing (callOf T n) n T
   standing-self C T h = record { live = h .live; scope = h .scope; call = refl; size = h .size }
 
   -- one variant
   sim-taken : (C : Call) (j x items units : ℕ) (cells : List Cell) (T : List Row) → Standing C n T →
       R C j (todoOf book (nthVariant book j)) x items (rowOf T n .run) (stateAt n (rowState units cells T))
-      ≡ see (ranAt n) (S n j (todoOf book (nthVariant book j)) x items (rowState units cells (onRow T n (takeVariant book text j))))
+      ≡ see (ranAt n)
+      (S n j (todoOf book (nthVariant book j)) x items (rowState units cells (onRow T n (takeVariant book text j))))
   sim-taken C j x items units cells T h =
       let r = takeVariant book text j (rowOf T n) in
       let l : n < length T = omega (arith, h .size) in
@@ -82,10 +95,11 @@ module _ (book : Book) (text : List ℕ) (m : ℕ) (S : RowRunner) (R : Runner) 
         within = room;
       } in
       let run : rowOf (set T n r) n .run ≡ rowOf T n .run = ap (λ r. r .run) f in
-      rw (run, state-put n units cells T r l refl) at (alike .of C n j (todoOf book (nthVariant book j)) x items (rowState units cells (set T n r)) here)
+      rw (run, state-put n units cells T r l refl)
+      at (alike .of C n j (todoOf book (nthVariant book j)) x items (rowState units cells (set T n r)) here)
 
-  sim-variants : (C : Call) (k j : ℕ) (e : Option Error) (units : ℕ) (cells : List Cell) (T : List Row) → Standing C n T →
-      variants book text R C least k j (rowOf T n .run) e (stateAt n (rowState units cells T))
+  sim-variants : (C : Call) (k j : ℕ) (e : Option Error) (units : ℕ) (cells : List Cell) (T : List Row) →
+      Standing C n T → variants book text R C least k j (rowOf T n .run) e (stateAt n (rowState units cells T))
       ≡ see (ranAt n) (variantsRows book text S n least k j e (rowState units cells T))
   unfolding variants variantsRows see
   sim-variants C zero j e units cells T h = refl
@@ -96,15 +110,20 @@ module _ (book : Book) (text : List ℕ) (m : ℕ) (S : RowRunner) (R : Runner) 
       let same : D ≡ C = h .call in
       rw (← same)
       (when-see (ranAt n) (leb least (nthVariant book j .level)) _ _ _ _
-      (λ _. makes-see (ranAt n) (begin book text j) (plain-begin book text j) (rowState units cells T) (askedAt r ∷ marksOf T n) _ _
-      (λ cell units₁ cells₁. then-see (ranAt n) (ranAt n) (Ran n T) _ _ _ _ (sim-taken D j (r .start) cell units₁ cells₁ T g)
+      (λ _.
+      makes-see (ranAt n) (begin book text j) (plain-begin book text j) (rowState units cells T)
+      (askedAt r ∷ marksOf T n) _ _
+      (λ cell units₁ cells₁.
+      then-see (ranAt n) (ranAt n) (Ran n T) _ _ _ _ (sim-taken D j (r .start) cell units₁ cells₁ T g)
       (keeps-taken book text m S keeping n next room least j (r .start) cell units₁ cells₁ T (h .size))
       (λ o a. rw (counted-bare book text D (r .nonterminal) (r .start) j (o .failure) refl)
-      (sim-variants D k (suc j) _ (o .state .units) (o .state .cells) (o .state .rows) (standing-keeps D n T (o .state .rows) g a)))))
+      (sim-variants D k (suc j) _ (o .state .units) (o .state .cells) (o .state .rows)
+      (standing-keeps D n T (o .state .rows) g a)))))
       (λ _. sim-variants D k (suc j) e units cells T g))
 
   sim-one-run : (C : Call) (units : ℕ) (cells : List Cell) (T : List Row) → Standing C n T →
-      oneRun book text R C least (stateAt n (rowState units cells T)) ≡ see (ranAt n) (oneRunRows book text S n least (rowState units cells T))
+      oneRun book text R C least (stateAt n (rowState units cells T))
+      ≡ see (ranAt n) (oneRunRows book text S n least (rowState units cells T))
   unfolding oneRun oneRunRows
   sim-one-run C units cells T h =
       let D = callOf T n in
@@ -116,14 +135,17 @@ module _ (book : Book) (text : List ℕ) (m : ℕ) (S : RowRunner) (R : Runner) 
       let same : D ≡ C = h .call in
       rw (← same)
       (rw (f, state-put n units cells T r l refl) at
-      (sim-variants D (nt .count) (nt .first) none units cells (set T n r) (standing-keeps D n T (set T n r) g (run-put n T r l refl))))
+      (sim-variants D (nt .count) (nt .first) none units cells (set T n r)
+      (standing-keeps D n T (set T n r) g (run-put n T r l refl))))
 
   -- a further run is settled: its set joins the call's
-  all-standing : (C : Call) (T : List Row) (all : List (Parse ℕ)) → Standing C n T → Standing (withMine C all) n (onRow T n (withSet all))
+  all-standing : (C : Call) (T : List Row) (all : List (Parse ℕ)) → Standing C n T →
+      Standing (withMine C all) n (onRow T n (withSet all))
   all-standing C T all h =
       let r = withSet all (rowOf T n) in
       let f : rowOf (set T n r) n ≡ r = row-put T n r (omega (arith, h .size)) in
-      let mine : callOf (set T n r) n ≡ withMine (callOf T n) all = rw (open-put useAt T n r, open-put storedOf T n r, f) in
+      let mine : callOf (set T n r) n ≡ withMine (callOf T n) all =
+      rw (open-put useAt T n r, open-put storedOf T n r, f) in
       record {
         live = ap (λ r. r .live) f ∙ h .live;
         scope = ap (λ r. r .scope) f ∙ h .scope;
@@ -132,7 +154,8 @@ module _ (book : Book) (text : List ℕ) (m : ℕ) (S : RowRunner) (R : Runner) 
       }
 
   -- what is seen of a row that ends with a set
-  end-seen : (units : ℕ) (cells : List Cell) (T : List Row) (e : Option Error) (r : Row) → n < length T → r .asked ≡ rowOf T n .asked →
+  end-seen : (units : ℕ) (cells : List Cell) (T : List Row) (e : Option Error) (r : Row) → n < length T →
+      r .asked ≡ rowOf T n .asked →
       endAt n (outcome e (rowState units cells (set T n r))) ≡ parsed (r .set) e (stateAt n (rowState units cells T))
   end-seen units cells T e r l a =
       let f : rowOf (set T n r) n .set ≡ r .set = ap (λ r. r .set) (row-put T n r l) in
@@ -140,9 +163,11 @@ module _ (book : Book) (text : List ℕ) (m : ℕ) (S : RowRunner) (R : Runner) 
 
   sim-settle : (k : ℕ) (onward : RowState → Result Outcome) →
       ((C : Call) (units : ℕ) (cells : List Cell) (T : List Row) → Standing C n T →
-      rounds book text k R C least (stateAt n (rowState units cells T)) ≡ see (endAt n) (onward (rowState units cells T))) →
+      rounds book text k R C least (stateAt n (rowState units cells T))
+      ≡ see (endAt n) (onward (rowState units cells T))) →
       (units : ℕ) (cells : List Cell) (T : List Row) → Standing (callOf T n) n T →
-      when (allIn (rowOf T n .set) (rowOf T n .run)) (λ _. ok (parsed (rowOf T n .set) none (stateAt n (rowState units cells T))))
+      when (allIn (rowOf T n .set) (rowOf T n .run))
+      (λ _. ok (parsed (rowOf T n .set) none (stateAt n (rowState units cells T))))
       (λ _. addAll (stateAt n (rowState units cells T)) (rowOf T n .set) (rowOf T n .run) >>=
       (λ all. rounds book text k R (withMine (callOf T n) all) least (stateAt n (rowState units cells T))))
       ≡ see (endAt n) (settle book text n onward (rowState units cells T))
@@ -150,14 +175,16 @@ module _ (book : Book) (text : List ℕ) (m : ℕ) (S : RowRunner) (R : Runner) 
   sim-settle k onward f units cells T h =
       let r = rowOf T n in
       let l : n < length T = omega (arith, h .size) in
-      when-see (endAt n) (allIn (r .set) (r .run)) _ _ _ _ (λ _. ap ok (sym (end-seen units cells T none (ended r) l refl)))
+      when-see (endAt n) (allIn (r .set) (r .run)) _ _ _ _
+      (λ _. ap ok (sym (end-seen units cells T none (ended r) l refl)))
       (λ _. rw (add-all-state units cells (askedAt r ∷ marksOf T n) [] (r .set) (r .run))
       (same-see (endAt n) (addAll (stateOf units cells []) (r .set) (r .run)) _ _
       (λ all. rw (state-put n units cells T (withSet all r) l refl) at
       (f (withMine (callOf T n) all) units cells (onRow T n (withSet all)) (all-standing (callOf T n) T all h)))))
 
   sim-rounds : (k : ℕ) (C : Call) (units : ℕ) (cells : List Cell) (T : List Row) → Standing C n T →
-      rounds book text k R C least (stateAt n (rowState units cells T)) ≡ see (endAt n) (roundsRows book text k S n least (rowState units cells T))
+      rounds book text k R C least (stateAt n (rowState units cells T))
+      ≡ see (endAt n) (roundsRows book text k S n least (rowState units cells T))
   unfolding rounds roundsRows see
   sim-rounds zero C units cells T h = refl
   sim-rounds (suc k) C units cells T h =
@@ -167,26 +194,33 @@ module _ (book : Book) (text : List ℕ) (m : ℕ) (S : RowRunner) (R : Runner) 
       let U = o .state .rows in
       let g = standing-keeps C n T U h a in
       let e : callOf U n ≡ C = g .call in
-      rw (← e) (sim-settle k _ (λ C units cells T h. sim-rounds k C units cells T h) (o .state .units) (o .state .cells) U
+      rw (← e)
+      (sim-settle k _ (λ C units cells T h. sim-rounds k C units cells T h) (o .state .units) (o .state .cells) U
       (record { live = g .live; scope = g .scope; call = refl; size = g .size })))
 
   -- the first run is settled: its set is the call's
   sim-first : (C : Call) (f : Option Error) (units : ℕ) (cells : List Cell) (T : List Row) → Standing C n T →
       elim (rowOf T n .run) [
         | [] ↦ ok (parsed [] (some (failedCall C f)) (stateAt n (rowState units cells T)))
-        | p ∷ ps ↦ when (askedAt (rowOf T n)) (λ _. rounds book text 65 R (withMine C (rowOf T n .run)) least (stateAt n (rowState units cells T)))
+        | p ∷ ps ↦ when (askedAt (rowOf T n))
+            (λ _. rounds book text 65 R (withMine C (rowOf T n .run)) least (stateAt n (rowState units cells T)))
             (λ _. ok (parsed (rowOf T n .run) none (stateAt n (rowState units cells T))))
       ]
-      ≡ see (endAt n) (settleFirst book text n (λ t. roundsRows book text 65 S n least t) (outcome f (rowState units cells T)))
+      ≡ see (endAt n)
+      (settleFirst book text n (λ t. roundsRows book text 65 S n least t) (outcome f (rowState units cells T)))
   unfolding settleFirst see
   sim-first C f units cells T h =
       let r = rowOf T n in
       let l : n < length T = omega (arith, h .size) in
       let q = ended (copied r) in
       let e = failedCall (bareCall (r .nonterminal) (r .start)) f in
-      let failure : failedCall C f ≡ e = failed-bare C (r .nonterminal) (r .start) f (ap (λ c. c .nonterminal) (h .call)) (ap (λ c. c .start) (h .call)) in
+      let failure : failedCall C f ≡ e =
+      failed-bare C (r .nonterminal) (r .start) f (ap (λ c. c .nonterminal) (h .call)) (ap (λ c. c .start) (h .call)) in
       list-see (endAt n) (r .run) _ _ _ _
-      (λ z. ap ok (sym (end-seen units cells T (some e) q l refl ∙ rw (z, failure) (refl {a = parsed [] (some e) (stateAt n (rowState units cells T))}))))
+      (λ z. ap ok (sym (end-seen units cells T (some e) q l refl ∙ rw (
+        z,
+        failure,
+      ) (refl {a = parsed [] (some e) (stateAt n (rowState units cells T))}))))
       (λ p ps z. when-see (endAt n) (askedAt r) _ _ _ _
       (λ _. rw (state-put n units cells T (copied r) l refl) at
       (sim-rounds 65 (withMine C (r .run)) units cells (onRow T n copied) (all-standing C T (r .run) h)))
@@ -200,7 +234,9 @@ module _ (book : Book) (text : List ℕ) (m : ℕ) (S : RowRunner) (R : Runner) 
       let U = onRow T n (opened N u) in
       then-see (ranAt n) (endAt n) (Ran n U) _ _ _ _ (sim-one-run C units cells U h)
       (keeps-one-run book text m S keeping n next room least (rowState units cells U) (h .size))
-      (λ o a. sim-first C (o .failure) (o .state .units) (o .state .cells) (o .state .rows) (standing-keeps C n U (o .state .rows) h a))
+      (λ o a.
+      sim-first C (o .failure) (o .state .units) (o .state .cells) (o .state .rows)
+      (standing-keeps C n U (o .state .rows) h a))
 
   pub sim-run-call : (N u units : ℕ) (cells : List Cell) (T : List Row) → length T ≡ 201 →
       runCall book text R (call (pathOf T n) (setsOf T n) N u []) least (stateOf units cells (false ∷ marksOf T n))
@@ -215,7 +251,8 @@ module _ (book : Book) (text : List ℕ) (m : ℕ) (S : RowRunner) (R : Runner) 
         call = rw (open-put useAt T n r, open-put storedOf T n r, f);
         size = length-set T n r ∙ size;
       } in
-      let state : stateAt n (rowState units cells (set T n r)) ≡ stateOf units cells (false ∷ marksOf T n) = rw (open-put askedAt T n r, f) in
+      let state : stateAt n (rowState units cells (set T n r)) ≡ stateOf units cells (false ∷ marksOf T n) =
+      rw (open-put askedAt T n r, f) in
       ap (λ s. runCall book text R C least s) (sym state) ∙ sim-opened C N u units cells T standing
 
 -- ---- What is seen behind a call
@@ -237,9 +274,10 @@ module _ (book : Book) (text : List ℕ) (n N u : ℕ) (T : List Row) (size : n 
   sim-named units cells none = ap ok (sym (found-seen n units cells T (some (error u 11 N)) nameless size))
   sim-named units cells (some end) =
       let l : length (set T n nameless) ≡ length T = length-set T n nameless in
-      makes-see (foundAt n) (make text (Cell.name u (end - u))) (plain-make text (Cell.name u (end - u))) (rowState units cells (set T n nameless))
-      (marksOf T n) _ _
-      (λ cell units₁ cells₁. ap ok (sym (found-seen n units₁ cells₁ (set T n nameless) none _ (omega arith) ∙ rw (open-put askedAt T n nameless))))
+      makes-see (foundAt n) (make text (Cell.name u (end - u))) (plain-make text (Cell.name u (end - u)))
+      (rowState units cells (set T n nameless)) (marksOf T n) _ _
+      (λ cell units₁ cells₁. ap ok
+      (sym (found-seen n units₁ cells₁ (set T n nameless) none _ (omega arith) ∙ rw (open-put askedAt T n nameless))))
 
   pub sim-identifier : (units : ℕ) (cells : List Cell) →
       runIdentifier book text (call (pathOf T n) (setsOf T n) N u []) (stateOf units cells (marksOf T n))
@@ -247,20 +285,23 @@ module _ (book : Book) (text : List ℕ) (n N u : ℕ) (T : List Row) (size : n 
   unfolding runIdentifier runIdentifierRows
   sim-identifier units cells =
       let q : anyClaims book (set T n nameless) u (200 - n) (suc n) ≡ hasClaimant book text (pathOf T n) base u =
-      claims-path book text (set T n nameless) u (200 - n) (suc n) ∙ ap (λ p. hasClaimant book text p base u) (open-put useAt T n nameless) in
+      claims-path book text (set T n nameless) u (200 - n) (suc n)
+      ∙ ap (λ p. hasClaimant book text p base u) (open-put useAt T n nameless) in
       rw q (sim-named units cells (when (claimed book text (pathOf T n) base u) (λ _. none) (λ _. freeEnd book text u)))
 
 -- ---- A call
-module _ (book : Book) (text : List ℕ) (n : ℕ) (inner : Option RowRunner) (innerA : Option Runner) (kin : Kin book n inner innerA)
-    (room : n ≤ 200) (N u : ℕ) (T : List Row) (size : length T ≡ 201) where
-  reentry-is : (l : List (Parse ℕ)) (e : Error) (s : State) → reentry book text innerA l e s ≡ parsed l (failsEmpty l e) s
+module _ (book : Book) (text : List ℕ) (n : ℕ) (inner : Option RowRunner) (innerA : Option Runner)
+    (kin : Kin book n inner innerA) (room : n ≤ 200) (N u : ℕ) (T : List Row) (size : length T ≡ 201) where
+  reentry-is : (l : List (Parse ℕ)) (e : Error) (s : State) →
+      reentry book text innerA l e s ≡ parsed l (failsEmpty l e) s
   unfolding reentry failsEmpty
   reentry-is [] e s = refl
   reentry-is (p ∷ ps) e s = refl
 
   -- re-entry: what the governor of row g has stored, filtered
   sim-stored : (g x units : ℕ) (cells : List Cell) → suc n ≤ g → Picked T (200 - n) (suc n) g x →
-      reentry book text innerA (kept (useAt (rowOf T g)) (getD (setsOf T n) x [])) (error u 11 N) (stateOf units cells (ask x (marksOf T n)))
+      reentry book text innerA (kept (useAt (rowOf T g)) (getD (setsOf T n) x [])) (error u 11 N)
+      (stateOf units cells (ask x (marksOf T n)))
       ≡ foundAt n (storedRows book text inner n g N u (rowState units cells T))
   unfolding storedRows
   sim-stored g x units cells l w =
@@ -269,7 +310,8 @@ module _ (book : Book) (text : List ℕ) (n : ℕ) (inner : Option RowRunner) (i
       let r = ended (withSet K (rowOf U n)) in
       let room : n < length U = rw (length-set T g (wasAsked (rowOf T g))) (omega arith) in
       let f : rowOf (set U n r) n .set ≡ K = ap (λ r. r .set) (row-put U n r room) in
-      let first : reentry book text innerA (kept (useAt (rowOf T g)) (getD (setsOf T n) x [])) (error u 11 N) (stateOf units cells (ask x (marksOf T n)))
+      let first : reentry book text innerA (kept (useAt (rowOf T g)) (getD (setsOf T n) x [])) (error u 11 N)
+      (stateOf units cells (ask x (marksOf T n)))
       ≡ parsed K (failsEmpty K (error u 11 N)) (stateOf units cells (marksOf U n)) =
       rw (w .sets, w .marks) (reentry-is K (error u 11 N) (stateOf units cells (marksOf U n))) in
       first ∙ sym (found-seen n units cells U (failsEmpty (rowOf (set U n r) n .set) (error u 11 N)) r room ∙
@@ -278,8 +320,11 @@ module _ (book : Book) (text : List ℕ) (n : ℕ) (inner : Option RowRunner) (i
   -- the call's runs, by the definition and by rows
   abbrev runs : ℕ → ℕ → List Cell → Runner → Result Parsed
   runs least units cells run =
-      when (hasMark book 2 N) (λ _. runIdentifier book text (call (pathOf T n) (setsOf T n) N u []) (stateOf units cells (marksOf T n)))
-      (λ _. runCall book text run (call (pathOf T n) (setsOf T n) N u []) least (stateOf units cells (false ∷ marksOf T n)) >>=
+      when (hasMark book 2 N)
+      (λ _. runIdentifier book text (call (pathOf T n) (setsOf T n) N u []) (stateOf units cells (marksOf T n)))
+      (λ _.
+      runCall book text run (call (pathOf T n) (setsOf T n) N u []) least (stateOf units cells (false ∷ marksOf T n))
+      >>=
       (λ r. ok (parsed (r .set) (r .failure) (withAsked (r .state) (others (r .state .asked))))))
 
   abbrev runsRows : ℕ → ℕ → List Cell → RowRunner → Result Outcome
@@ -293,12 +338,16 @@ module _ (book : Book) (text : List ℕ) (n : ℕ) (inner : Option RowRunner) (i
   unfolding others
   sim-nested least units cells =
       nested-see (foundAt n) book text n inner innerA kin (rowState units cells T) (marksOf T n) _ _
-      (λ m S R e keeping alike. when-see (foundAt n) (hasMark book 2 N) _ _ _ _ (λ _. sim-identifier book text n N u T (omega arith) units cells)
-      (λ _. last-see (endAt n) (foundAt n) _ _ _ (sim-run-call book text m S R keeping alike n e room least N u units cells T size) (λ o. refl)))
+      (λ m S R e keeping alike.
+      when-see (foundAt n) (hasMark book 2 N) _ _ _ _ (λ _. sim-identifier book text n N u T (omega arith) units cells)
+      (λ _.
+      last-see (endAt n) (foundAt n) _ _ _
+      (sim-run-call book text m S R keeping alike n e room least N u units cells T size) (λ o. refl)))
 
   sim-governed : (units : ℕ) (cells : List Cell) (g : ℕ) (a : Governor) → Agree T u (200 - n) (suc n) g a →
       elim a [
-        | same-start i f around ↦ ok (reentry book text innerA (kept f (getD (setsOf T n) i [])) (error u 11 N) (stateOf units cells (ask i (marksOf T n))))
+        | same-start i f around ↦ ok (reentry book text innerA (kept f (getD (setsOf T n) i [])) (error u 11 N)
+            (stateOf units cells (ask i (marksOf T n))))
         | minimum least ↦ nested book text innerA (stateOf units cells (marksOf T n)) (runs least units cells)
       ]
       ≡ see (foundAt n) (elim (governorAt T u g) [
@@ -308,7 +357,8 @@ module _ (book : Book) (text : List ℕ) (n : ℕ) (inner : Option RowRunner) (i
   unfolding governorAt see
   sim-governed units cells g a (no-governor h p) = rw p (sim-nested 0 units cells)
   sim-governed units cells g a (after-start h p q) = rw (p, q) (sim-nested _ units cells)
-  sim-governed units cells g a (at-start h x around l p q w) = rw (le-ltb 200 h p, q) (ap ok (sim-stored h x units cells l w))
+  sim-governed units cells g a (at-start h x around l p q w) =
+      rw (le-ltb 200 h p, q) (ap ok (sim-stored h x units cells l w))
 
   pub sim-enter : (units : ℕ) (cells : List Cell) →
       enter book text innerA (pathOf T n) (setsOf T n) N u (stateOf units cells (marksOf T n))

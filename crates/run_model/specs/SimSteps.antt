@@ -23,16 +23,27 @@ use Rattle.semantics.specs.Tokens.{when}
 use Rattle.semantics.specs.Steps.{Token, stepAt, afterElement, closed, Todo, taking, elements, ending}
 use Rattle.semantics.specs.Cells.{Cell}
 use Rattle.semantics.specs.Errors.{Error, chosenFailure}
-use Rattle.semantics.specs.Run.{Result, ok, _>>=_, State, Parsed, parsed, Call, call, Runner, Go, Next, add, spend, make, chosen, complete, withToken, plainNext, listNext, stops, nested, enterChild, followMore, follow, followed, stepUnit, orAbsent, choice, listing, steps, run}
-use Rattle.run_model.specs.Rows.{Row, withChild, withRun, rowOf, onRow, openAbove, useAt, askedAt, storedOf, marksOf, pathOf, callOf}
-use Rattle.run_model.specs.Model.{RowState, rowState, Outcome, outcome, RowRunner, RowGo, RowNext, makes, spendRows, together, valueCell, variantParse, addRun, completeRows, plainNextRows, listNextRows, stopsRows, nestedRows, enterChildRows, followFrom, followedRows, stepUnitRows, chosenRows, orChild, orAbsentRows, choiceRows, listingRows, stepsRows}
+use Rattle.semantics.specs.Run.{Result, ok, _>>=_, State, Parsed, parsed, Call, call, Runner, Go, Next, add, spend}
+use Rattle.semantics.specs.Run.{make, chosen, complete, withToken, plainNext, listNext, stops, nested, enterChild}
+use Rattle.semantics.specs.Run.{followMore, follow, followed, stepUnit, orAbsent, choice, listing, steps, run}
+use Rattle.run_model.specs.Rows.{Row, withChild, withRun, rowOf, onRow, openAbove, useAt, askedAt, storedOf}
+use Rattle.run_model.specs.Rows.{marksOf, pathOf, callOf}
+use Rattle.run_model.specs.Model.{RowState, rowState, Outcome, outcome, RowRunner, RowGo, RowNext, makes}
+use Rattle.run_model.specs.Model.{spendRows, together, valueCell, variantParse, addRun, completeRows}
+use Rattle.run_model.specs.Model.{plainNextRows, listNextRows, stopsRows, nestedRows, enterChildRows, followFrom}
+use Rattle.run_model.specs.Model.{followedRows, stepUnitRows, chosenRows, orChild, orAbsentRows, choiceRows}
+use Rattle.run_model.specs.Model.{listingRows, stepsRows}
 use Rattle.run_model.specs.Keeps.{row-put, KeepsAt, Called, at-put, Beside, Calls, Keeping, Inner}
-use Rattle.run_model.specs.KeepsRun.{keeps-child, child-leaves, KeepsNext, keeps-one, keeps-followed, keeps-plain-next, keeps-list-next, KeepsGo, keeps-stops, keeps-steps}
+use Rattle.run_model.specs.KeepsRun.{keeps-child, child-leaves, KeepsNext, keeps-one, keeps-followed}
+use Rattle.run_model.specs.KeepsRun.{keeps-plain-next, keeps-list-next, KeepsGo, keeps-stops, keeps-steps}
 use Rattle.run_model.specs.Views.{open-put, open-skips}
-use Rattle.run_model.specs.Sim.{stateOf, see, then-see, same-see, option-see, after-see, taken-see, plain-make, plain-value, plain-with, plain-token, makes-see, spend-see, stateAt, ranAt, foundAt, Here, here-keeps, here-shut, Alike, Kin, more, kin-inner, nested-see}
+use Rattle.run_model.specs.Sim.{stateOf, see, then-see, same-see, option-see, after-see, taken-see, plain-make}
+use Rattle.run_model.specs.Sim.{plain-value, plain-with, plain-token, makes-see, spend-see, stateAt, ranAt}
+use Rattle.run_model.specs.Sim.{foundAt, Here, here-keeps, here-shut, Alike, Kin, more, kin-inner, nested-see}
 use Rattle.run_model.specs.SimCalls.{state-put, sim-enter}
 
-module _ (book : Book) (text : List ℕ) (n : ℕ) (inner : Option RowRunner) (innerA : Option Runner) (kin : Kin book n inner innerA) (room : n ≤ 200) where
+module _ (book : Book) (text : List ℕ) (n : ℕ) (inner : Option RowRunner) (innerA : Option Runner)
+    (kin : Kin book n inner innerA) (room : n ≤ 200) where
   inners : Inner n inner
   inners = kin-inner book n inner innerA kin
 
@@ -43,7 +54,8 @@ module _ (book : Book) (text : List ℕ) (n : ℕ) (inner : Option RowRunner) (i
 
     child-use : (T : List Row) (at : ℕ) → Here book C c (suc n) j T →
         useAt (withChild at (rowOf T c)) ≡ useOf book (rowOf T c .nonterminal) (rowOf T c .start) j at
-    child-use T at h = rw (h .standing .scope, h .level, h .associativity, associativity-of-number (nthVariant book j .associativity))
+    child-use T at h =
+        rw (h .standing .scope, h .level, h .associativity, associativity-of-number (nthVariant book j .associativity))
 
     -- what the live rows say once the child's place is noted
     child-open : {A : Type 0} (F : Row → A) (T : List Row) (at : ℕ) → Here book C c (suc n) j T →
@@ -51,7 +63,8 @@ module _ (book : Book) (text : List ℕ) (n : ℕ) (inner : Option RowRunner) (i
     child-open F T at h =
         let r = withChild at (rowOf T c) in
         let l : c < length T = omega (arith, h .standing .size) in
-        let g : Here book C c (suc n) j (put T at) = here-keeps book C c (suc n) j T (put T at) h (at-put c (suc n) T r l refl) in
+        let g : Here book C c (suc n) j (put T at) =
+        here-keeps book C c (suc n) j T (put T at) h (at-put c (suc n) T r l refl) in
         open-skips F (put T at) c n below within (g .standing .live) (g .idle) ∙ rw (row-put T c r l, open-put F T c r)
 
     sim-child : (M x units : ℕ) (cells : List Cell) (T : List Row) → Here book C c (suc n) j T →
@@ -75,26 +88,36 @@ module _ (book : Book) (text : List ℕ) (n : ℕ) (inner : Option RowRunner) (i
         foundAt n (outcome e (rowState units cells T)) ≡ parsed (rowOf T n .set) e (stateAt c (rowState units cells T))
     behind e units cells T h = rw (open-skips askedAt T c n below within (h .standing .live) (h .idle))
 
-    child-run : (x : ℕ) (T U : List Row) → length T ≡ 201 → Called n (put T (skipFrom text x)) U → rowOf U c .run ≡ rowOf T c .run
+    child-run : (x : ℕ) (T U : List Row) → length T ≡ 201 → Called n (put T (skipFrom text x)) U →
+        rowOf U c .run ≡ rowOf T c .run
     child-run x T U size k =
-        ap (λ r. r .run) (k .above .at c (omega arith)) ∙ ap (λ r. r .run) (row-put T c (withChild (skipFrom text x) (rowOf T c)) (omega arith))
+        ap (λ r. r .run) (k .above .at c (omega arith))
+        ∙ ap (λ r. r .run) (row-put T c (withChild (skipFrom text x) (rowOf T c)) (omega arith))
 
-    child-here : (x : ℕ) (T U : List Row) → Here book C c (suc n) j T → Called n (put T (skipFrom text x)) U → Here book C c (suc n) j U
+    child-here : (x : ℕ) (T U : List Row) → Here book C c (suc n) j T → Called n (put T (skipFrom text x)) U →
+        Here book C c (suc n) j U
     child-here x T U h k =
-        here-keeps book C c (suc n) j T U h (child-leaves book text n inner inners room c below within x T U (h .standing .size) k)
+        here-keeps book C c (suc n) j T U h
+        (child-leaves book text n inner inners room c below within x T U (h .standing .size) k)
 
     -- ---- What follows the parses of a child
     abbrev pub NextAlike : RowNext → Next → Type 0
     NextAlike next nextA = (m : ℕ) (S : RowRunner) (R : Runner) → n ≡ suc m → Keeping m S → Alike book m S R →
         (q : Parse ℕ) (units : ℕ) (cells : List Cell) (T : List Row) →
-        Here book C c n j T → nextA q (stateAt c (rowState units cells T)) R (rowOf T c .run) ≡ see (ranAt c) (next q (rowState units cells T) S)
+        Here book C c n j T →
+        nextA q (stateAt c (rowState units cells T)) R (rowOf T c .run)
+        ≡ see (ranAt c) (next q (rowState units cells T) S)
 
-    module _ (next : RowNext) (nextA : Next) (keeps : KeepsNext book text n inner inners room c below within next) (alike : NextAlike next nextA) where
+    module _ (next : RowNext) (nextA : Next) (keeps : KeepsNext book text n inner inners room c below within next)
+        (alike : NextAlike next nextA) where
       sim-one : (q : Parse ℕ) (units : ℕ) (cells : List Cell) (T : List Row) → Here book C c n j T →
-          nested book text innerA (stateAt c (rowState units cells T)) (λ run. nextA q (stateAt c (rowState units cells T)) run (rowOf T c .run))
-          ≡ see (ranAt c) (nestedRows book text inner n (rowState units cells T) (λ run. next q (rowState units cells T) run))
+          nested book text innerA (stateAt c (rowState units cells T))
+          (λ run. nextA q (stateAt c (rowState units cells T)) run (rowOf T c .run))
+          ≡ see (ranAt c)
+          (nestedRows book text inner n (rowState units cells T) (λ run. next q (rowState units cells T) run))
       sim-one q units cells T h =
-          nested-see (ranAt c) book text n inner innerA kin (rowState units cells T) (askedAt (rowOf T c) ∷ marksOf T c) _ _
+          nested-see (ranAt c) book text n inner innerA kin (rowState units cells T)
+          (askedAt (rowOf T c) ∷ marksOf T c) _ _
           (λ m S R e keeping al. alike m S R e keeping al q units cells T h)
 
       -- row n keeps what the child found
@@ -110,11 +133,14 @@ module _ (book : Book) (text : List ℕ) (n : ℕ) (inner : Option RowRunner) (i
       sim-more Q (suc k) i e units cells T f g h =
           rw (drop-cons Q (suc i) absentParse (omega arith), f)
           (then-see (ranAt c) (ranAt c) (Beside c n T) _ _ _ _ (sim-one (getD Q (suc i) absentParse) units cells T h)
-          (keeps-one book text n inner inners room c below within next keeps (getD Q (suc i) absentParse) (rowState units cells T) (h .standing .size))
-          (λ o a. sim-more Q k (suc i) _ (o .state .units) (o .state .cells) (o .state .rows) (set-stays T (o .state .rows) a ∙ f) (omega arith)
-          (here-keeps book C c n j T (o .state .rows) h a)))
+          (keeps-one book text n inner inners room c below within next keeps (getD Q (suc i) absentParse)
+          (rowState units cells T) (h .standing .size))
+          (λ o a.
+          sim-more Q k (suc i) _ (o .state .units) (o .state .cells) (o .state .rows)
+          (set-stays T (o .state .rows) a ∙ f) (omega arith) (here-keeps book C c n j T (o .state .rows) h a)))
 
-      sim-follow : (Q : List (Parse ℕ)) (k units : ℕ) (cells : List Cell) (T : List Row) → rowOf T n .set ≡ Q → k ≡ length Q → Here book C c n j T →
+      sim-follow : (Q : List (Parse ℕ)) (k units : ℕ) (cells : List Cell) (T : List Row) → rowOf T n .set ≡ Q →
+          k ≡ length Q → Here book C c n j T →
           follow book text innerA nextA Q (rowOf T c .run) (stateAt c (rowState units cells T))
           ≡ see (ranAt c) (followFrom book text inner n next k 0 none (rowState units cells T))
       unfolding follow followFrom together see
@@ -122,22 +148,27 @@ module _ (book : Book) (text : List ℕ) (n : ℕ) (inner : Option RowRunner) (i
       sim-follow (q ∷ Q) k units cells T f g h =
           rw (g, f)
           (then-see (ranAt c) (ranAt c) (Beside c n T) _ _ _ _ (sim-one q units cells T h)
-          (keeps-one book text n inner inners room c below within next keeps q (rowState units cells T) (h .standing .size))
+          (keeps-one book text n inner inners room c below within next keeps q
+          (rowState units cells T) (h .standing .size))
           (λ o a. sim-more (q ∷ Q) (length Q) 0 (o .failure) (o .state .units) (o .state .cells) (o .state .rows)
           (set-stays T (o .state .rows) a ∙ f) (omega arith) (here-keeps book C c n j T (o .state .rows) h a)))
 
-      sim-followed : (e : Option Error) (units : ℕ) (cells : List Cell) (T : List Row) → Here book C c n j T → Here book C c (suc n) j T →
+      sim-followed : (e : Option Error) (units : ℕ) (cells : List Cell) (T : List Row) → Here book C c n j T →
+          Here book C c (suc n) j T →
           followed book text innerA nextA (rowOf T c .run) (foundAt n (outcome e (rowState units cells T)))
           ≡ see (ranAt c) (followedRows book text inner n next (outcome e (rowState units cells T)))
       unfolding followed followedRows see
       sim-followed e units cells T h g =
           ap (λ r. followed book text innerA nextA (rowOf T c .run) r) (behind e units cells T g)
-          ∙ option-see (ranAt c) e _ _ _ _ (λ z. sim-follow (rowOf T n .set) (length (rowOf T n .set)) units cells T refl refl h) (λ d z. refl)
+          ∙ option-see (ranAt c) e _ _ _ _
+          (λ z. sim-follow (rowOf T n .set) (length (rowOf T n .set)) units cells T refl refl h) (λ d z. refl)
 
       -- a child is called, and what it found is followed
       sim-descend : (M x units : ℕ) (cells : List Cell) (T : List Row) → Here book C c (suc n) j T →
-          (enterChild book text innerA C j M x (stateAt c (rowState units cells T)) >>= (λ r. followed book text innerA nextA (rowOf T c .run) r))
-          ≡ see (ranAt c) (enterChildRows book text inner n c M x (rowState units cells T) >>= (λ r. followedRows book text inner n next r))
+          (enterChild book text innerA C j M x (stateAt c (rowState units cells T))
+          >>= (λ r. followed book text innerA nextA (rowOf T c .run) r))
+          ≡ see (ranAt c) (enterChildRows book text inner n c M x (rowState units cells T)
+          >>= (λ r. followedRows book text inner n next r))
       sim-descend M x units cells T h =
           then-see (foundAt n) (ranAt c) (Calls n (put T (skipFrom text x))) _ _ _ _ (sim-child M x units cells T h)
           (keeps-child book text n inner inners room c below within M x (rowState units cells T) (h .standing .size))
@@ -154,18 +185,21 @@ module _ (book : Book) (text : List ℕ) (n : ℕ) (inner : Option RowRunner) (i
       chosen-seen at none b e = refl
       chosen-seen at (some a) b e = both (b .failure) refl
         where
-          both : (f : Option Error) → f ≡ b .failure → chosen C at (some a) (ranAt c b) ≡ ranAt c (chosenRows book text inner n c at (some a) b)
+          both : (f : Option Error) → f ≡ b .failure →
+              chosen C at (some a) (ranAt c b) ≡ ranAt c (chosenRows book text inner n c at (some a) b)
           both none z = rw (← z)
           both (some d) z = rw (← z, e)
 
       sim-or-child : (M x : ℕ) (a : Outcome) → Here book C c (suc n) j (a .state .rows) →
-          (enterChild book text innerA C j M x (ranAt c a .state) >>= (λ r. followed book text innerA nextA (ranAt c a .set) r >>=
+          (enterChild book text innerA C j M x (ranAt c a .state)
+          >>= (λ r. followed book text innerA nextA (ranAt c a .set) r >>=
           (λ b. ok (chosen C (skipFrom text x) (ranAt c a .failure) b))))
           ≡ see (ranAt c) (orChild book text inner n c M next x a)
       unfolding orChild see
       sim-or-child M x a h =
           let T = a .state .rows in
-          then-see (foundAt n) (ranAt c) (Calls n (put T (skipFrom text x))) _ _ _ _ (sim-child M x (a .state .units) (a .state .cells) T h)
+          then-see (foundAt n) (ranAt c) (Calls n (put T (skipFrom text x))) _ _ _ _
+          (sim-child M x (a .state .units) (a .state .cells) T h)
           (keeps-child book text n inner inners room c below within M x (a .state) (h .standing .size))
           (λ o k.
           let U = o .state .rows in
@@ -178,17 +212,21 @@ module _ (book : Book) (text : List ℕ) (n : ℕ) (inner : Option RowRunner) (i
           let f = here-keeps book C c (suc n) j U (b .state .rows) g l in
           ap ok (chosen-seen (skipFrom text x) (a .failure) b (sym (ap (λ c. c .nonterminal) (f .standing .call))))))
 
-    sim-plain-next : (rest : List (Todo ℕ)) (items : ℕ) → NextAlike (plainNextRows book text c j rest items) (plainNext book text C j rest items)
+    sim-plain-next : (rest : List (Todo ℕ)) (items : ℕ) →
+        NextAlike (plainNextRows book text c j rest items) (plainNext book text C j rest items)
     unfolding plainNext plainNextRows
     sim-plain-next rest items m S R e keeping alike q units cells T h =
-        makes-see (ranAt c) _ (plain-with book text j items (q .value)) (rowState units cells T) (askedAt (rowOf T c) ∷ marksOf T c) _ _
+        makes-see (ranAt c) _ (plain-with book text j items (q .value)) (rowState units cells T)
+        (askedAt (rowOf T c) ∷ marksOf T c) _ _
         (λ cell units₁ cells₁. alike .of C c j rest (q .rest) cell (rowState units₁ cells₁ T) (rw e at h))
 
     sim-list-next : (comma : Bool) (M values : ℕ) (close : Option ℕ) (rest : List (Todo ℕ)) (items : ℕ) →
-        NextAlike (listNextRows book text c j comma M values close rest items) (listNext book text C j comma M values close rest items)
+        NextAlike (listNextRows book text c j comma M values close rest items)
+        (listNext book text C j comma M values close rest items)
     unfolding listNext listNextRows
     sim-list-next comma M values close rest items m S R e keeping alike q units cells T h =
-        makes-see (ranAt c) _ (plain-make text (Cell.chain values (q .value))) (rowState units cells T) (askedAt (rowOf T c) ∷ marksOf T c) _ _
+        makes-see (ranAt c) _ (plain-make text (Cell.chain values (q .value))) (rowState units cells T)
+        (askedAt (rowOf T c) ∷ marksOf T c) _ _
         (λ cell units₁ cells₁. after-see (ranAt c) (afterElement text comma (q .rest)) _ _ _ _
         (λ y. alike .of C c j (elements comma M cell close ∷ rest) y items (rowState units₁ cells₁ T) (rw e at h))
         (λ y. alike .of C c j (ending cell close ∷ rest) y items (rowState units₁ cells₁ T) (rw e at h)))
@@ -196,25 +234,36 @@ module _ (book : Book) (text : List ℕ) (n : ℕ) (inner : Option RowRunner) (i
     -- ---- Kinds of steps
     abbrev pub GoAlike : RowGo → Go → Type 0
     GoAlike go goA = (x items units : ℕ) (cells : List Cell) (T : List Row) → Here book C c (suc n) j T →
-        goA x items (rowOf T c .run) (stateAt c (rowState units cells T)) ≡ see (ranAt c) (go x items (rowState units cells T))
+        goA x items (rowOf T c .run) (stateAt c (rowState units cells T))
+        ≡ see (ranAt c) (go x items (rowState units cells T))
 
-    module _ (go : RowGo) (goA : Go) (keeps : KeepsGo book text n inner inners room c below within go) (alike : GoAlike go goA) where
+    module _ (go : RowGo) (goA : Go) (keeps : KeepsGo book text n inner inners room c below within go)
+        (alike : GoAlike go goA) where
       -- a list stops
-      sim-stops : (values : ℕ) (close : Option ℕ) → GoAlike (stopsRows book text j values close go) (stops book text j values close goA)
+      sim-stops : (values : ℕ) (close : Option ℕ) →
+          GoAlike (stopsRows book text j values close go) (stops book text j values close goA)
       unfolding stops stopsRows see
       sim-stops values close x items units cells T h =
-          makes-see (ranAt c) _ (plain-make text (Cell.list values)) (rowState units cells T) (askedAt (rowOf T c) ∷ marksOf T c) _ _
+          makes-see (ranAt c) _ (plain-make text (Cell.list values)) (rowState units cells T)
+          (askedAt (rowOf T c) ∷ marksOf T c) _ _
           (λ cell units₁ cells₁. option-see (ranAt c) (closed text close x) _ _ _ _ (λ z. refl)
-          (λ y z. makes-see (ranAt c) _ (plain-with book text j items cell) (rowState units₁ cells₁ T) (askedAt (rowOf T c) ∷ marksOf T c) _ _
+          (λ y z.
+          makes-see (ranAt c) _ (plain-with book text j items cell) (rowState units₁ cells₁ T)
+          (askedAt (rowOf T c) ∷ marksOf T c) _ _
           (λ cell₂ units₂ cells₂. alike y cell₂ units₂ cells₂ T h)))
 
       -- an optional child
-      sim-or-absent : (M : ℕ) (rest : List (Todo ℕ)) → GoAlike (orAbsentRows book text inner n c j M rest go) (orAbsent book text innerA C j M rest goA)
+      sim-or-absent : (M : ℕ) (rest : List (Todo ℕ)) →
+          GoAlike (orAbsentRows book text inner n c j M rest go) (orAbsent book text innerA C j M rest goA)
       unfolding orAbsent orAbsentRows
       sim-or-absent M rest x items units cells T h =
-          makes-see (ranAt c) _ (plain-make text Cell.absent) (rowState units cells T) (askedAt (rowOf T c) ∷ marksOf T c) _ _
-          (λ cell units₁ cells₁. makes-see (ranAt c) _ (plain-with book text j items cell) (rowState units₁ cells₁ T) (askedAt (rowOf T c) ∷ marksOf T c) _ _
-          (λ cell₂ units₂ cells₂. then-see (ranAt c) (ranAt c) (Beside c (suc n) T) _ _ _ _ (alike x cell₂ units₂ cells₂ T h)
+          makes-see (ranAt c) _ (plain-make text Cell.absent) (rowState units cells T)
+          (askedAt (rowOf T c) ∷ marksOf T c) _ _
+          (λ cell units₁ cells₁.
+          makes-see (ranAt c) _ (plain-with book text j items cell) (rowState units₁ cells₁ T)
+          (askedAt (rowOf T c) ∷ marksOf T c) _ _
+          (λ cell₂ units₂ cells₂.
+          then-see (ranAt c) (ranAt c) (Beside c (suc n) T) _ _ _ _ (alike x cell₂ units₂ cells₂ T h)
           (keeps x cell₂ (rowState units₂ cells₂ T) (h .standing .size))
           (λ a k. sim-or-child (plainNextRows book text c j rest items) (plainNext book text C j rest items)
           (keeps-plain-next book text n inner inners room c below within j rest items) (sim-plain-next rest items) M x a
@@ -222,41 +271,54 @@ module _ (book : Book) (text : List ℕ) (n : ℕ) (inner : Option RowRunner) (i
 
       -- the elements of a list: stop, or one more
       sim-choice : (comma : Bool) (M values : ℕ) (close : Option ℕ) (rest : List (Todo ℕ)) →
-          GoAlike (choiceRows book text inner n c j comma M values close rest go) (choice book text innerA C j comma M values close rest goA)
+          GoAlike (choiceRows book text inner n c j comma M values close rest go)
+          (choice book text innerA C j comma M values close rest goA)
       unfolding choice choiceRows
       sim-choice comma M values close rest x items units cells T h =
           spend-see (ranAt c) (rowState units cells T) (askedAt (rowOf T c) ∷ marksOf T c) _ _
-          (λ units₁. then-see (ranAt c) (ranAt c) (Beside c (suc n) T) _ _ _ _ (sim-stops values close x items units₁ cells T h)
-          (keeps-stops book text n inner inners room c below within j values close go keeps x items (rowState units₁ cells T) (h .standing .size))
-          (λ a k. sim-or-child (listNextRows book text c j comma M values close rest items) (listNext book text C j comma M values close rest items)
-          (keeps-list-next book text n inner inners room c below within j comma M values close rest items) (sim-list-next comma M values close rest items) M x a
-          (here-keeps book C c (suc n) j T (a .state .rows) h k)))
+          (λ units₁.
+          then-see (ranAt c) (ranAt c) (Beside c (suc n) T) _ _ _ _ (sim-stops values close x items units₁ cells T h)
+          (keeps-stops book text n inner inners room c below within j values close go keeps x items
+          (rowState units₁ cells T) (h .standing .size))
+          (λ a k.
+          sim-or-child (listNextRows book text c j comma M values close rest items)
+          (listNext book text C j comma M values close rest items)
+          (keeps-list-next book text n inner inners room c below within j comma M values close rest items)
+          (sim-list-next comma M values close rest items) M x a (here-keeps book C c (suc n) j T (a .state .rows) h k)))
 
       -- a list from its beginning
       sim-listing : (comma : Bool) (M : ℕ) (close : Option ℕ) (rest : List (Todo ℕ)) →
-          GoAlike (listingRows book text inner n c j comma M close rest go) (listing book text innerA C j comma M close rest goA)
+          GoAlike (listingRows book text inner n c j comma M close rest go)
+          (listing book text innerA C j comma M close rest goA)
       unfolding listing listingRows
       sim-listing comma M close rest x items units cells T h =
-          makes-see (ranAt c) _ (plain-make text Cell.empty) (rowState units cells T) (askedAt (rowOf T c) ∷ marksOf T c) _ _
+          makes-see (ranAt c) _ (plain-make text Cell.empty) (rowState units cells T)
+          (askedAt (rowOf T c) ∷ marksOf T c) _ _
           (λ cell units₁ cells₁. sim-choice comma M cell close rest x items units₁ cells₁ T h)
 
       -- a list without its opening
-      sim-unopened : GoAlike (λ x items s. makes (make text Cell.empty) s >>= (λ e. stopsRows book text j (e .cell) none go x items (e .state)))
-          (λ x items set s. make text Cell.empty s >>= (λ e. stops book text j (e .cell) none goA x items set (e .state)))
+      sim-unopened : GoAlike (λ x items s.
+          makes (make text Cell.empty) s >>= (λ e. stopsRows book text j (e .cell) none go x items (e .state)))
+          (λ x items set s.
+          make text Cell.empty s >>= (λ e. stops book text j (e .cell) none goA x items set (e .state)))
       sim-unopened x items units cells T h =
-          makes-see (ranAt c) _ (plain-make text Cell.empty) (rowState units cells T) (askedAt (rowOf T c) ∷ marksOf T c) _ _
+          makes-see (ranAt c) _ (plain-make text Cell.empty) (rowState units cells T)
+          (askedAt (rowOf T c) ∷ marksOf T c) _ _
           (λ cell units₁ cells₁. sim-stops cell none x items units₁ cells₁ T h)
 
       -- a token
-      sim-token : (t : Token) → GoAlike (λ x items s. makes (withToken book text j items (t .item)) s >>= (λ m. go (t .next) (m .cell) (m .state)))
+      sim-token : (t : Token) → GoAlike (λ x items s.
+          makes (withToken book text j items (t .item)) s >>= (λ m. go (t .next) (m .cell) (m .state)))
           (λ x items set s. withToken book text j items (t .item) s >>= (λ m. goA (t .next) (m .cell) set (m .state)))
       sim-token t x items units cells T h =
-          makes-see (ranAt c) _ (plain-token book text j items (t .item)) (rowState units cells T) (askedAt (rowOf T c) ∷ marksOf T c) _ _
+          makes-see (ranAt c) _ (plain-token book text j items (t .item)) (rowState units cells T)
+          (askedAt (rowOf T c) ∷ marksOf T c) _ _
           (λ cell units₁ cells₁. alike (t .next) cell units₁ cells₁ T h)
 
     -- the end of a variant
     sim-add : (p : Parse ℕ) (units : ℕ) (cells : List Cell) (T : List Row) → Here book C c (suc n) j T →
-        (add (stateAt c (rowState units cells T)) (rowOf T c .run) p >>= (λ more. ok (parsed more none (stateAt c (rowState units cells T)))))
+        (add (stateAt c (rowState units cells T)) (rowOf T c .run) p
+        >>= (λ more. ok (parsed more none (stateAt c (rowState units cells T)))))
         ≡ see (ranAt c) (addRun book text c p (rowState units cells T))
     unfolding addRun add see
     sim-add p units cells T h =
@@ -265,17 +327,22 @@ module _ (book : Book) (text : List ℕ) (n : ℕ) (inner : Option RowRunner) (i
         (λ more.
         let r = withRun more (rowOf T c) in
         let f : rowOf (set T c r) c .run ≡ more = ap (λ r. r .run) (row-put T c r l) in
-        ap ok (sym (rw (f, state-put c units cells T r l refl) (refl {a = parsed more none (stateAt c (rowState units cells T))}))))
+        ap ok (sym (rw (f, state-put c units cells T r l refl)
+        (refl {a = parsed more none (stateAt c (rowState units cells T))}))))
 
-    sim-complete : GoAlike (λ x items s. completeRows book text c j x items s) (λ x items set s. complete book text j x items set s)
+    sim-complete : GoAlike (λ x items s. completeRows book text c j x items s)
+        (λ x items set s. complete book text j x items set s)
     unfolding complete completeRows valueCell
     sim-complete x items units cells T h =
-        makes-see (ranAt c) (valueCell book text j items) (plain-value book text j items) (rowState units cells T) (askedAt (rowOf T c) ∷ marksOf T c) _ _
+        makes-see (ranAt c) (valueCell book text j items) (plain-value book text j items) (rowState units cells T)
+        (askedAt (rowOf T c) ∷ marksOf T c) _ _
         (λ cell units₁ cells₁. sim-add (variantParse book text j x cell) units₁ cells₁ T h)
 
-    unit-see : (step : Step) (units : ℕ) (cells : List Cell) (T : List Row) (asked : List Bool) (L : State → Result Parsed) (K : RowState → Result Outcome) →
+    unit-see : (step : Step) (units : ℕ) (cells : List Cell) (T : List Row) (asked : List Bool)
+        (L : State → Result Parsed) (K : RowState → Result Outcome) →
         ((units₁ : ℕ) → L (stateOf units₁ cells asked) ≡ see (ranAt c) (K (rowState units₁ cells T))) →
-        (stepUnit book text innerA step (stateOf units cells asked) >>= L) ≡ see (ranAt c) (stepUnitRows book text inner n step (rowState units cells T) >>= K)
+        (stepUnit book text innerA step (stateOf units cells asked) >>= L)
+        ≡ see (ranAt c) (stepUnitRows book text inner n step (rowState units cells T) >>= K)
     unfolding stepUnit stepUnitRows _>>=_
     unit-see step units cells T asked L K h = by (between 10 11 (stepNumber step))
       where
@@ -291,15 +358,18 @@ module _ (book : Book) (text : List ℕ) (n : ℕ) (inner : Option RowRunner) (i
     stepsGo todo x items set s = steps book text innerA C j todo x items set s
 
     -- one step, with what is left behind it
-    sim-step : (step : Step) (rest : List (Todo ℕ)) → GoAlike (rowsGo rest) (stepsGo rest) → GoAlike (rowsGo (taking step ∷ rest)) (stepsGo (taking step ∷ rest))
+    sim-step : (step : Step) (rest : List (Todo ℕ)) → GoAlike (rowsGo rest) (stepsGo rest) →
+        GoAlike (rowsGo (taking step ∷ rest)) (stepsGo (taking step ∷ rest))
     unfolding steps stepsRows see
     sim-step step rest f x items units cells T h =
-        let k : KeepsGo book text n inner inners room c below within (rowsGo rest) = keeps-steps book text n inner inners room c below within j rest in
+        let k : KeepsGo book text n inner inners room c below within (rowsGo rest) =
+        keeps-steps book text n inner inners room c below within j rest in
         unit-see step units cells T (askedAt (rowOf T c) ∷ marksOf T c) _ _
         (λ units₁. taken-see (ranAt c) (stepAt book text step x) _ _ _ _ _ _ _ _ _ _ _ _ refl
         (λ t. sim-token (rowsGo rest) (stepsGo rest) k f t x items units₁ cells T h)
         (λ M. sim-descend (plainNextRows book text c j rest items) (plainNext book text C j rest items)
-        (keeps-plain-next book text n inner inners room c below within j rest items) (sim-plain-next rest items) M x units₁ cells T h)
+        (keeps-plain-next book text n inner inners room c below within j rest items)
+        (sim-plain-next rest items) M x units₁ cells T h)
         (λ M. sim-or-absent (rowsGo rest) (stepsGo rest) k f M rest x items units₁ cells T h)
         (λ comma M close y. sim-listing (rowsGo rest) (stepsGo rest) k f comma M close rest y items units₁ cells T h)
         (λ y. sim-unopened (rowsGo rest) (stepsGo rest) k f y items units₁ cells T h))
@@ -311,7 +381,8 @@ module _ (book : Book) (text : List ℕ) (n : ℕ) (inner : Option RowRunner) (i
         sim-step step rest (λ x items units cells T h. sim-steps rest x items units cells T h) x items units cells T h
     sim-steps (elements comma M values close ∷ rest) x items units cells T h =
         sim-choice (rowsGo rest) (stepsGo rest) (keeps-steps book text n inner inners room c below within j rest)
-        (λ x items units cells T h. sim-steps rest x items units cells T h) comma M values close rest x items units cells T h
+        (λ x items units cells T h. sim-steps rest x items units cells T h) comma M values close
+        rest x items units cells T h
     sim-steps (ending values close ∷ rest) x items units cells T h =
         sim-stops (rowsGo rest) (stepsGo rest) (keeps-steps book text n inner inners room c below within j rest)
         (λ x items units cells T h. sim-steps rest x items units cells T h) values close x items units cells T h

@@ -21,7 +21,8 @@ use Rattle.run_model.specs.SimSteps.{sim-steps}
 -- what a caller of the whole run sees of its result: the parses found stand in row 200
 unfoldable pub seen : Result Outcome → Result Parsed
 seen (met number units) = met number units
-seen (ok o) = ok (parsed (rowOf (o .state .rows) 200 .set) (o .failure) (stateOf (o .state .units) (o .state .cells) []))
+seen (ok o) =
+    ok (parsed (rowOf (o .state .rows) 200 .set) (o .failure) (stateOf (o .state .units) (o .state .cells) []))
 
 seen-is : (y : Result Outcome) → see (foundAt 200) y ≡ seen y
 unfolding see seen openFrom
@@ -35,13 +36,16 @@ module _ (book : Book) (text : List ℕ) where
   sim-runner (suc n) =
       more n _ _ (keeping-steps book text n (runnerRows book text n) (keeps-runner book text n)) (record {
         of = λ C c j todo x items s h.
-            sim-steps book text n (runnerRows book text n) (runner book text n) (sim-runner n) (omega (arith, h .below, h .within)) C c j
+            sim-steps book text n (runnerRows book text n) (runner book text n) (sim-runner n)
+            (omega (arith, h .below, h .within)) C c j
             (omega (arith, h .below)) (h .within) todo x items (s .units) (s .cells) (s .rows) h;
       })
 
 pub rows-run : (book : Book) (text : List ℕ) (units start : ℕ) (T : List Row) → length T ≡ 201 →
-    run book text units start ≡ seen (enterRows book text (runnerRows book text 200) 200 start (skipFrom text 0) (rowState units [] T))
+    run book text units start
+    ≡ seen (enterRows book text (runnerRows book text 200) 200 start (skipFrom text 0) (rowState units [] T))
 unfolding run openFrom
 rows-run book text units start T size =
-    sim-enter book text 200 (runnerRows book text 200) (runner book text 200) (sim-runner book text 200) (omega arith) start (skipFrom text 0) T size units []
+    sim-enter book text 200 (runnerRows book text 200) (runner book text 200) (sim-runner book text 200) (omega arith)
+    start (skipFrom text 0) T size units []
     ∙ seen-is (enterRows book text (runnerRows book text 200) 200 start (skipFrom text 0) (rowState units [] T))

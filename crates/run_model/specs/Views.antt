@@ -16,7 +16,8 @@ use Rattle.book.specs.Book.{Book}
 use Rattle.semantics.specs.Uses.{Path, base, Governor, minimum, same-start, minimumOf, outwards, govern, governor}
 use Rattle.semantics.specs.Tokens.{hasClaimant}
 use Rattle.semantics.specs.Run.{ask}
-use Rattle.run_model.specs.Rows.{Row, wasAsked, rowOf, onRow, keepIf, openFrom, openAbove, useAt, askedAt, storedOf, pathOf, setsOf, governs, newestGovernor, claims, anyClaims}
+use Rattle.run_model.specs.Rows.{Row, wasAsked, rowOf, onRow, keepIf, openFrom, openAbove, useAt, askedAt}
+use Rattle.run_model.specs.Rows.{storedOf, pathOf, setsOf, governs, newestGovernor, claims, anyClaims}
 use Rattle.run_model.specs.Keeps.{Same, row-put, row-else, Keeps}
 
 -- ---- The open calls above a row
@@ -26,9 +27,14 @@ unfolding openFrom
 open-same F same T U zero i h = refl
 open-same F same T U (suc k) i h =
     let live : rowOf U i .live ≡ rowOf T i .live = ap (λ r. r .live) (h i (omega arith)) in
-    rw (live, same (rowOf T i) (rowOf U i) (h i (omega arith)), open-same F same T U k (suc i) (λ j l. h j (omega arith)))
+    rw (
+      live,
+      same (rowOf T i) (rowOf U i) (h i (omega arith)),
+      open-same F same T U k (suc i) (λ j l. h j (omega arith)),
+    )
 
-pub open-equal : {A : Type 0} (F : Row → A) (T U : List Row) (k i : ℕ) → ((j : ℕ) → i ≤ j → rowOf U j ≡ rowOf T j) → openFrom F U k i ≡ openFrom F T k i
+pub open-equal : {A : Type 0} (F : Row → A) (T U : List Row) (k i : ℕ) → ((j : ℕ) → i ≤ j → rowOf U j ≡ rowOf T j) →
+    openFrom F U k i ≡ openFrom F T k i
 unfolding openFrom
 open-equal F T U zero i h = refl
 open-equal F T U (suc k) i h = rw (h i (omega arith), open-equal F T U k (suc i) (λ j l. h j (omega arith)))
@@ -46,7 +52,8 @@ sets-keeps n T U h = open-same storedOf (λ r s e. ap storedOf e) T U (200 - n) 
 
 -- d rows that are not live, then a live one
 skips : {A : Type 0} (F : Row → A) (T : List Row) (c k d i n : ℕ) → i + d ≡ c → n ≡ d + suc k → rowOf T c .live ≡ 1 →
-    ((j : ℕ) → i ≤ j → j < c → eqb (rowOf T j .live) 1 ≡ false) → openFrom F T n i ≡ F (rowOf T c) ∷ openFrom F T k (suc c)
+    ((j : ℕ) → i ≤ j → j < c → eqb (rowOf T j .live) 1 ≡ false) →
+    openFrom F T n i ≡ F (rowOf T c) ∷ openFrom F T k (suc c)
 unfolding openFrom keepIf
 skips F T c k zero i n e f live idle =
     let g : i ≡ c = omega arith in
@@ -60,7 +67,8 @@ skips F T c k (suc d) i n e f live idle =
 -- rows between n and the call of row c that are not live are passed over
 pub open-skips : {A : Type 0} (F : Row → A) (T : List Row) (c n : ℕ) → n < c → c ≤ 200 → rowOf T c .live ≡ 1 →
     ((j : ℕ) → suc n ≤ j → j < c → eqb (rowOf T j .live) 1 ≡ false) → openAbove F T n ≡ F (rowOf T c) ∷ openAbove F T c
-open-skips F T c n below within live idle = skips F T c (200 - c) (c - suc n) (suc n) (200 - n) (omega arith) (omega arith) live idle
+open-skips F T c n below within live idle =
+    skips F T c (200 - c) (c - suc n) (suc n) (200 - n) (omega arith) (omega arith) live idle
 
 -- ---- The governor
 -- row g, among the live ones of k rows from i on, is number x
@@ -78,24 +86,29 @@ pub data Agree (T : List Row) (u k i : ℕ) : ℕ → Governor → Type 0 where
 
 module _ (T : List Row) (size : length T ≡ 201) (u k i : ℕ) where
   -- one row more, that is not live
-  agree-past : (g : ℕ) (a : Governor) → eqb (rowOf T i .live) 1 ≡ false → Agree T u k (suc i) g a → Agree T u (suc k) i g a
+  agree-past : (g : ℕ) (a : Governor) → eqb (rowOf T i .live) 1 ≡ false →
+      Agree T u k (suc i) g a → Agree T u (suc k) i g a
   unfolding openFrom keepIf
   agree-past g a h (no-governor g₁ p) = no-governor g₁ p
   agree-past g a h (after-start g₁ p q) = after-start g₁ p q
   agree-past g a h (at-start g₁ x around p q r w) =
       let f = row-else T g₁ i (wasAsked (rowOf T g₁)) (λ z. omega arith) in
-      at-start g₁ x around (omega arith) q r (record { sets = rw (h, openFrom, keepIf) (w .sets); marks = rw (f, h, openFrom, keepIf) (w .marks) })
+      at-start g₁ x around (omega arith) q r
+      (record { sets = rw (h, openFrom, keepIf) (w .sets); marks = rw (f, h, openFrom, keepIf) (w .marks) })
 
   -- one row more, an open call that doesn't govern
-  agree-outwards : (g : ℕ) (a : Governor) → rowOf T i .live ≡ 1 → Agree T u k (suc i) g a → Agree T u (suc k) i g (outwards a)
+  agree-outwards : (g : ℕ) (a : Governor) → rowOf T i .live ≡ 1 → Agree T u k (suc i) g a →
+      Agree T u (suc k) i g (outwards a)
   unfolding openFrom keepIf outwards ask
   agree-outwards g a h (no-governor g₁ p) = no-governor g₁ p
   agree-outwards g a h (after-start g₁ p q) = after-start g₁ p q
   agree-outwards g a h (at-start g₁ x around p q r w) =
       let f = row-else T g₁ i (wasAsked (rowOf T g₁)) (λ z. omega arith) in
-      at-start g₁ (suc x) around (omega arith) q r (record { sets = rw (h, openFrom, keepIf) (w .sets); marks = rw (f, h, openFrom, keepIf) (rw (w .marks)) })
+      at-start g₁ (suc x) around (omega arith) q r
+      (record { sets = rw (h, openFrom, keepIf) (w .sets); marks = rw (f, h, openFrom, keepIf) (rw (w .marks)) })
 
-  open-cons : {A : Type 0} (F : Row → A) (U : List Row) → rowOf U i .live ≡ 1 → openFrom F U (suc k) i ≡ F (rowOf U i) ∷ openFrom F U k (suc i)
+  open-cons : {A : Type 0} (F : Row → A) (U : List Row) → rowOf U i .live ≡ 1 →
+      openFrom F U (suc k) i ≡ F (rowOf U i) ∷ openFrom F U k (suc i)
   unfolding openFrom keepIf
   open-cons F U h = rw (h, openFrom, keepIf)
 
@@ -113,7 +126,8 @@ module _ (T : List Row) (size : length T ≡ 201) (u k i : ℕ) where
         marks = ap (λ l. ask 0 l) (open-cons askedAt T h) ∙ sym (open-cons askedAt U live ∙ rw (f, z));
       })
 
-  agree-live : i ≤ 200 → rowOf T i .live ≡ 1 → (t s : Bool) → s ≡ eqb (rowOf T i .start) u → (path : Path) (g : ℕ) (a : Governor) → Agree T u k (suc i) g a →
+  agree-live : i ≤ 200 → rowOf T i .live ≡ 1 → (t s : Bool) → s ≡ eqb (rowOf T i .start) u →
+      (path : Path) (g : ℕ) (a : Governor) → Agree T u k (suc i) g a →
       Agree T u (suc k) i (elim t [ true ↦ i | false ↦ g ]) (govern t s (useAt (rowOf T i)) path a)
   unfolding govern
   agree-live l h true true e path g a A = agree-here path l h (sym e)
@@ -126,24 +140,29 @@ unfolding openFrom keepIf newestGovernor governor governs
 agree T size N u zero i e = let f : i ≡ 201 = omega arith in no-governor i (rw f refl)
 agree T size N u (suc k) i e = by (eqb (rowOf T i .live) 1) refl (agree T size N u k (suc i) (omega arith))
   where
-    by : (b : Bool) → b ≡ eqb (rowOf T i .live) 1 → Agree T u k (suc i) (newestGovernor T N u k (suc i)) (governor (openFrom useAt T k (suc i)) base N u) →
+    by : (b : Bool) → b ≡ eqb (rowOf T i .live) 1 →
+        Agree T u k (suc i) (newestGovernor T N u k (suc i)) (governor (openFrom useAt T k (suc i)) base N u) →
         Agree T u (suc k) i (newestGovernor T N u (suc k) i) (governor (openFrom useAt T (suc k) i) base N u)
     by true f A =
         rw (← f, openFrom, keepIf, newestGovernor, governs)
         (agree-live T size u k i (omega arith) (eqb-true (rowOf T i .live) 1 (sym f))
-        (eqb (rowOf T i .nonterminal) N && (eqb (rowOf T i .scope) base && eqb (rowOf T i .child) u)) (eqb (rowOf T i .start) u) refl
-        (openFrom useAt T k (suc i)) (newestGovernor T N u k (suc i)) (governor (openFrom useAt T k (suc i)) base N u) A)
+        (eqb (rowOf T i .nonterminal) N && (eqb (rowOf T i .scope) base && eqb (rowOf T i .child) u))
+        (eqb (rowOf T i .start) u) refl (openFrom useAt T k (suc i)) (newestGovernor T N u k (suc i))
+        (governor (openFrom useAt T k (suc i)) base N u) A)
     by false f A =
         rw (← f, openFrom, keepIf, newestGovernor, governs)
-        (agree-past T size u k i (newestGovernor T N u k (suc i)) (governor (openFrom useAt T k (suc i)) base N u) (sym f) A)
+        (agree-past T size u k i (newestGovernor T N u k (suc i))
+        (governor (openFrom useAt T k (suc i)) base N u) (sym f) A)
 
 -- ---- Claims
-pub claims-path : (book : Book) (text : List ℕ) (T : List Row) (u k i : ℕ) → anyClaims book T u k i ≡ hasClaimant book text (openFrom useAt T k i) base u
+pub claims-path : (book : Book) (text : List ℕ) (T : List Row) (u k i : ℕ) →
+    anyClaims book T u k i ≡ hasClaimant book text (openFrom useAt T k i) base u
 unfolding openFrom keepIf anyClaims claims hasClaimant
 claims-path book text T u zero i = refl
 claims-path book text T u (suc k) i = by (eqb (rowOf T i .live) 1) refl (claims-path book text T u k (suc i))
   where
-    by : (b : Bool) → b ≡ eqb (rowOf T i .live) 1 → anyClaims book T u k (suc i) ≡ hasClaimant book text (openFrom useAt T k (suc i)) base u →
+    by : (b : Bool) → b ≡ eqb (rowOf T i .live) 1 →
+        anyClaims book T u k (suc i) ≡ hasClaimant book text (openFrom useAt T k (suc i)) base u →
         anyClaims book T u (suc k) i ≡ hasClaimant book text (openFrom useAt T (suc k) i) base u
     by true f A = rw (← f, A)
     by false f A = rw (← f, A)

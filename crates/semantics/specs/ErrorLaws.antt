@@ -1,16 +1,18 @@
 -- Laws of errors.
 --
 -- What is there:
---   more-than-skipped    "more than skipped text lies between" a skipped place and an error exactly if the error's place is greater
+--   more-than-skipped    "more than skipped text lies between" a skipped place and an error exactly if the error's
+--                        place is greater
 --   beyond-some, -none   so what counts beyond a skipped place is what has more than skipped text before it
---   Alike                errors that can't be told apart beyond a place: joined with others they stay alike (`alike-join`), and a choice there
---                        or further on (`alike-choice`) and a call that begins there (`alike-counted`) make the same of them
+--   Alike                errors that can't be told apart beyond a place: joined with others they stay alike
+--                        (`alike-join`), and a choice there or further on (`alike-choice`) and a call that begins there
+--                        (`alike-counted`) make the same of them
 -- and of the whole run, by induction:
---   run-error-skipped    every error of a run stands at a skipped place (ErrorLaws/Skipped, with what holds of every call on the way; what that
---                        takes of places is in ErrorLaws/Places)
---   run-with             "Rust's two left-recursion messages and the claimed-name message never get past this": with whatever errors for
---                        re-entries and claimed names, the run is the same (ErrorLaws/Unseen, of the run that ErrorLaws/Told has, by the
---                        relations of ErrorLaws/Like)
+--   run-error-skipped    every error of a run stands at a skipped place (ErrorLaws/Skipped, with what holds of every
+--                        call on the way; what that takes of places is in ErrorLaws/Places)
+--   run-with             "Rust's two left-recursion messages and the claimed-name message never get past this": with
+--                        whatever errors for re-entries and claimed names, the run is the same (ErrorLaws/Unseen, of
+--                        the run that ErrorLaws/Told has, by the relations of ErrorLaws/Like)
 use mathlib.Core.Path.{_≡_, refl, sym, _∙_, ap}
 use mathlib.Core.Bool.{Bool, true, false, cond, _&&_}
 use mathlib.Core.List.{List, []}
@@ -25,7 +27,8 @@ use borrow.Author.Tests.{lt-ltb, le-ltb, ltb-true, ltb-false, ne-eqb}
 use Rattle.characters.specs.Cases.{by-test}
 use Rattle.characters.specs.Classes.{isOf}
 use Rattle.characters.specs.Skipping.{spanEnd, commentAt, skipFrom}
-use Rattle.characters.specs.SkippingLaws.{span-stop, span-out, round-plain, skip-stop, skip-out, skip-no-comment, skip-no-whitespace}
+use Rattle.characters.specs.SkippingLaws.{span-stop, span-out, round-plain, skip-stop, skip-out, skip-no-comment}
+use Rattle.characters.specs.SkippingLaws.{skip-no-whitespace}
 use Rattle.characters.specs.Spelling.{partOf}
 use Rattle.characters.specs.declared.classes.Class.the-variants.{Whitespace}
 use Rattle.characters.specs.declared.skipping.Span.the-variants.{Spaces}
@@ -53,7 +56,8 @@ module _ (text : List ℕ) (s : ℕ) (skipped : skipFrom text s ≡ s) where
   -- a part of the text from there on isn't skipped either
   module _ (n : ℕ) (some-bytes : 0 < n) where
     first-byte : getD (partOf text s n) 0 0 ≡ getD text s 0
-    first-byte = getD-take n (drop s text) 0 0 some-bytes ∙ getD-drop s text 0 0 ∙ ap (λ (i : ℕ). getD text i 0) (omega arith)
+    first-byte =
+        getD-take n (drop s text) 0 0 some-bytes ∙ getD-drop s text 0 0 ∙ ap (λ (i : ℕ). getD text i 0) (omega arith)
 
     second-byte : 1 < n → getD (partOf text s n) 1 0 ≡ getD text (s + 1) 0
     second-byte h = getD-take n (drop s text) 1 0 h ∙ getD-drop s text 1 0
@@ -77,7 +81,8 @@ module _ (text : List ℕ) (s : ℕ) (skipped : skipFrom text s ≡ s) where
         (λ t. span-out Spaces (partOf text s n) 0 (ltb-false 0 _ t))
 
     part-stays : skipFrom (partOf text s n) 0 ≡ 0
-    part-stays = skip-stop (partOf text s n) 0 (round-plain (partOf text s n) 0 (rw part-spaces part-comment) ∙ part-spaces)
+    part-stays =
+        skip-stop (partOf text s n) 0 (round-plain (partOf text s n) 0 (rw part-spaces part-comment) ∙ part-spaces)
 
   pub more-than-skipped : (e : ℕ) → (s < e) ↔ (OnlySkipped text s e → ⊥)
   more-than-skipped e = (
@@ -97,7 +102,8 @@ module _ (text : List ℕ) (s : ℕ) (skipped : skipFrom text s ≡ s) where
   pub beyond-none : (e : Error) → OnlySkipped text s (e .place) → beyond s e ≡ none
   unfolding beyond
   beyond-none e only =
-      by-test (ltb s (e .place)) (λ t. absurd (more-than-skipped (e .place) .0 (ltb-true s (e .place) t) only)) (λ t. rw t)
+      by-test (ltb s (e .place))
+      (λ t. absurd (more-than-skipped (e .place) .0 (ltb-true s (e .place) t) only)) (λ t. rw t)
 
 -- ---- Errors that can't be told apart beyond a place
 -- they stand at one place, and beyond the given one they are the same
@@ -126,11 +132,15 @@ join-level a b h = by (wins a b)
 join-place : (a b : Error) → join a b .place ≡ max (a .place) (b .place)
 join-place a b =
     by-test (ltb (a .place) (b .place))
-    (λ t. let less = ltb-true (a .place) (b .place) t in ap (λ (e : Error). e .place) (join-further a b less) ∙ omega arith)
+    (λ t.
+    let less = ltb-true (a .place) (b .place) t in ap (λ (e : Error). e .place) (join-further a b less) ∙ omega arith)
     (λ t. let least = ltb-false (a .place) (b .place) t in
     by-test (ltb (b .place) (a .place))
-    (λ u. let less = ltb-true (b .place) (a .place) u in ap (λ (e : Error). e .place) (join-nearer a b less) ∙ omega arith)
-    (λ u. let most = ltb-false (b .place) (a .place) u in let level : a .place ≡ b .place = omega arith in join-level a b level ∙ omega arith))
+    (λ u.
+    let less = ltb-true (b .place) (a .place) u in ap (λ (e : Error). e .place) (join-nearer a b less) ∙ omega arith)
+    (λ u.
+    let most = ltb-false (b .place) (a .place) u in let level : a .place ≡ b .place = omega arith in
+    join-level a b level ∙ omega arith))
 
 module _ (place : ℕ) where
   pub alike-join : (a b c d : Error) → Alike place a b → Alike place c d → Alike place (join a c) (join b d)
@@ -141,8 +151,10 @@ module _ (place : ℕ) where
       let right = join-place b d in
       record { at = omega arith; beyond-it = λ far. by far (ltb place (a .place)) refl (ltb place (c .place)) refl }
     where
-      by : place < join a c .place → (s : Bool) → ltb place (a .place) ≡ s → (t : Bool) → ltb place (c .place) ≡ t → join a c ≡ join b d
-      by far true s true t = let e = h .beyond-it (ltb-true place (a .place) s) in let f = k .beyond-it (ltb-true place (c .place) t) in cc
+      by : place < join a c .place → (s : Bool) → ltb place (a .place) ≡ s → (t : Bool) →
+          ltb place (c .place) ≡ t → join a c ≡ join b d
+      by far true s true t =
+          let e = h .beyond-it (ltb-true place (a .place) s) in let f = k .beyond-it (ltb-true place (c .place) t) in cc
       by far true s false t =
           let e = h .beyond-it (ltb-true place (a .place) s) in
           let less : c .place < a .place = omega (arith, ltb-true place (a .place) s, ltb-false place (c .place) t) in
@@ -153,7 +165,8 @@ module _ (place : ℕ) where
           let less : a .place < c .place = omega (arith, ltb-false place (a .place) s, ltb-true place (c .place) t) in
           let less′ : b .place < d .place = omega (arith, h .at, k .at) in
           join-further a c less ∙ f ∙ sym (join-further b d less′)
-      by far false s false t = absurd (omega (arith, join-place a c, ltb-false place (a .place) s, ltb-false place (c .place) t))
+      by far false s false t =
+          absurd (omega (arith, join-place a c, ltb-false place (a .place) s, ltb-false place (c .place) t))
 
   pub alike-beyond : (a b : Error) → Alike place a b → beyond place a ≡ beyond place b
   unfolding beyond
@@ -166,13 +179,18 @@ alike-further : {place further : ℕ} {a b : Error} → place ≤ further → Al
 alike-further l h = record { at = h .at; beyond-it = λ far. h .beyond-it (omega arith) }
 
 -- a choice at the place, or further on
-pub alike-choice : (place at N : ℕ) (a b c d : Error) → place ≤ at → Alike place a b → Alike place c d → choiceError at N a c ≡ choiceError at N b d
+pub alike-choice : (place at N : ℕ) (a b c d : Error) → place ≤ at → Alike place a b → Alike place c d →
+    choiceError at N a c ≡ choiceError at N b d
 unfolding choiceError
 alike-choice place at N a b c d l h k =
-    rw (alike-beyond at (join a c) (join b d) (alike-join at a b c d (alike-further l h) (alike-further l k)), choiceError)
+    rw (
+      alike-beyond at (join a c) (join b d) (alike-join at a b c d (alike-further l h) (alike-further l k)),
+      choiceError,
+    )
 
 -- a call that begins at the place
 pub alike-counted : (book : Book) (text : List ℕ) (c : Call) (j : ℕ) (a b : Error) → Alike (c .start) a b →
     counted book text c j (some a) ≡ counted book text c j (some b)
 unfolding counted
-alike-counted book text c j a b h = ap (λ (o : Option Error). cond (nthVariant book j .committed) o none) (alike-beyond (c .start) a b h)
+alike-counted book text c j a b h =
+    ap (λ (o : Option Error). cond (nthVariant book j .committed) o none) (alike-beyond (c .start) a b h)

@@ -30,7 +30,7 @@ use Rattle.sets.specs.Sets.{
   parseAt,
   listAt,
   setAt,
-  written,
+  putParse,
   Only,
   Apart,
   Becomes,
@@ -57,9 +57,9 @@ use Rattle.sets.specs.PlaceLaws.{
   set-le,
   set-apart,
   set-none,
-  written-length,
-  written-only,
-  written-parse,
+  put-length,
+  put-only,
+  put-parse-at,
 }
 
 -- ---- clear
@@ -84,23 +84,25 @@ has-none p f b k h = let e : k ≡ 0 = omega arith in rw e
 
 -- ---- append: n parses were there
 abbrev longer : List ℕ → ℕ → ℕ → Parse ℕ → List ℕ
-longer f b n p = set (written f (b + 1 + 4 * n) p) b (n + 1)
+longer f b n p = set (putParse f (b + 1 + 4 * n) p) b (n + 1)
 
 module _ (f : List ℕ) (b n : ℕ) (p : Parse ℕ) (len : b + 257 ≤ length f) (h : n < 64) (e : n ≡ length (setAt f b)) where
-  count-stored : Only (written f (b + 1 + 4 * n) p) (longer f b n p) b 1
-  count-stored = only-set (written f (b + 1 + 4 * n) p) b (n + 1) b 1 (omega arith) (omega arith)
+  count-stored : Only (putParse f (b + 1 + 4 * n) p) (longer f b n p) b 1
+  count-stored = only-set (putParse f (b + 1 + 4 * n) p) b (n + 1) b 1 (omega arith) (omega arith)
 
   list-stored : listAt (longer f b n p) (b + 1) n ≡ setAt f b
   list-stored =
       list-apart (b + 1) n count-stored (inr (omega arith))
-      ∙ list-apart (b + 1) n (written-only f (b + 1 + 4 * n) p) (inl (omega arith))
+      ∙ list-apart (b + 1) n (put-only f (b + 1 + 4 * n) p) (inl (omega arith))
       ∙ sym (set-list f b n e)
 
   parse-stored : parseAt (longer f b n p) (b + 1 + 4 * n) ≡ p
-  parse-stored = parse-apart (b + 1 + 4 * n) count-stored (inr (omega arith)) ∙ written-parse f (b + 1 + 4 * n) p (omega arith)
+  parse-stored =
+      parse-apart (b + 1 + 4 * n) count-stored (inr (omega arith)) ∙ put-parse-at f (b + 1 + 4 * n) p (omega arith)
 
   count-is : getD (longer f b n p) b 0 ≡ n + 1
-  count-is = getD-set-same (written f (b + 1 + 4 * n) p) b (n + 1) 0 (rw (written-length f (b + 1 + 4 * n) p) (omega arith))
+  count-is =
+      getD-set-same (putParse f (b + 1 + 4 * n) p) b (n + 1) 0 (rw (put-length f (b + 1 + 4 * n) p) (omega arith))
 
   set-stored : setAt (longer f b n p) b ≡ setAt f b ++ (p ∷ [])
   set-stored =
@@ -116,11 +118,11 @@ module _ (f : List ℕ) (b n : ℕ) (p : Parse ℕ) (len : b + 257 ≤ length f)
         fits = rw (← e, lt-ltb n 64 h);
         only =
             only-trans
-            (only-wide b 257 (omega arith) (omega arith) (written-only f (b + 1 + 4 * n) p))
+            (only-wide b 257 (omega arith) (omega arith) (put-only f (b + 1 + 4 * n) p))
             (only-wide b 257 (omega arith) (omega arith) count-stored);
       }
 
-  pub append-as : (g k : List ℕ) → g ≡ written f (b + 1 + 4 * n) p → k ≡ set g b (n + 1) → Appended true f k b p
+  pub append-as : (g k : List ℕ) → g ≡ putParse f (b + 1 + 4 * n) p → k ≡ set g b (n + 1) → Appended true f k b p
   append-as g k u v = rw (v, u) append-stored
 
 pub append-full : (f : List ℕ) (b n : ℕ) (p : Parse ℕ) → n ≡ length (setAt f b) → 64 ≤ n → Appended false f f b p
@@ -137,7 +139,8 @@ by-fits : (s : State) (T U : List (Parse ℕ)) (p : Parse ℕ) (r : Bool) → U 
 by-fits s T U p true e = rw e
 by-fits s T U p false e = refl
 
-pub add-new : (f g : List ℕ) (b : ℕ) (p : Parse ℕ) (t r : Bool) → t ≡ has (setAt f b) p → t ≡ false → Appended r f g b p → Added r f g b p
+pub add-new : (f g : List ℕ) (b : ℕ) (p : Parse ℕ) (t r : Bool) → t ≡ has (setAt f b) p → t ≡ false →
+    Appended r f g b p → Added r f g b p
 unfolding add appended
 add-new f g b p t r h k a =
     record {
@@ -146,7 +149,8 @@ add-new f g b p t r h k a =
     }
 
 -- ---- all_in: q is the parse that the loop has read
-module _ (set : List (Parse ℕ)) (q : Parse ℕ) (f : List ℕ) (b : ℕ) (t : Bool) (e : q ≡ parseAt f b) (m : t ≡ has set q) where
+module _ (set : List (Parse ℕ)) (q : Parse ℕ) (f : List ℕ) (b : ℕ) (t : Bool) (e : q ≡ parseAt f b)
+    (m : t ≡ has set q) where
   pub all-on : (k : ℕ) → 0 < k → t ≡ true → allIn set (listAt f b k) ≡ allIn set (listAt f (b + 4) (k - 1))
   unfolding allIn listAt
   all-on zero h y = absurd (omega arith)
@@ -168,7 +172,8 @@ unfolding addAll listAt _>>=_
 add-on s set more f b zero h e = absurd (omega arith)
 add-on s set more f b (suc k) h e = rw (sub-one, e, _>>=_)
 
-add-stop : (s : State) (set : List (Parse ℕ)) (f : List ℕ) (b k n u : ℕ) → 0 < k → add s set (parseAt f b) ≡ met n u → addAll s set (listAt f b k) ≡ met n u
+add-stop : (s : State) (set : List (Parse ℕ)) (f : List ℕ) (b k n u : ℕ) → 0 < k → add s set (parseAt f b) ≡ met n u →
+    addAll s set (listAt f b k) ≡ met n u
 unfolding addAll listAt _>>=_
 add-stop s set f b zero n u h e = absurd (omega arith)
 add-stop s set f b (suc k) n u h e = rw (e, _>>=_)
@@ -181,7 +186,8 @@ pub record Joining (f g : List ℕ) (into from at left : ℕ) : Type 0 where
   pub high : at + 4 * left ≤ from + 257
 
 -- a parse of one set, while another is written
-parse-of : {f g : List ℕ} (into from at : ℕ) → Apart into from → Only f g into 257 → from ≤ at → at + 4 ≤ from + 257 → parseAt g at ≡ parseAt f at
+parse-of : {f g : List ℕ} (into from at : ℕ) → Apart into from → Only f g into 257 → from ≤ at → at + 4 ≤ from + 257 →
+    parseAt g at ≡ parseAt f at
 parse-of into from at (inl a) o l h = parse-apart at o (inr (omega arith))
 parse-of into from at (inr a) o l h = parse-apart at o (inl (omega arith))
 
@@ -194,8 +200,8 @@ joining-start f into from n e =
       high = omega (arith, set-le f from);
     }
 
-module _ (f g g' : List ℕ) (into from at left : ℕ) (far : Apart into from) (J : Joining f g into from at left) (h : 0 < left)
-    (q : Parse ℕ) (e : q ≡ parseAt g at) (r : Bool) (A : Added r g g' into q) where
+module _ (f g g' : List ℕ) (into from at left : ℕ) (far : Apart into from) (J : Joining f g into from at left)
+    (h : 0 < left) (q : Parse ℕ) (e : q ≡ parseAt g at) (r : Bool) (A : Added r g g' into q) where
   joined : (s : State) → add s (setAt g into) (parseAt f at) ≡ result r (setAt g' into) s
   joined s = rw (← parse-of into from at far (J .only) (omega (arith, J .low)) (omega (arith, J .high)), ← e) (A .now s)
 
@@ -215,7 +221,8 @@ module _ (f g g' : List ℕ) (into from at left : ℕ) (far : Apart into from) (
         only = only-trans (J .only) (A .only);
       }
 
-pub joining-end : (f g : List ℕ) (into from at left : ℕ) → Joining f g into from at left → left ≤ 0 → AllAdded true f g into from
+pub joining-end : (f g : List ℕ) (into from at left : ℕ) → Joining f g into from at left → left ≤ 0 →
+    AllAdded true f g into from
 unfolding addAll listAt
 joining-end f g into from at left J h =
     let z : left ≡ 0 = omega arith in
@@ -230,12 +237,13 @@ pub record Copying (f g : List ℕ) (into from k : ℕ) : Type 0 where
 pub copying-start : (f : List ℕ) (into from : ℕ) → Copying f f into from 0
 copying-start f into from = record { same = λ i h. absurd (omega arith); only = only-refl }
 
-number-of : {f g : List ℕ} (into from i : ℕ) → Apart into from → Only f g into 257 → i < 257 → getD g (from + i) 0 ≡ getD f (from + i) 0
+number-of : {f g : List ℕ} (into from i : ℕ) → Apart into from → Only f g into 257 → i < 257 →
+    getD g (from + i) 0 ≡ getD f (from + i) 0
 number-of into from i (inl a) o h = o .high (from + i) (omega arith)
 number-of into from i (inr a) o h = o .low (from + i) (omega arith)
 
-pub copying-again : (f g : List ℕ) (into from k : ℕ) → Apart into from → Copying f g into from k → k < 257 → into + k < length g →
-    Copying f (set g (into + k) (getD g (from + k) 0)) into from (k + 1)
+pub copying-again : (f g : List ℕ) (into from k : ℕ) → Apart into from → Copying f g into from k → k < 257 →
+    into + k < length g → Copying f (set g (into + k) (getD g (from + k) 0)) into from (k + 1)
 copying-again f g into from k far C h len =
     record {
       same = below-more (λ i. getD (set g (into + k) (getD g (from + k) 0)) (into + i) 0 ≡ getD f (from + i) 0) k
@@ -244,12 +252,15 @@ copying-again f g into from k far C h len =
       only = only-trans (C .only) (only-set g (into + k) (getD g (from + k) 0) into 257 (omega arith) (omega arith));
     }
 
-pub copying-end : (f g : List ℕ) (into from k n : ℕ) → n ≡ length (setAt f from) → 1 + 4 * n ≤ k → Copying f g into from k → Becomes f g into (setAt f from)
+pub copying-end : (f g : List ℕ) (into from k n : ℕ) → n ≡ length (setAt f from) → 1 + 4 * n ≤ k →
+    Copying f g into from k → Becomes f g into (setAt f from)
 copying-end f g into from k n e h C =
     record {
       now =
-          set-list g into n (e ∙ set-length f from ∙ rw (← at into from 0 (omega arith) (omega arith) (omega arith)) (sym (set-length g into)))
-          ∙ list-moved f g (from + 1) (into + 1) n (λ i j l m q. at j i (i - from) (omega arith) (omega arith) (omega arith))
+          set-list g into n (e ∙ set-length f from
+          ∙ rw (← at into from 0 (omega arith) (omega arith) (omega arith)) (sym (set-length g into)))
+          ∙ list-moved f g (from + 1) (into + 1) n
+          (λ i j l m q. at j i (i - from) (omega arith) (omega arith) (omega arith))
           ∙ sym (set-list f from n e);
       only = C .only;
     }
@@ -258,11 +269,13 @@ copying-end f g into from k n e h C =
     at j i x u v l = rw (u, v) (C .same x l)
 
 -- ---- kept
-pub keep-yes : (f g : List ℕ) (b : ℕ) (p : Parse ℕ) (t u r : Bool) → t ≡ u → t ≡ true → Appended r f g b p → Becomes f g b (keepEnd u (setAt f b) p)
+pub keep-yes : (f g : List ℕ) (b : ℕ) (p : Parse ℕ) (t u r : Bool) → t ≡ u → t ≡ true → Appended r f g b p →
+    Becomes f g b (keepEnd u (setAt f b) p)
 unfolding keepEnd
 keep-yes f g b p t u r e y a = record { now = a .now ∙ rw (sym e ∙ y); only = a .only }
 
-pub keep-no : (f : List ℕ) (b : ℕ) (p : Parse ℕ) (t u : Bool) → t ≡ u → t ≡ false → Becomes f f b (keepEnd u (setAt f b) p)
+pub keep-no : (f : List ℕ) (b : ℕ) (p : Parse ℕ) (t u : Bool) → t ≡ u → t ≡ false →
+    Becomes f f b (keepEnd u (setAt f b) p)
 unfolding keepEnd
 keep-no f b p t u e n = record { now = rw (sym e ∙ n); only = only-refl }
 
@@ -282,21 +295,23 @@ keep-length false T q = omega arith
 
 kept-cons : (u : Use) (f : List ℕ) (b k : ℕ) → 0 < k →
     kept u (listAt f b k) ≡
-    cond (keepsLevel (u .associativity) (u .level) (parseAt f b .level)) (parseAt f b ∷ kept u (listAt f (b + 4) (k - 1))) (kept u (listAt f (b + 4) (k - 1)))
+    cond (keepsLevel (u .associativity) (u .level) (parseAt f b .level))
+    (parseAt f b ∷ kept u (listAt f (b + 4) (k - 1))) (kept u (listAt f (b + 4) (k - 1)))
 unfolding kept listAt
 kept-cons u f b zero h = absurd (omega arith)
 kept-cons u f b (suc k) h = rw sub-one
 
 -- the loop stands at `at` in the set at `from`, with `left` parses to look at; as many have room
 pub record Keeping (f g : List ℕ) (into from : ℕ) (associativity : Associativity) (level at left : ℕ) : Type 0 where
-  pub now : (u : Use) → u .associativity ≡ associativity → u .level ≡ level → setAt g into ++ kept u (listAt f at left) ≡ kept u (setAt f from)
+  pub now : (u : Use) → u .associativity ≡ associativity → u .level ≡ level →
+      setAt g into ++ kept u (listAt f at left) ≡ kept u (setAt f from)
   pub only : Only f g into 257
   pub room : length (setAt g into) + left ≤ 64
   pub low : from + 1 ≤ at
   pub high : at + 4 * left ≤ from + 257
 
-pub keeping-start : (f : List ℕ) (into from : ℕ) (a : Associativity) (l n : ℕ) → setAt f into ≡ [] → n ≡ length (setAt f from) →
-    Keeping f f into from a l (from + 1) n
+pub keeping-start : (f : List ℕ) (into from : ℕ) (a : Associativity) (l n : ℕ) → setAt f into ≡ [] →
+    n ≡ length (setAt f from) → Keeping f f into from a l (from + 1) n
 keeping-start f into from a l n z e =
     record {
       now = λ u v w. rw (z, set-list f from n e);
@@ -306,15 +321,19 @@ keeping-start f into from a l n z e =
       high = omega (arith, set-le f from);
     }
 
-pub keeping-again : (f g g' : List ℕ) (into from : ℕ) (a : Associativity) (l at left : ℕ) (q : Parse ℕ) → Apart into from → Keeping f g into from a l at left →
-    0 < left → q ≡ parseAt g at → Becomes g g' into (keepEnd (keepsLevel a l (q .level)) (setAt g into) q) → Keeping f g' into from a l (at + 4) (left - 1)
+pub keeping-again : (f g g' : List ℕ) (into from : ℕ) (a : Associativity) (l at left : ℕ) (q : Parse ℕ) →
+    Apart into from → Keeping f g into from a l at left →
+    0 < left → q ≡ parseAt g at → Becomes g g' into (keepEnd (keepsLevel a l (q .level)) (setAt g into) q) →
+    Keeping f g' into from a l (at + 4) (left - 1)
 keeping-again f g g' into from a l at left q far K h e B =
-    let p : q ≡ parseAt f at = e ∙ parse-of into from at far (K .only) (omega (arith, K .low)) (omega (arith, K .high)) in
+    let p : q ≡ parseAt f at =
+    e ∙ parse-of into from at far (K .only) (omega (arith, K .low)) (omega (arith, K .high)) in
     record {
       now = λ u v w.
           rw (
             B .now,
-            keep-turn (keepsLevel a l (q .level)) (setAt g into) (kept u (listAt f (at + 4) (left - 1))) q (omega (arith, K .room)),
+            keep-turn (keepsLevel a l (q .level)) (setAt g into) (kept u (listAt f (at + 4) (left - 1))) q
+                (omega (arith, K .room)),
             p,
             ← v,
             ← w,
@@ -331,8 +350,8 @@ set-far into from (inl a) o = set-apart from o (inr (omega arith))
 set-far into from (inr a) o = set-apart from o (inl (omega arith))
 
 -- f₀ as it was, f with the set at `into` cleared
-pub keeping-end : (f₀ f g : List ℕ) (into from : ℕ) (a : Associativity) (l at left : ℕ) → Apart into from → Becomes f₀ f into [] →
-    Keeping f g into from a l at left → left ≤ 0 → Kept f₀ g into from a l
+pub keeping-end : (f₀ f g : List ℕ) (into from : ℕ) (a : Associativity) (l at left : ℕ) → Apart into from →
+    Becomes f₀ f into [] → Keeping f g into from a l at left → left ≤ 0 → Kept f₀ g into from a l
 unfolding kept listAt
 keeping-end f₀ f g into from a l at left far B K h =
     let z : left ≡ 0 = omega arith in

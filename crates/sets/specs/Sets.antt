@@ -49,8 +49,8 @@ unfoldable pub setAt : List ℕ → ℕ → List (Parse ℕ)
 setAt numbers place = listAt numbers (place + 1) (countOf (getD numbers place 0))
 
 -- the four numbers of a parse, from a place on
-abbrev pub written : List ℕ → ℕ → Parse ℕ → List ℕ
-written numbers place p =
+abbrev pub putParse : List ℕ → ℕ → Parse ℕ → List ℕ
+putParse numbers place p =
     set
     (set (set (set numbers place (p .rest)) (place + 1) (p .level)) (place + 2)
     (associativityNumber (p .associativity)))

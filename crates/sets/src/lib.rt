@@ -21,7 +21,7 @@ ghost use Rattle.book.specs.Check.{associativityOf};
 ghost use Rattle.semantics.specs.Values.{absentParse};
 ghost use Rattle.semantics.specs.Uses.{keepsLevel};
 ghost use Rattle.semantics.specs.Run as run;
-ghost use Rattle.sets.specs.Sets.{parseOf, parseAt, setAt, written, keepEnd, HasSet};
+ghost use Rattle.sets.specs.Sets.{parseOf, parseAt, setAt, putParse, keepEnd, HasSet};
 ghost use Rattle.sets.specs.Sets.{Apart, Becomes, Appended, Added, AllAdded, Kept};
 use book::Associativity;
 
@@ -99,7 +99,7 @@ fn parse_at(numbers: &[u32], at: usize) -> Parse
 // "Parses hold rest, level, associativity, cell"
 pub fn put_parse(numbers: &mut [u32], at: usize, p: Parse)
     requires { ⌜ at + 4 ≤ length (now numbers) ⌝ }
-    ensures { λ _. ⌜ atExit numbers ≡ written (atEntry numbers) at (parseOf p) ⌝ }
+    ensures { λ _. ⌜ atExit numbers ≡ putParse (atEntry numbers) at (parseOf p) ⌝ }
 {
     let associativity = p.associativity;
     numbers[at] = p.rest;

@@ -2,8 +2,8 @@
 -- text, the store of cells and the rows. Each unfolds to a definition of Outcomes or Steps. Scaffolding: no definition
 -- of document 01.
 --
--- What is asked: Short, Fitting, Ready. What is promised: MakesCell of a cell, Does of a part of the run, Continues of one
--- that goes on from an outcome, Stages and Reaches of a part that calls nothing. Then the parts of the model, from
+-- What is asked: Short, Fitting, Ready. What is promised: MakesCell of a cell, Does of a part of the run, Continues of
+-- one that goes on from an outcome, Stages and Reaches of a part that calls nothing. Then the parts of the model, from
 -- where a path is.
 use mathlib.Core.Bool.{Bool}
 use mathlib.Core.List.{List, _∷_}

@@ -46,8 +46,9 @@ abbrev pub stops : outcomes.Outcome → Ended
 stops o = record { again = false; outcome = o }
 
 module _ (T : List Row) (n : ℕ) (failure : Failure) (s : State) (o : outcomes.Outcome) (e : Ended) where
-  pub ended-failed : (how : Settled) (start N : ℕ) (x : code.Error) → how ≡ Settled.Failed → start ≡ rowOf T n .start → N ≡ rowOf T n .nonterminal →
-      errorOf x ≡ failures.failedCall start N (failureOf failure) → o ≡ doneWith (Failure.At x) s → e ≡ stops o → EndedBy T n how failure s e
+  pub ended-failed : (how : Settled) (start N : ℕ) (x : code.Error) → how ≡ Settled.Failed → start ≡ rowOf T n .start →
+      N ≡ rowOf T n .nonterminal → errorOf x ≡ failures.failedCall start N (failureOf failure) →
+      o ≡ doneWith (Failure.At x) s → e ≡ stops o → EndedBy T n how failure s e
   unfolding goesAgain
   ended-failed how start N x h eu en ex eo ee =
       record {
@@ -55,11 +56,13 @@ module _ (T : List Row) (n : ℕ) (failure : Failure) (s : State) (o : outcomes.
             rw (h, ee)
             (given-done o (Failure.At x) s cells T eo
             ∙ ap (λ (y : Error). ok (outcome (some y) (rowState (s .units) cells T)))
-            (ex ∙ rw (eu, en) (sym (failedCall-run (bareCall (rowOf T n .nonterminal) (rowOf T n .start)) (failureOf failure)))));
+            (ex ∙ rw (eu, en)
+            (sym (failedCall-run (bareCall (rowOf T n .nonterminal) (rowOf T n .start)) (failureOf failure)))));
         cells = ap (λ e. e .outcome .state .cells) ee ∙ ap (λ o. o .state .cells) eo;
       }
 
-  pub ended-over : (how : Settled) → how ≡ Settled.Over → o ≡ doneWith Failure.None s → e ≡ stops o → EndedBy T n how failure s e
+  pub ended-over : (how : Settled) → how ≡ Settled.Over → o ≡ doneWith Failure.None s → e ≡ stops o →
+      EndedBy T n how failure s e
   unfolding goesAgain
   ended-over how h eo ee =
       record {
@@ -67,7 +70,8 @@ module _ (T : List Row) (n : ℕ) (failure : Failure) (s : State) (o : outcomes.
         cells = ap (λ e. e .outcome .state .cells) ee ∙ ap (λ o. o .state .cells) eo;
       }
 
-  pub ended-full : (how : Settled) → how ≡ Settled.Full → o ≡ withoutFailure 22 s → e ≡ stops o → EndedBy T n how failure s e
+  pub ended-full : (how : Settled) → how ≡ Settled.Full → o ≡ withoutFailure 22 s → e ≡ stops o →
+      EndedBy T n how failure s e
   unfolding goesAgain
   ended-full how h eo ee =
       record {
@@ -75,7 +79,8 @@ module _ (T : List Row) (n : ℕ) (failure : Failure) (s : State) (o : outcomes.
         cells = ap (λ e. e .outcome .state .cells) ee ∙ ap (λ o. o .state .cells) eo;
       }
 
-  pub ended-again : (how : Settled) → how ≡ Settled.Again → o ≡ doneWith Failure.None s → e ≡ record { again = true; outcome = o } → EndedBy T n how failure s e
+  pub ended-again : (how : Settled) → how ≡ Settled.Again → o ≡ doneWith Failure.None s →
+      e ≡ record { again = true; outcome = o } → EndedBy T n how failure s e
   unfolding goesAgain
   ended-again how h eo ee =
       record {
@@ -84,31 +89,40 @@ module _ (T : List Row) (n : ℕ) (failure : Failure) (s : State) (o : outcomes.
       }
 
 module _ (T : List Row) (n : ℕ) (o : outcomes.Outcome) (e : Ended) where
-  limit-ends : (again : RowState → Result Outcome) (F : Outcome → Result Outcome) (cells : List Cell) → (o .limit ≡ 0 → ⊥) → e ≡ stops o →
-      goesAgain again e cells T ≡ (given o cells T >>= F)
+  limit-ends : (again : RowState → Result Outcome) (F : Outcome → Result Outcome) (cells : List Cell) →
+      (o .limit ≡ 0 → ⊥) → e ≡ stops o → goesAgain again e cells T ≡ (given o cells T >>= F)
   unfolding goesAgain
   limit-ends again F cells h ee = let k = given-met o cells T h in rw ee (k ∙ sym (bind-met F k))
 
   pub first-limit : (o .limit ≡ 0 → ⊥) → e ≡ stops o → FirstEnded T T n o e
   first-limit h ee =
-      record { is = λ book text again cells. limit-ends again _ cells h ee; cells = ap (λ e. e .outcome .state .cells) ee }
+      record {
+        is = λ book text again cells. limit-ends again _ cells h ee;
+        cells = ap (λ e. e .outcome .state .cells) ee;
+      }
 
   pub round-limit : (o .limit ≡ 0 → ⊥) → e ≡ stops o → RoundEnded T T n o e
   round-limit h ee =
-      record { is = λ book text again cells. limit-ends again _ cells h ee; cells = ap (λ e. e .outcome .state .cells) ee }
+      record {
+        is = λ book text again cells. limit-ends again _ cells h ee;
+        cells = ap (λ e. e .outcome .state .cells) ee;
+      }
 
-  pub first-settled : (U : List Row) (how : Settled) → o .limit ≡ 0 → SettledFirst how T U n → (f : Failure) → f ≡ failureAt o → EndedBy U n how f (o .state) e → FirstEnded T U n o e
+  pub first-settled : (U : List Row) (how : Settled) → o .limit ≡ 0 → SettledFirst how T U n → (f : Failure) →
+      f ≡ failureAt o → EndedBy U n how f (o .state) e → FirstEnded T U n o e
   first-settled U how h settled f ef ended =
       record {
         is = λ book text again cells.
             ended .is again cells
             ∙ sym (settled .now book text again (failureOf f) (o .state .units) cells)
-            ∙ ap (λ (f : Failure). settleFirst book text n again (outcome (failureOf f) (rowState (o .state .units) cells T))) ef
+            ∙ ap (λ (f : Failure).
+            settleFirst book text n again (outcome (failureOf f) (rowState (o .state .units) cells T))) ef
             ∙ sym (bind-ok _ (given-ok o cells T h));
         cells = ended .cells;
       }
 
-  pub round-settled : (U : List Row) (how : Settled) → o .limit ≡ 0 → SettledNext how T U n → (f : Failure) → f ≡ failureAt o → EndedBy U n how f (o .state) e → RoundEnded T U n o e
+  pub round-settled : (U : List Row) (how : Settled) → o .limit ≡ 0 → SettledNext how T U n → (f : Failure) →
+      f ≡ failureAt o → EndedBy U n how f (o .state) e → RoundEnded T U n o e
   round-settled U how h settled f ef ended =
       record {
         is = λ book text again cells.
@@ -120,7 +134,8 @@ module _ (T : List Row) (n : ℕ) (o : outcomes.Outcome) (e : Ended) where
 
 -- ---- Variants
 -- a variant begins at a place: its outcome, the place and its items
-module _ (book : Book) (text before after : List ℕ) (T U : List Row) (n j : ℕ) (s : State) (m : CellOutcome) (em : MadeBy text before after s m (run.begin book text j)) where
+module _ (book : Book) (text before after : List ℕ) (T U : List Row) (n j : ℕ) (s : State) (m : CellOutcome)
+    (em : MadeBy text before after s m (run.begin book text j)) where
   begun : (start : ℕ) → start ≡ rowOf T n .start →
       U ≡ onRow T n (withVariant (nthVariant book j .level) (associativityNumber (nthVariant book j .associativity))) →
       Begins book text before after T U n j s (reachedWith m start)
@@ -151,10 +166,12 @@ module _ (book : Book) (text before after : List ℕ) (T U : List Row) (n j : �
       }
 
   pub variant-begins : (start : ℕ) (w : Variant) (r : Reached) → start ≡ rowOf T n .start → w ≡ nthVariant book j →
-      U ≡ onRow T n (withVariant (w .level) (associativityNumber (w .associativity))) → r ≡ reachedWith m start → Begins book text before after T U n j s r
+      U ≡ onRow T n (withVariant (w .level) (associativityNumber (w .associativity))) → r ≡ reachedWith m start →
+      Begins book text before after T U n j s r
   variant-begins start w r es ew eu er =
       subst (λ (x : Reached). Begins book text before after T U n j s x) (sym er)
-      (begun start es (eu ∙ ap (λ (w : Variant). onRow T n (withVariant (w .level) (associativityNumber (w .associativity)))) ew))
+      (begun start es
+      (eu ∙ ap (λ (w : Variant). onRow T n (withVariant (w .level) (associativityNumber (w .associativity)))) ew))
 
 module _ (book : Book) (j start : ℕ) (before o r : outcomes.Outcome) where
   pub variant-limit : (o .limit ≡ 0 → ⊥) → r ≡ o → VariantEnded book j start before o r
@@ -166,8 +183,9 @@ module _ (book : Book) (j start : ℕ) (before o r : outcomes.Outcome) where
         cells = ap (λ o. o .state .cells) e;
       }
 
-  pub variant-done : (w : Variant) (a b x y : Failure) → o .limit ≡ 0 → a ≡ failureAt before → b ≡ failureAt o → w ≡ nthVariant book j →
-      failureOf x ≡ failures.counted (w .committed) start (failureOf b) → failureOf y ≡ joinWith (failureOf a) (failureOf x) →
+  pub variant-done : (w : Variant) (a b x y : Failure) → o .limit ≡ 0 → a ≡ failureAt before → b ≡ failureAt o →
+      w ≡ nthVariant book j → failureOf x ≡ failures.counted (w .committed) start (failureOf b) →
+      failureOf y ≡ joinWith (failureOf a) (failureOf x) →
       r ≡ doneWith y (o .state) → VariantEnded book j start before o r
   variant-done w a b x y h ea eb ew ex ey er =
       record {

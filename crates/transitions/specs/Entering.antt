@@ -45,7 +45,8 @@ innerRunner book text n = stepsRows book text (runnerRows book text (n - 1)) (n 
 unfoldable pub goesIn : Book → List ℕ → ℕ → ℕ → ℕ → Entered → List Cell → List Row → Result Outcome
 goesIn book text n N u e cells T =
     when (e .runs)
-    (λ _. runCallRows book text (innerRunner book text n) n N u (e .minimum) (rowState (e .outcome .state .units) cells T))
+    (λ _.
+    runCallRows book text (innerRunner book text n) n N u (e .minimum) (rowState (e .outcome .state .units) cells T))
     (λ _. given (e .outcome) cells T)
 
 -- the store holds its cells, and a use that is to be run has a level of nesting left

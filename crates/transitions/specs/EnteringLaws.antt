@@ -26,9 +26,11 @@ use Rattle.semantics.specs.Cells.{Cell, numbersOf}
 use Rattle.semantics.specs.Uses.{hasMark}
 use Rattle.semantics.specs.Run as run
 use Rattle.semantics.specs.Run.{Result, met, ok}
-use Rattle.run_model.specs.Rows.{Row, rowOf, onRow, withSet, ended, RowGovernor, same-start, minimum, governorOf, anyClaims}
+use Rattle.run_model.specs.Rows.{Row, rowOf, onRow, withSet, ended, RowGovernor, same-start, minimum, governorOf}
+use Rattle.run_model.specs.Rows.{anyClaims}
 use Rattle.run_model.specs.Model.{rowState, Outcome, outcome, RowRunner, spendRows, failsEmpty}
-use Rattle.run_model.specs.Model.{claimedRows, namedRows, runIdentifierRows, runCallRows, nestedRows, storedRows, enterRows, runnerRows}
+use Rattle.run_model.specs.Model.{claimedRows, namedRows, runIdentifierRows, runCallRows, nestedRows, storedRows}
+use Rattle.run_model.specs.Model.{enterRows, runnerRows}
 use Rattle.calls.specs.CallLaws.{then-row}
 use Rattle.calls.specs.Table.{governorIn, withStoredIn}
 use Rattle.calls.specs.declared.Governor.{Governor}
@@ -43,7 +45,8 @@ use Rattle.transitions.specs.declared.outcomes.Outcome as outcomes
 use Rattle.transitions.specs.declared.outcomes.State.{State}
 use Rattle.transitions.specs.declared.items.CellOutcome.{CellOutcome}
 use Rattle.transitions.specs.declared.entering.Entered.{Entered}
-use Rattle.transitions.specs.Outcomes.{cellsOf, Held, bare, given, Ran, Runs, Spent, MadeBy, withoutFailure, doneWith}
+use Rattle.transitions.specs.Outcomes.{cellsOf, Held, bare, given, Ran, Runs, Spent, MadeBy, withoutFailure}
+use Rattle.transitions.specs.Outcomes.{doneWith}
 use Rattle.transitions.specs.Entering.{Stores, innerRunner, goesIn, Entering, Opens, Enters}
 use Rattle.transitions.specs.OutcomeLaws.{given-ok, given-met, cell-ok, cell-met}
 use Rattle.transitions.specs.ResumeLaws.{bind-met, bind-ok, unit-met, unit-ok}
@@ -60,8 +63,10 @@ unfolding failsEmpty
 some-passes [] x h = absurd (h refl)
 some-passes (p ∷ ps) x h = refl
 
-module _ (T U : List Row) (g n N u : ℕ) (s : State) (k : ℕ) (e : U ≡ withStoredIn T n g) (ek : k ≡ length (rowOf U n .set)) where
-  answered-with : (f : Failure) (o : outcomes.Outcome) → o ≡ doneWith f s → failureOf f ≡ failsEmpty (rowOf U n .set) (error u 11 N) → Stores T U g n N u s o
+module _ (T U : List Row) (g n N u : ℕ) (s : State) (k : ℕ) (e : U ≡ withStoredIn T n g)
+    (ek : k ≡ length (rowOf U n .set)) where
+  answered-with : (f : Failure) (o : outcomes.Outcome) → o ≡ doneWith f s →
+      failureOf f ≡ failsEmpty (rowOf U n .set) (error u 11 N) → Stores T U g n N u s o
   unfolding storedRows
   answered-with f o eo ef =
       record {
@@ -72,15 +77,19 @@ module _ (T U : List Row) (g n N u : ℕ) (s : State) (k : ℕ) (e : U ≡ withS
         cells = ap (λ o. o .state .cells) eo;
       }
 
-  pub stored-none : (f : Failure) (o : outcomes.Outcome) → k ≡ 0 → failureOf f ≡ some (error u 11 N) → o ≡ doneWith f s → Stores T U g n N u s o
+  pub stored-none : (f : Failure) (o : outcomes.Outcome) → k ≡ 0 → failureOf f ≡ some (error u 11 N) →
+      o ≡ doneWith f s → Stores T U g n N u s o
   stored-none f o h ef eo = answered-with f o eo (ef ∙ sym (none-fails (rowOf U n .set) (error u 11 N) (sym ek ∙ h)))
 
   pub stored-some : (o : outcomes.Outcome) → (k ≡ 0 → ⊥) → o ≡ doneWith Failure.None s → Stores T U g n N u s o
-  stored-some o h eo = answered-with Failure.None o eo (sym (some-passes (rowOf U n .set) (error u 11 N) (λ z. h (ek ∙ z))))
+  stored-some o h eo =
+      answered-with Failure.None o eo (sym (some-passes (rowOf U n .set) (error u 11 N) (λ z. h (ek ∙ z))))
 
 -- ---- Claims
-module _ (book : Book) (text : List ℕ) (T : List Row) (n u : ℕ) (v : Variable) (e : variableOf v ≡ variableAt book text u) where
-  pub claimed-named : (end number kind : ℕ) (t : Bool) → v ≡ Variable.Named end number kind → t ≡ anyClaims book T u (200 - n) (suc n) → t ≡ claimedRows book text T n u
+module _ (book : Book) (text : List ℕ) (T : List Row) (n u : ℕ) (v : Variable)
+    (e : variableOf v ≡ variableAt book text u) where
+  pub claimed-named : (end number kind : ℕ) (t : Bool) → v ≡ Variable.Named end number kind →
+      t ≡ anyClaims book T u (200 - n) (suc n) → t ≡ claimedRows book text T n u
   unfolding isSome
   claimed-named end number kind t h et = et ∙ rw (sym e ∙ ap variableOf h)
 
@@ -96,16 +105,19 @@ module _ (book : Book) (text store : List ℕ) (T T1 T2 : List Row) (n N u : ℕ
 
   -- what is run, on the row that was cleared
   identifier-from : (cells : List Cell) (end : Option ℕ) → end ≡ when t (λ _. none) (λ _. freeEnd book text u) →
-      namedRows book text n N u (rowState (s .units) cells T2) end ≡ runIdentifierRows book text n N u (rowState (s .units) cells T)
+      namedRows book text n N u (rowState (s .units) cells T2) end
+      ≡ runIdentifierRows book text n N u (rowState (s .units) cells T)
   unfolding runIdentifierRows
   identifier-from cells end h =
       ap (λ x. namedRows book text n N u (rowState (s .units) cells T2) x) h
-      ∙ ap (λ b. namedRows book text n N u (rowState (s .units) cells T2) (when b (λ _. none) (λ _. freeEnd book text u))) et
       ∙ ap
-      (λ q. namedRows book text n N u (rowState (s .units) cells q) (when (claimedRows book text q n u) (λ _. none) (λ _. freeEnd book text u)))
-      cleared
+      (λ b. namedRows book text n N u (rowState (s .units) cells T2) (when b (λ _. none) (λ _. freeEnd book text u))) et
+      ∙ ap
+      (λ q. namedRows book text n N u (rowState (s .units) cells q)
+      (when (claimedRows book text q n u) (λ _. none) (λ _. freeEnd book text u))) cleared
 
-  unnamed : (f : Failure) (o : outcomes.Outcome) → none ≡ when t (λ _. none) (λ _. freeEnd book text u) → failureOf f ≡ some (error u 11 N) → o ≡ doneWith f s →
+  unnamed : (f : Failure) (o : outcomes.Outcome) → none ≡ when t (λ _. none) (λ _. freeEnd book text u) →
+      failureOf f ≡ some (error u 11 N) → o ≡ doneWith f s →
       Runs text store (s .cells) store T2 o (λ cells. runIdentifierRows book text n N u (rowState (s .units) cells T))
   unfolding namedRows run.failedCall
   unnamed f o h ef eo =
@@ -116,19 +128,23 @@ module _ (book : Book) (text store : List ℕ) (T T1 T2 : List Row) (n N u : ℕ
       ∙ identifier-from (cellsOf store (s .cells)) none h)
       held
 
-  pub identifier-claimed : (f : Failure) (o : outcomes.Outcome) → t ≡ true → failureOf f ≡ some (error u 11 N) → o ≡ doneWith f s →
+  pub identifier-claimed : (f : Failure) (o : outcomes.Outcome) → t ≡ true →
+      failureOf f ≡ some (error u 11 N) → o ≡ doneWith f s →
       Runs text store (s .cells) store T2 o (λ cells. runIdentifierRows book text n N u (rowState (s .units) cells T))
   identifier-claimed f o h ef eo = unnamed f o (rw h) ef eo
 
-  pub identifier-nothing : (x : End) (f : Failure) (o : outcomes.Outcome) → t ≡ false → endOf x ≡ freeEnd book text u → x ≡ End.Nothing →
-      failureOf f ≡ some (error u 11 N) → o ≡ doneWith f s →
+  pub identifier-nothing : (x : End) (f : Failure) (o : outcomes.Outcome) → t ≡ false → endOf x ≡ freeEnd book text u →
+      x ≡ End.Nothing → failureOf f ≡ some (error u 11 N) → o ≡ doneWith f s →
       Runs text store (s .cells) store T2 o (λ cells. runIdentifierRows book text n N u (rowState (s .units) cells T))
   identifier-nothing x f o h ex en ef eo = unnamed f o (rw h (sym (ap endOf en) ∙ ex)) ef eo
 
-  module _ (x : End) (end size : ℕ) (c : CellNumbers) (after : List ℕ) (m : CellOutcome) (h : t ≡ false) (ex : endOf x ≡ freeEnd book text u) (en : x ≡ End.At end)
+  module _ (x : End) (end size : ℕ) (c : CellNumbers) (after : List ℕ) (m : CellOutcome) (h : t ≡ false)
+      (ex : endOf x ≡ freeEnd book text u) (en : x ≡ End.At end)
       (es : size ≡ end - u) (ec : listed c ≡ numbersOf (Cell.name u size))
       (em : (cell : Cell) → listed c ≡ numbersOf cell → MadeBy text store after s m (run.make text cell)) where
-    named-from : (cells : List Cell) → namedRows book text n N u (rowState (s .units) cells T2) (some end) ≡ runIdentifierRows book text n N u (rowState (s .units) cells T)
+    named-from : (cells : List Cell) →
+        namedRows book text n N u (rowState (s .units) cells T2) (some end)
+        ≡ runIdentifierRows book text n N u (rowState (s .units) cells T)
     named-from cells = identifier-from cells (some end) (rw h (sym (ap endOf en) ∙ ex))
 
     pub identifier-full : (o : outcomes.Outcome) → (m .limit ≡ 0 → ⊥) → o ≡ withoutFailure (m .limit) (m .state) →
@@ -139,7 +155,8 @@ module _ (book : Book) (text store : List ℕ) (T T1 T2 : List Row) (n N u : ℕ
         let q = em (Cell.name u size) ec held in
         let cells = cellsOf store (s .cells) in
         let limit : run.make text (Cell.name u (end - u)) (bare (s .units) cells) ≡ met (m .limit) (m .state .units)
-        = ap (λ i. run.make text (Cell.name u i) (bare (s .units) cells)) (sym es) ∙ sym (q .is) ∙ cell-met m (cellsOf after (m .state .cells)) k in
+        = ap (λ i. run.make text (Cell.name u i) (bare (s .units) cells)) (sym es) ∙ sym (q .is)
+        ∙ cell-met m (cellsOf after (m .state .cells)) k in
         ran-with text after T2 o (m .state) _ (ap (λ o. o .state .cells) eo)
         (ap (λ o. given o (cellsOf after (m .state .cells)) T2) eo
         ∙ given-met (withoutFailure (m .limit) (m .state)) (cellsOf after (m .state .cells)) T2 k
@@ -148,7 +165,8 @@ module _ (book : Book) (text store : List ℕ) (T T1 T2 : List Row) (n N u : ℕ
         (q .held)
 
     pub identifier-named : (U : List Row) (o : outcomes.Outcome) → m .limit ≡ 0 →
-        U ≡ onRow T2 n (withSet (record { rest = end; level = 255; associativity = Associativity.Both; value = m .cell } ∷ [])) →
+        U ≡ onRow T2 n
+        (withSet (record { rest = end; level = 255; associativity = Associativity.Both; value = m .cell } ∷ [])) →
         o ≡ doneWith Failure.None (m .state) →
         Runs text store (s .cells) after U o (λ cells. runIdentifierRows book text n N u (rowState (s .units) cells T))
     unfolding namedRows
@@ -157,7 +175,9 @@ module _ (book : Book) (text store : List ℕ) (T T1 T2 : List Row) (n N u : ℕ
         let q = em (Cell.name u size) ec held in
         let cells = cellsOf store (s .cells) in
         let new = cellsOf after (m .state .cells) in
-        let made : run.make text (Cell.name u (end - u)) (bare (s .units) cells) ≡ ok (run.made (m .cell) (bare (m .state .units) new))
+        let made :
+        run.make text (Cell.name u (end - u)) (bare (s .units) cells)
+        ≡ ok (run.made (m .cell) (bare (m .state .units) new))
         = ap (λ i. run.make text (Cell.name u i) (bare (s .units) cells)) (sym es) ∙ sym (q .is) ∙ cell-ok m new k in
         ran-with text after U o (m .state) _ (ap (λ o. o .state .cells) eo)
         (given-done o Failure.None (m .state) new U eo
@@ -166,11 +186,13 @@ module _ (book : Book) (text store : List ℕ) (T T1 T2 : List Row) (n N u : ℕ
         ∙ named-from cells)
         (q .held)
 
-pub is-marked : (book : Book) (N : ℕ) (x : Nonterminal) (mark : Mark) → x ≡ nthNonterminal book N → x .mark ≡ mark → eqb (markNumber mark) 2 ≡ hasMark book 2 N
+pub is-marked : (book : Book) (N : ℕ) (x : Nonterminal) (mark : Mark) → x ≡ nthNonterminal book N → x .mark ≡ mark →
+    eqb (markNumber mark) 2 ≡ hasMark book 2 N
 is-marked book N x mark e h = ap (λ m. eqb (markNumber m) 2) (sym h ∙ ap (λ x. x .mark) e)
 
 -- ---- One level of nesting
-runner-above : (book : Book) (text : List ℕ) (n : ℕ) → (n ≡ 0 → ⊥) → runnerRows book text n ≡ some (innerRunner book text n)
+runner-above : (book : Book) (text : List ℕ) (n : ℕ) → (n ≡ 0 → ⊥) →
+    runnerRows book text n ≡ some (innerRunner book text n)
 unfolding runnerRows
 runner-above book text zero h = absurd (h refl)
 runner-above book text (suc n) h = let q : suc n - 1 ≡ n = omega arith in rw q
@@ -179,8 +201,8 @@ runner-above book text (suc n) h = let q : suc n - 1 ≡ n = omega arith in rw q
 abbrev pub ends : outcomes.Outcome → Entered
 ends o = record { runs = false; minimum = 0; outcome = o }
 
-entering-over : (book : Book) (text store : List ℕ) (T : List Row) (n N u : ℕ) (o : outcomes.Outcome) (e : Entered) (z : Result Outcome) → e ≡ ends o →
-    Ran text store T o z → Entering book text store T n N u e z
+entering-over : (book : Book) (text store : List ℕ) (T : List Row) (n N u : ℕ) (o : outcomes.Outcome) (e : Entered)
+    (z : Result Outcome) → e ≡ ends o → Ran text store T o z → Entering book text store T n N u e z
 unfolding goesIn
 entering-over book text store T n N u o e z ee ran =
     subst (λ (x : Entered). Entering book text store T n N u x z) (sym ee) (record { is = ran .is; held = ran .held })
@@ -200,32 +222,42 @@ module _ (book : Book) (text : List ℕ) (n N u m : ℕ) (s : State) (e : Entere
       opening store T (some (innerRunner book text n)) ≡ opening store T (runnerRows book text n)
   opening-within store T h = ap (opening store T) (sym (runner-above book text n h))
 
-  pub opens-deep : (store : List ℕ) (T : List Row) (o : outcomes.Outcome) → n ≡ 0 → o ≡ withoutFailure 21 s → e ≡ ends o → Opens book text store store T T n N u m s e
+  pub opens-deep : (store : List ℕ) (T : List Row) (o : outcomes.Outcome) → n ≡ 0 → o ≡ withoutFailure 21 s →
+      e ≡ ends o → Opens book text store store T T n N u m s e
   unfolding runnerRows nestedRows
   opens-deep store T o h eo ee =
       let cells = cellsOf store (s .cells) in
-      let nest : opening store T none ≡ opening store T (runnerRows book text n) = ap (λ k. opening store T (runnerRows book text k)) (sym h) in
+      let nest : opening store T none ≡ opening store T (runnerRows book text n) =
+      ap (λ k. opening store T (runnerRows book text k)) (sym h) in
       let limit : given o cells T ≡ met 21 (s .units)
       = ap (λ o. given o cells T) eo ∙ given-met (withoutFailure 21 s) cells T (λ z. omega (arith, z)) in
       record {
-        does = λ held. entering-over book text store T n N u o e _ ee (ran-with text store T o s _ (ap (λ o. o .state .cells) eo) (limit ∙ nest) held);
+        does =
+            λ held. entering-over book text store T n N u o e _ ee
+            (ran-with text store T o s _ (ap (λ o. o .state .cells) eo) (limit ∙ nest) held);
         above = over-above o e n ee;
       }
 
-  pub opens-identifier : (before after : List ℕ) (T U : List Row) (b : Bool) (o : outcomes.Outcome) → (n ≡ 0 → ⊥) → b ≡ hasMark book 2 N → b ≡ true →
-      Runs text before (s .cells) after U o (λ cells. runIdentifierRows book text n N u (rowState (s .units) cells T)) → e ≡ ends o →
-      Opens book text before after T U n N u m s e
+  pub opens-identifier : (before after : List ℕ) (T U : List Row) (b : Bool) (o : outcomes.Outcome) → (n ≡ 0 → ⊥) →
+      b ≡ hasMark book 2 N → b ≡ true →
+      Runs text before (s .cells) after U o (λ cells. runIdentifierRows book text n N u (rowState (s .units) cells T)) →
+      e ≡ ends o → Opens book text before after T U n N u m s e
   unfolding nestedRows
   opens-identifier before after T U b o h eb y runs ee =
-      let nest : runIdentifierRows book text n N u (rowState (s .units) (cellsOf before (s .cells)) T) ≡ opening before T (runnerRows book text n)
+      let nest :
+      runIdentifierRows book text n N u (rowState (s .units) (cellsOf before (s .cells)) T)
+      ≡ opening before T (runnerRows book text n)
       = rw (← (opening-within before T h), sym eb ∙ y) in
       record {
-        does = λ held. entering-over book text after U n N u o e _ ee (let r = runs held in record { is = r .is ∙ nest; held = r .held });
+        does =
+            λ held. entering-over book text after U n N u o e _ ee
+            (let r = runs held in record { is = r .is ∙ nest; held = r .held });
         above = over-above o e n ee;
       }
 
-  pub opens-runs : (store : List ℕ) (T : List Row) (b : Bool) (o : outcomes.Outcome) → (n ≡ 0 → ⊥) → b ≡ hasMark book 2 N → b ≡ false →
-      o ≡ doneWith Failure.None s → e ≡ record { runs = true; minimum = m; outcome = o } → Opens book text store store T T n N u m s e
+  pub opens-runs : (store : List ℕ) (T : List Row) (b : Bool) (o : outcomes.Outcome) → (n ≡ 0 → ⊥) →
+      b ≡ hasMark book 2 N → b ≡ false → o ≡ doneWith Failure.None s →
+      e ≡ record { runs = true; minimum = m; outcome = o } → Opens book text store store T T n N u m s e
   unfolding nestedRows goesIn
   opens-runs store T b o h eb y eo ee =
       let t = rowState (s .units) (cellsOf store (s .cells)) T in
@@ -240,8 +272,10 @@ module _ (book : Book) (text : List ℕ) (n N u m : ℕ) (s : State) (e : Entere
       }
 
 -- ---- A use of a nonterminal
-module _ (book : Book) (text : List ℕ) (T : List Row) (n N u : ℕ) (s : State) (e : Entered) (spent : outcomes.Outcome) (es : Spent spent s) where
-  pub enters-spent : (store : List ℕ) → (spent .limit ≡ 0 → ⊥) → e ≡ ends spent → Enters book text store store T T n N u s e
+module _ (book : Book) (text : List ℕ) (T : List Row) (n N u : ℕ) (s : State) (e : Entered) (spent : outcomes.Outcome)
+    (es : Spent spent s) where
+  pub enters-spent : (store : List ℕ) → (spent .limit ≡ 0 → ⊥) → e ≡ ends spent →
+      Enters book text store store T T n N u s e
   unfolding enterRows
   enters-spent store h ee =
       let cells = cellsOf store (s .cells) in
@@ -260,7 +294,8 @@ module _ (book : Book) (text : List ℕ) (T : List Row) (n N u : ℕ) (s : State
       elim g [
         | same-start g ↦ ok (storedRows book text (runnerRows book text n) n g N u t)
         | minimum m ↦ nestedRows book text (runnerRows book text n) n t (λ run.
-            when (hasMark book 2 N) (λ _. runIdentifierRows book text n N u t) (λ _. runCallRows book text run n N u m t))
+            when (hasMark book 2 N) (λ _. runIdentifierRows book text n N u t)
+            (λ _. runCallRows book text run n N u m t))
       ]) ≡ enterRows book text (runnerRows book text n) n N u (rowState (s .units) cells T)
   unfolding enterRows
   entered cells g h eg =
@@ -268,19 +303,22 @@ module _ (book : Book) (text : List ℕ) (T : List Row) (n N u : ℕ) (s : State
       = unit-ok _ _ _ (sym (given-ok spent cells T h) ∙ es .is cells T) in
       rw eg (sym (bind-ok _ left))
 
-  pub enters-stored : (store : List ℕ) (U : List Row) (r : Governor) (g : ℕ) (o : outcomes.Outcome) → spent .limit ≡ 0 → governorIn r ≡ governorOf T n N u →
-      r ≡ Governor.SameStart g → Stores T U g n N u (spent .state) o → e ≡ ends o → Enters book text store store T U n N u s e
+  pub enters-stored : (store : List ℕ) (U : List Row) (r : Governor) (g : ℕ) (o : outcomes.Outcome) → spent .limit ≡ 0 →
+      governorIn r ≡ governorOf T n N u → r ≡ Governor.SameStart g → Stores T U g n N u (spent .state) o → e ≡ ends o →
+      Enters book text store store T U n N u s e
   enters-stored store U r g o h er eg stores ee =
       let cells = cellsOf store (s .cells) in
       record {
         does = λ held. entering-over book text store U n N u o e _ ee
             (ran-with text store U o s _ (stores .cells ∙ es .cells)
-            (stores .is book text (runnerRows book text n) cells ∙ entered cells (same-start g) h (sym (ap governorIn eg) ∙ er)) held);
+            (stores .is book text (runnerRows book text n) cells
+            ∙ entered cells (same-start g) h (sym (ap governorIn eg) ∙ er)) held);
         above = over-above o e n ee;
       }
 
-  pub enters-open : (before after : List ℕ) (U : List Row) (r : Governor) (m : ℕ) → spent .limit ≡ 0 → governorIn r ≡ governorOf T n N u →
-      r ≡ Governor.Minimum m → Opens book text before after T U n N u m (spent .state) e → Enters book text before after T U n N u s e
+  pub enters-open : (before after : List ℕ) (U : List Row) (r : Governor) (m : ℕ) → spent .limit ≡ 0 →
+      governorIn r ≡ governorOf T n N u → r ≡ Governor.Minimum m →
+      Opens book text before after T U n N u m (spent .state) e → Enters book text before after T U n N u s e
   enters-open before after U r m h er em opens =
       record {
         does = λ held.
@@ -288,7 +326,8 @@ module _ (book : Book) (text : List ℕ) (T : List Row) (n N u : ℕ) (s : State
             record {
               is = o .is
                   ∙ entered (cellsOf before (spent .state .cells)) (minimum m) h (sym (ap governorIn em) ∙ er)
-                  ∙ ap (λ c. enterRows book text (runnerRows book text n) n N u (rowState (s .units) (cellsOf before c) T)) (es .cells);
+                  ∙ ap (λ c. enterRows book text (runnerRows book text n) n N u
+                  (rowState (s .units) (cellsOf before c) T)) (es .cells);
               held = o .held;
             };
         above = opens .above;

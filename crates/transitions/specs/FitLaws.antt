@@ -16,7 +16,8 @@ use lib.ListN.{length, getD}
 use borrow.Author.Tests.{eqb-true, ltb-true}
 use Rattle.characters.specs.Classes.{between}
 use Rattle.book.specs.Book.{Entry, Book}
-use Rattle.book.specs.Check.{Checked, refused, accepted, andThen, Reader, row, placed, entry, nonterminal, variant, spelling, total, allPass, ended, entireBook, Outcome, outcome, checkBook}
+use Rattle.book.specs.Check.{Checked, refused, accepted, andThen, Reader, row, placed, entry, nonterminal, variant}
+use Rattle.book.specs.Check.{spelling, total, allPass, ended, entireBook, Outcome, outcome, checkBook}
 use Rattle.book.specs.ReaderLaws.{between-high}
 use Rattle.book.specs.declared.records.Associativity.{Associativity}
 use Rattle.book.specs.declared.records.Nonterminal.{Nonterminal}
@@ -26,24 +27,32 @@ use Rattle.transitions.specs.Fit.{Fits, Fit}
 
 -- ---- Rows
 module _ {A : Type 0} (size : A → ℕ) (one : ℕ → Reader A) (bytes : List ℕ) where
-  row-length : (n sum place : ℕ) (xs : List A) (end : ℕ) → row size one n sum bytes place ≡ accepted xs end → length xs ≡ n
+  row-length : (n sum place : ℕ) (xs : List A) (end : ℕ) →
+      row size one n sum bytes place ≡ accepted xs end → length xs ≡ n
   unfolding row
   row-length zero sum place xs end e = sym (ap length (accepted-inj e))
   row-length (suc n) sum place xs end e =
-      by-then (one sum bytes place) (λ x at. andThen (row size one n (sum + size x) bytes at) (λ others last. accepted (x ∷ others) last)) e (λ x at told next.
-      by-then (row size one n (sum + size x) bytes at) (λ others last. accepted (x ∷ others) last) next (λ others last read all.
-      subst (λ (l : List A). length l ≡ suc n) (accepted-inj all) (ap suc (row-length n (sum + size x) at others last read))))
+      by-then (one sum bytes place)
+      (λ x at. andThen (row size one n (sum + size x) bytes at) (λ others last. accepted (x ∷ others) last)) e
+      (λ x at told next.
+      by-then (row size one n (sum + size x) bytes at) (λ others last. accepted (x ∷ others) last)
+      next (λ others last read all.
+      subst (λ (l : List A). length l ≡ suc n) (accepted-inj all)
+      (ap suc (row-length n (sum + size x) at others last read))))
 
 -- What holds of every record that `one` reads holds of all records of a row, where a size is at most `most`, so that n
 -- records are at most `room n` together; d stands for one that the row doesn't have
-module _ {A : Type 0} (size : A → ℕ) (one : ℕ → Reader A) (P : A → Type 0) (bytes : List ℕ) (most top : ℕ) (room : ℕ → ℕ)
-    (more : (n : ℕ) → room n + most ≤ room (suc n))
-    (each : (sum place : ℕ) (x : A) (end : ℕ) → sum + most ≤ top → one sum bytes place ≡ accepted x end → P x × (size x ≤ most)) (d : A) (beyond : P d) where
+module _ {A : Type 0} (size : A → ℕ) (one : ℕ → Reader A) (P : A → Type 0) (bytes : List ℕ) (most top : ℕ)
+    (room : ℕ → ℕ) (more : (n : ℕ) → room n + most ≤ room (suc n))
+    (each : (sum place : ℕ) (x : A) (end : ℕ) → sum + most ≤ top →
+    one sum bytes place ≡ accepted x end → P x × (size x ≤ most))
+    (d : A) (beyond : P d) where
   at-number : (i : ℕ) (x : A) (xs : List A) → P x → ((k : ℕ) → P (getD xs k d)) → P (getD (x ∷ xs) i d)
   at-number zero x xs here others = here
   at-number (suc i) x xs here others = others i
 
-  row-each : (n sum place : ℕ) {xs : List A} {end : ℕ} → sum + room n ≤ top → row size one n sum bytes place ≡ accepted xs end → (i : ℕ) → P (getD xs i d)
+  row-each : (n sum place : ℕ) {xs : List A} {end : ℕ} → sum + room n ≤ top →
+      row size one n sum bytes place ≡ accepted xs end → (i : ℕ) → P (getD xs i d)
   unfolding row
   row-each zero sum place l e i = subst (λ (l : List A). P (getD l i d)) (accepted-inj e) beyond
   row-each (suc n) sum place l e i =
@@ -55,23 +64,29 @@ module _ {A : Type 0} (size : A → ℕ) (one : ℕ → Reader A) (P : A → Typ
 
 -- Where each record begins at the sum of the sizes before it, it ends within the sum of all; a size is at most `most`
 module _ {A : Type 0} (size first : A → ℕ) (one : ℕ → Reader A) (bytes : List ℕ) (most : ℕ)
-    (each : (sum place : ℕ) (x : A) (end : ℕ) → one sum bytes place ≡ accepted x end → (first x ≡ sum) × (size x ≤ most)) (d : A) (nothing : first d + size d ≡ 0) where
+    (each : (sum place : ℕ) (x : A) (end : ℕ) → one sum bytes place ≡ accepted x end →
+    (first x ≡ sum) × (size x ≤ most))
+    (d : A) (nothing : first d + size d ≡ 0) where
   abbrev Within : ℕ → List A → ℕ → Type 0
   Within sum xs i = first (getD xs i d) + size (getD xs i d) ≤ sum + total size xs
 
-  within : (sum i : ℕ) (x : A) (xs : List A) → first x ≡ sum → ((k : ℕ) → Within (sum + size x) xs k) → Within sum (x ∷ xs) i
+  within : (sum i : ℕ) (x : A) (xs : List A) → first x ≡ sum →
+      ((k : ℕ) → Within (sum + size x) xs k) → Within sum (x ∷ xs) i
   within sum zero x xs e others = omega (arith, e)
   within sum (suc i) x xs e others = omega (arith, others i)
 
-  row-within : (n sum place : ℕ) {xs : List A} {end : ℕ} → row size one n sum bytes place ≡ accepted xs end → (i : ℕ) → Within sum xs i
+  row-within : (n sum place : ℕ) {xs : List A} {end : ℕ} → row size one n sum bytes place ≡ accepted xs end →
+      (i : ℕ) → Within sum xs i
   unfolding row
   row-within zero sum place e i = subst (λ (l : List A). Within sum l i) (accepted-inj e) (omega (arith, nothing))
   row-within (suc n) sum place e i =
       by-then _ _ e (λ x at told next.
       by-then _ _ next (λ xs end others all.
-      subst (λ (l : List A). Within sum l i) (accepted-inj all) (within sum i x xs (each sum place x at told .0) (row-within n (sum + size x) at others))))
+      subst (λ (l : List A). Within sum l i) (accepted-inj all)
+      (within sum i x xs (each sum place x at told .0) (row-within n (sum + size x) at others))))
 
-  row-total : (n sum place : ℕ) {xs : List A} {end : ℕ} → row size one n sum bytes place ≡ accepted xs end → total size xs ≤ n * most
+  row-total : (n sum place : ℕ) {xs : List A} {end : ℕ} →
+      row size one n sum bytes place ≡ accepted xs end → total size xs ≤ n * most
   unfolding row
   row-total zero sum place e = subst (λ (l : List A). total size l ≤ 0 * most) (accepted-inj e) (omega arith)
   row-total (suc n) sum place e =
@@ -84,18 +99,20 @@ module _ {A : Type 0} (size first : A → ℕ) (one : ℕ → Reader A) (bytes :
       fewer n a b h k = rw (suc-mul n most) (omega (arith, h, k))
 
 -- ---- The records
-entry-fits : (bytes : List ℕ) (greatest place : ℕ) (x : Entry) (end : ℕ) → entry greatest bytes place ≡ accepted x end → x .label ≤ greatest
+entry-fits : (bytes : List ℕ) (greatest place : ℕ) (x : Entry) (end : ℕ) →
+    entry greatest bytes place ≡ accepted x end → x .label ≤ greatest
 unfolding entry
 entry-fits bytes greatest place x end e =
     by-field _ bytes place _ e (λ label at low next.
-    by-then (spelling bytes at) _ next (λ letters _ _ all. subst (λ (x : Entry). x .label ≤ greatest) (accepted-inj all) (between-high 0 greatest label low)))
+    by-then (spelling bytes at) _ next (λ letters _ _ all.
+    subst (λ (x : Entry). x .label ≤ greatest) (accepted-inj all) (between-high 0 greatest label low)))
 
 few-variants : (b : Bool) (number : ℕ) → between 0 (cond b 0 16) number ≡ true → number ≤ 16
 few-variants true number e = omega (arith, between-high 0 0 number e)
 few-variants false number e = between-high 0 16 number e
 
-nonterminal-fits : (bytes : List ℕ) (first place : ℕ) (x : Nonterminal) (end : ℕ) → first + 16 ≤ 512 → nonterminal first bytes place ≡ accepted x end →
-    Fits (x .first + x .count) × (x .count ≤ 16)
+nonterminal-fits : (bytes : List ℕ) (first place : ℕ) (x : Nonterminal) (end : ℕ) → first + 16 ≤ 512 →
+    nonterminal first bytes place ≡ accepted x end → Fits (x .first + x .count) × (x .count ≤ 16)
 unfolding nonterminal
 nonterminal-fits bytes first place x end l e =
     by-field _ bytes place _ e (λ mark at _ next.
@@ -105,14 +122,17 @@ nonterminal-fits bytes first place x end l e =
 
 -- what stands for a variant that a book doesn't have
 abbrev noVariant : ℕ × Variant
-noVariant = (0, record { level = 0; associativity = Associativity.Left; committed = false; passing = false; first = 0; count = 0 })
+noVariant = (
+  0,
+  record { level = 0; associativity = Associativity.Left; committed = false; passing = false; first = 0; count = 0 },
+)
 
 record VariantFits (v : Variant) : Type 0 where
   level : v .level ≤ 255
   few : v .count ≤ 8
 
-variant-fits : (bytes : List ℕ) (first place : ℕ) (x : ℕ × Variant) (end : ℕ) → placed (variant first) bytes place ≡ accepted x end →
-    VariantFits (x .1) × (x .1 .first ≡ first)
+variant-fits : (bytes : List ℕ) (first place : ℕ) (x : ℕ × Variant) (end : ℕ) →
+    placed (variant first) bytes place ≡ accepted x end → VariantFits (x .1) × (x .1 .first ≡ first)
 unfolding variant
 variant-fits bytes first place x end e =
     by-then (variant first bytes place) _ e (λ v after told same.
@@ -125,13 +145,15 @@ variant-fits bytes first place x end e =
     (record { level = between-high 0 255 level low; few = between-high 0 8 number few }, refl)))))))
 
 -- a variant without its place
-without-place : (P : Variant → Type 0) (xs : List (ℕ × Variant)) (d : ℕ × Variant) → ((i : ℕ) → P (getD xs i d .1)) → (j : ℕ) → P (getD (map (λ v. v .1) xs) j (d .1))
+without-place : (P : Variant → Type 0) (xs : List (ℕ × Variant)) (d : ℕ × Variant) → ((i : ℕ) → P (getD xs i d .1)) →
+    (j : ℕ) → P (getD (map (λ v. v .1) xs) j (d .1))
 without-place P [] d h j = h 0
 without-place P (x ∷ xs) d h zero = h 0
 without-place P (x ∷ xs) d h (suc j) = without-place P xs d (λ i. h (suc i)) j
 
 -- ---- The whole book
-whole-fits : (bytes : List ℕ) (book : Book) (text : List ℕ) (end : ℕ) → length text ≤ 4096 → entireBook bytes 0 ≡ accepted book end → Fit book text
+whole-fits : (bytes : List ℕ) (book : Book) (text : List ℕ) (end : ℕ) → length text ≤ 4096 →
+    entireBook bytes 0 ≡ accepted book end → Fit book text
 unfolding entireBook
 whole-fits bytes book text end short e =
     by-section _ _ _ bytes 0 _ e (λ n₁ s₁ words at₁ few₁ read₁ e₁.
@@ -148,31 +170,42 @@ whole-fits bytes book text end short e =
     let most₄ : n₄ ≤ 128 = between-high 0 128 n₄ (and-eq-true-iff (between 0 128 n₄) _ .0 few₄ .0) in
     let size : ℕ × Variant → ℕ = λ v. v .1 .count in
     let first : ℕ × Variant → ℕ = λ v. v .1 .first in
-    let starts : (sum place : ℕ) (x : ℕ × Variant) (end : ℕ) → placed (variant sum) bytes place ≡ accepted x end → (first x ≡ sum) × (size x ≤ 8) =
-    λ sum place x end told. (variant-fits bytes sum place x end told .1, variant-fits bytes sum place x end told .0 .few) in
-    let fits₄ = without-place VariantFits variants noVariant (row-each _ _ (λ x. VariantFits (x .1)) bytes 8 1024 (λ n. n * 8) (λ n. omega arith)
-    (λ sum place x end l told. (variant-fits bytes sum place x end told .0, variant-fits bytes sum place x end told .0 .few)) noVariant (record { level = omega arith; few = omega arith }) n₄ 0 s₄ (omega arith) read₄) in
+    let starts : (sum place : ℕ) (x : ℕ × Variant) (end : ℕ) → placed (variant sum) bytes place ≡ accepted x end →
+    (first x ≡ sum) × (size x ≤ 8) =
+    λ sum place x end told.
+    (variant-fits bytes sum place x end told .1, variant-fits bytes sum place x end told .0 .few) in
+    let fits₄ =
+    without-place VariantFits variants noVariant
+    (row-each _ _ (λ x. VariantFits (x .1)) bytes 8 1024 (λ n. n * 8) (λ n. omega arith)
+    (λ sum place x end l told.
+    (variant-fits bytes sum place x end told .0, variant-fits bytes sum place x end told .0 .few)) noVariant
+    (record { level = omega arith; few = omega arith }) n₄ 0 s₄ (omega arith) read₄) in
     let within₄ = without-place (λ v. v .first + v .count ≤ 0 + total size variants) variants noVariant
     (row-within size first (λ sum. placed (variant sum)) bytes 8 starts noVariant refl n₄ 0 s₄ read₄) in
-    let few₄ : total size variants ≤ n₄ * 8 = row-total size first (λ sum. placed (variant sum)) bytes 8 starts noVariant refl n₄ 0 s₄ read₄ in
-    let steps₅ : total size variants ≡ length steps = omega (arith, eqb-true (total size variants) n₅ few₅, row-length _ _ bytes n₅ 0 s₅ _ _ read₅) in
+    let few₄ : total size variants ≤ n₄ * 8 =
+    row-total size first (λ sum. placed (variant sum)) bytes 8 starts noVariant refl n₄ 0 s₄ read₄ in
+    let steps₅ : total size variants ≡ length steps =
+    omega (arith, eqb-true (total size variants) n₅ few₅, row-length _ _ bytes n₅ 0 s₅ _ _ read₅) in
     subst (λ (b : Book). Fit b text) (accepted-inj all) (record {
       short = short;
       names = omega arith;
       kinds = row-each _ _ (λ (x : Entry). Fits (x .label)) bytes 0 0 (λ n. 0) (λ n. omega arith)
-          (λ sum place x end l told. (omega (arith, entry-fits bytes 7 place x end told), omega arith)) _ (omega arith) n₂ 0 s₂ (omega arith) read₂;
-      variants = row-each _ _ (λ (x : Nonterminal). Fits (x .first + x .count)) bytes 16 512 (λ n. n * 16) (λ n. omega arith) (nonterminal-fits bytes) _ (omega arith)
-          n₃ 0 s₃ (omega arith) read₃;
+          (λ sum place x end l told. (omega (arith, entry-fits bytes 7 place x end told), omega arith)) _ (omega arith)
+          n₂ 0 s₂ (omega arith) read₂;
+      variants = row-each _ _ (λ (x : Nonterminal). Fits (x .first + x .count)) bytes 16 512 (λ n. n * 16)
+          (λ n. omega arith) (nonterminal-fits bytes) _ (omega arith) n₃ 0 s₃ (omega arith) read₃;
       levels = λ j. omega (arith, fits₄ j .level);
       few = λ j. omega (arith, fits₄ j .few);
       steps = λ j. omega (arith, within₄ j, steps₅);
       all = omega (arith, steps₅, few₄, most₄);
     }))))))))
 
-pub accepted-fits : (bytes : List ℕ) (b : Book) (text : List ℕ) → checkBook bytes ≡ Outcome.book b → length text ≤ 4096 → Fit b text
+pub accepted-fits : (bytes : List ℕ) (b : Book) (text : List ℕ) → checkBook bytes ≡ Outcome.book b →
+    length text ≤ 4096 → Fit b text
 unfolding checkBook
 accepted-fits bytes b text e short = of (entireBook bytes 0) refl e
   where
     of : (c : Checked Book) → entireBook bytes 0 ≡ c → outcome c ≡ Outcome.book b → Fit b text
     of (refused number place) told e = let z : _≡_ {A = ℕ} 0 1 = cc in absurd (omega arith)
-    of (accepted x end) told e = let same : x ≡ b = cc in subst (λ (x : Book). Fit x text) same (whole-fits bytes x text end short told)
+    of (accepted x end) told e =
+        let same : x ≡ b = cc in subst (λ (x : Book). Fit x text) same (whole-fits bytes x text end short told)

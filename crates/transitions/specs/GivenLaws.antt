@@ -20,21 +20,23 @@ use Rattle.transitions.specs.OutcomeLaws.{failure-done, given-ok}
 use Rattle.transitions.specs.ResumeLaws.{bind-met, bind-ok}
 
 -- ---- Outcomes of the code
-pub given-done : (o : outcomes.Outcome) (f : Failure) (s : State) (cells : List Cell) (T : List Row) → o ≡ doneWith f s →
-    given o cells T ≡ ok (outcome (failureOf f) (rowState (s .units) cells T))
+pub given-done : (o : outcomes.Outcome) (f : Failure) (s : State) (cells : List Cell) (T : List Row) →
+    o ≡ doneWith f s → given o cells T ≡ ok (outcome (failureOf f) (rowState (s .units) cells T))
 given-done o f s cells T e =
     ap (λ o. given o cells T) e
     ∙ given-ok (doneWith f s) cells T refl
     ∙ ap (λ (f : Failure). ok (outcome (failureOf f) (rowState (s .units) cells T))) (failure-done f s)
 
 -- what was done, where the cells are those of a state
-pub ran-with : (text store : List ℕ) (T : List Row) (o : outcomes.Outcome) (s : State) (z : Result Outcome) → o .state .cells ≡ s .cells →
+pub ran-with : (text store : List ℕ) (T : List Row) (o : outcomes.Outcome) (s : State) (z : Result Outcome) →
+    o .state .cells ≡ s .cells →
     given o (cellsOf store (s .cells)) T ≡ z → Held text store (s .cells) → Ran text store T o z
 ran-with text store T o s z e h held =
     record { is = ap (λ c. given o (cellsOf store c) T) e ∙ h; held = subst (λ c. Held text store c) (sym e) held }
 
 -- ---- Cells in the model
-pub makes-met : (f : run.State → Result run.Made) (s : RowState) (a b : ℕ) → f (unmarked s) ≡ met a b → makes f s ≡ met a b
+pub makes-met : (f : run.State → Result run.Made) (s : RowState) (a b : ℕ) →
+    f (unmarked s) ≡ met a b → makes f s ≡ met a b
 unfolding makes
 makes-met f s a b e = bind-met _ e
 

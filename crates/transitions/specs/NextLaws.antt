@@ -34,49 +34,59 @@ use Rattle.transitions.specs.declared.stages.Reached.{Reached}
 use Rattle.transitions.specs.declared.stages.Stage.{Stage}
 use Rattle.transitions.specs.Outcomes.{cellsOf, Spent, MadeBy, withoutFailure, doneWith, failureAt}
 use Rattle.transitions.specs.OutcomeLaws.{given-ok, given-met, failure-done}
-use Rattle.transitions.specs.Steps.{nextRows, choosesRows, doesRows, sideRows, ModelPart, Stages, Reaches, Chosen, Joined}
+use Rattle.transitions.specs.Steps.{nextRows, choosesRows, doesRows, sideRows, ModelPart, Stages, Reaches, Chosen}
+use Rattle.transitions.specs.Steps.{Joined}
 use Rattle.transitions.specs.Steps.{endedBy, reachedWith, thenSteps}
-use Rattle.transitions.specs.ResumeLaws.{stateIn, bind-met, bind-ok, unit-met, unit-ok, makes-ok, makes-met, resumes-met, resumes-on, made-resumes}
+use Rattle.transitions.specs.ResumeLaws.{stateIn, bind-met, bind-ok, unit-met, unit-ok, makes-ok, makes-met}
+use Rattle.transitions.specs.ResumeLaws.{resumes-met, resumes-on, made-resumes}
 use Rattle.transitions.specs.StepsLaws.{stopsPart}
 
 -- ---- What follows a parse
 abbrev nextPart : Book → List ℕ → ℕ → Next → ℕ → Parse ℕ → ModelPart
-nextPart book text j next items q inner n c rest s = nextRows book text c j rest next items q s (stepsRows book text inner n)
+nextPart book text j next items q inner n c rest s =
+    nextRows book text c j rest next items q s (stepsRows book text inner n)
 
-pub plain-next : (book : Book) (text before after : List ℕ) (j items : ℕ) (next : Next) (q : Parse ℕ) (s : State) (m : CellOutcome) (r : Reached) (g : Stage) → next ≡ Next.Steps →
-    MadeBy text before after s m (run.withCell book text j items (q .value)) → r ≡ reachedWith m (q .rest) → g ≡ thenSteps r →
-    Stages book text before s after j g (nextPart book text j next items q)
+pub plain-next : (book : Book) (text before after : List ℕ) (j items : ℕ) (next : Next) (q : Parse ℕ) (s : State)
+    (m : CellOutcome) (r : Reached) (g : Stage) → next ≡ Next.Steps →
+    MadeBy text before after s m (run.withCell book text j items (q .value)) → r ≡ reachedWith m (q .rest) →
+    g ≡ thenSteps r → Stages book text before s after j g (nextPart book text j next items q)
 unfolding nextRows plainNextRows doesRows
 plain-next book text before after j items next q s m r g en w er eg h =
     let v = w h in
     rw (eg, er, en) (record {
       is = λ inner n c rest T.
-          made-resumes book text inner n c j rest Doing.Steps (q .rest) (m .cell) after m (run.withCell book text j items (q .value)) (s .units)
-          (cellsOf before (s .cells)) v T (λ b. stepsRows book text inner n c j rest (q .rest) (b .cell) (b .state)) refl;
+          made-resumes book text inner n c j rest Doing.Steps (q .rest) (m .cell) after m
+          (run.withCell book text j items (q .value)) (s .units) (cellsOf before (s .cells)) v T
+          (λ b. stepsRows book text inner n c j rest (q .rest) (b .cell) (b .state)) refl;
       held = v .held;
     })
 
-pub list-next : (book : Book) (text before after : List ℕ) (j items : ℕ) (next : Next) (l : lists.List) (q : Parse ℕ) (s : State) (g : Stage) → next ≡ Next.Elements l →
-    Stages book text before s after j g (nextPart book text j (Next.Elements l) items q) → Stages book text before s after j g (nextPart book text j next items q)
+pub list-next : (book : Book) (text before after : List ℕ) (j items : ℕ) (next : Next) (l : lists.List) (q : Parse ℕ)
+    (s : State) (g : Stage) → next ≡ Next.Elements l →
+    Stages book text before s after j g (nextPart book text j (Next.Elements l) items q) →
+    Stages book text before s after j g (nextPart book text j next items q)
 list-next book text before after j items next l q s g en w = rw en w
 
 -- an element was added, in the model
-module _ (book : Book) (text : List ℕ) (inner : Option RowRunner) (n c j : ℕ) (rest : List (Todo ℕ)) (l : lists.List) (items : ℕ) (q : Parse ℕ) (s : RowState) (m : RowMade)
+module _ (book : Book) (text : List ℕ) (inner : Option RowRunner) (n c j : ℕ) (rest : List (Todo ℕ)) (l : lists.List)
+    (items : ℕ) (q : Parse ℕ) (s : RowState) (m : RowMade)
     (e : makes (run.make text (Cell.chain (l .values) (q .value))) s ≡ ok m) where
   element-goes : (y : ℕ) → afterElement text (l .comma) (q .rest) ≡ goes y →
       nextPart book text j (Next.Elements l) items q inner n c rest s
-      ≡ choiceRows book text inner n c j (l .comma) (l .nonterminal) (m .cell) (closingIn (l .closing)) rest (stepsRows book text inner n c j rest) y items (m .state)
+      ≡ choiceRows book text inner n c j (l .comma) (l .nonterminal) (m .cell) (closingIn (l .closing)) rest
+      (stepsRows book text inner n c j rest) y items (m .state)
   unfolding nextRows listNextRows stepsRows _>>=_
   element-goes y d = rw (e, listNextRows, _>>=_) (rw d)
 
   element-halts : (y : ℕ) → afterElement text (l .comma) (q .rest) ≡ halts y →
       nextPart book text j (Next.Elements l) items q inner n c rest s
-      ≡ stopsRows book text j (m .cell) (closingIn (l .closing)) (stepsRows book text inner n c j rest) y items (m .state)
+      ≡ stopsRows book text j (m .cell) (closingIn (l .closing))
+      (stepsRows book text inner n c j rest) y items (m .state)
   unfolding nextRows listNextRows stepsRows _>>=_
   element-halts y d = rw (e, listNextRows, _>>=_) (rw d)
 
-module _ (book : Book) (text before middle : List ℕ) (j items : ℕ) (l : lists.List) (q : Parse ℕ) (s : State) (m : CellOutcome)
-    (w : MadeBy text before middle s m (run.make text (Cell.chain (l .values) (q .value)))) where
+module _ (book : Book) (text before middle : List ℕ) (j items : ℕ) (l : lists.List) (q : Parse ℕ) (s : State)
+    (m : CellOutcome) (w : MadeBy text before middle s m (run.make text (Cell.chain (l .values) (q .value)))) where
   pub element-limit : (r : Reached) (g : Stage) → (m .limit ≡ 0 → ⊥) → r ≡ reachedWith m 0 → g ≡ thenSteps r →
       Stages book text before s middle j g (nextPart book text j (Next.Elements l) items q)
   unfolding nextRows listNextRows
@@ -84,8 +94,10 @@ module _ (book : Book) (text before middle : List ℕ) (j items : ℕ) (l : list
       let v = w h in
       rw (eg, er) (record {
         is = λ inner n c rest T.
-            resumes-met book text inner n c j rest Doing.Steps 0 (m .cell) (withoutFailure (m .limit) (m .state)) (cellsOf middle (m .state .cells)) T b
-            ∙ sym (bind-met _ (makes-met text middle m (run.make text (Cell.chain (l .values) (q .value))) (s .units) (cellsOf before (s .cells)) v T b));
+            resumes-met book text inner n c j rest Doing.Steps 0 (m .cell) (withoutFailure (m .limit) (m .state))
+            (cellsOf middle (m .state .cells)) T b
+            ∙ sym (bind-met _ (makes-met text middle m (run.make text (Cell.chain (l .values) (q .value))) (s .units)
+            (cellsOf before (s .cells)) v T b));
         held = v .held;
       })
 
@@ -96,7 +108,8 @@ module _ (book : Book) (text before middle : List ℕ) (j items : ℕ) (l : list
           outcome = o;
           place = y;
           items = items;
-          doing = Doing.Elements (record { comma = l .comma; nonterminal = l .nonterminal; values = m .cell; closing = l .closing });
+          doing = Doing.Elements
+              (record { comma = l .comma; nonterminal = l .nonterminal; values = m .cell; closing = l .closing });
         })
         (nextPart book text j (Next.Elements l) items q)
     unfolding doesRows choosesRows
@@ -105,28 +118,29 @@ module _ (book : Book) (text before middle : List ℕ) (j items : ℕ) (l : list
         rw eo (record {
           is = λ inner n c rest T.
               resumes-on book text inner n c j rest
-              (Doing.Elements (record { comma = l .comma; nonterminal = l .nonterminal; values = m .cell; closing = l .closing })) y items 0 (m .state)
-              (cellsOf middle (m .state .cells)) T refl
-              ∙ sym (element-goes book text inner n c j rest l items q (rowState (s .units) (cellsOf before (s .cells)) T)
-              (rowMade (m .cell) (stateIn (m .state) middle T))
-              (makes-ok text middle m (run.make text (Cell.chain (l .values) (q .value))) (s .units) (cellsOf before (s .cells)) v T b) y
-              (sym ea ∙ ap afterOf k));
+              (Doing.Elements
+              (record { comma = l .comma; nonterminal = l .nonterminal; values = m .cell; closing = l .closing }))
+              y items 0 (m .state) (cellsOf middle (m .state .cells)) T refl
+              ∙ sym (element-goes book text inner n c j rest l items q
+              (rowState (s .units) (cellsOf before (s .cells)) T) (rowMade (m .cell) (stateIn (m .state) middle T))
+              (makes-ok text middle m (run.make text (Cell.chain (l .values) (q .value))) (s .units)
+              (cellsOf before (s .cells)) v T b) y (sym ea ∙ ap afterOf k));
           held = v .held;
         })
 
     pub element-last : (after : List ℕ) (y : ℕ) (r : Reached) (g : Stage) → a ≡ After.Halts y →
-        Reaches book text middle (m .state) after j r (stopsPart book text j (m .cell) (l .closing) y items) → g ≡ thenSteps r →
-        Stages book text before s after j g (nextPart book text j (Next.Elements l) items q)
+        Reaches book text middle (m .state) after j r (stopsPart book text j (m .cell) (l .closing) y items) →
+        g ≡ thenSteps r → Stages book text before s after j g (nextPart book text j (Next.Elements l) items q)
     element-last after y r g k z eg h =
         let v = w h in
         let u = z (v .held) in
         rw eg (record {
           is = λ inner n c rest T.
               u .is inner n c rest T
-              ∙ sym (element-halts book text inner n c j rest l items q (rowState (s .units) (cellsOf before (s .cells)) T)
-              (rowMade (m .cell) (stateIn (m .state) middle T))
-              (makes-ok text middle m (run.make text (Cell.chain (l .values) (q .value))) (s .units) (cellsOf before (s .cells)) v T b) y
-              (sym ea ∙ ap afterOf k));
+              ∙ sym (element-halts book text inner n c j rest l items q
+              (rowState (s .units) (cellsOf before (s .cells)) T) (rowMade (m .cell) (stateIn (m .state) middle T))
+              (makes-ok text middle m (run.make text (Cell.chain (l .values) (q .value))) (s .units)
+              (cellsOf before (s .cells)) v T b) y (sym ea ∙ ap afterOf k));
           held = u .held;
         })
 
@@ -151,13 +165,14 @@ unfolding together
 together-either zero a b h = absurd (h refl)
 together-either (suc i) a b h = refl
 
-pub joined-both : (i : ℕ) (before o r : Outcome) (a b f : Failure) → o .limit ≡ 0 → (i ≡ 0 → ⊥) → a ≡ failureAt before → b ≡ failureAt o →
-    failureOf f ≡ either (failureOf a) (failureOf b) → r ≡ doneWith f (o .state) → Joined i before o r
+pub joined-both : (i : ℕ) (before o r : Outcome) (a b f : Failure) → o .limit ≡ 0 → (i ≡ 0 → ⊥) → a ≡ failureAt before →
+    b ≡ failureAt o → failureOf f ≡ either (failureOf a) (failureOf b) → r ≡ doneWith f (o .state) → Joined i before o r
 joined-both i before o r a b f l h ea eb e q =
     rw q (record {
       is = λ cells T.
           given-ok (doneWith f (o .state)) cells T refl
-          ∙ ap (λ z. ok (outcome z (rowState (o .state .units) cells T))) (ap failureOf (failure-done f (o .state)) ∙ (rw (ea, eb) at e) ∙ sym (together-either i (failureOf (failureAt before)) (failureOf (failureAt o)) h))
+          ∙ ap (λ z. ok (outcome z (rowState (o .state .units) cells T))) (ap failureOf (failure-done f (o .state))
+          ∙ (rw (ea, eb) at e) ∙ sym (together-either i (failureOf (failureAt before)) (failureOf (failureAt o)) h))
           ∙ sym (bind-ok _ (given-ok o cells T l));
       cells = refl;
     })
@@ -166,19 +181,24 @@ joined-both i before o r a b f l h ea eb e q =
 abbrev sidePart : Book → List ℕ → ℕ → Next → ℕ → ℕ → ModelPart
 sidePart book text j next at items inner n c rest s = sideRows book text inner n c j rest next at items s
 
-module _ (book : Book) (text before middle : List ℕ) (j at items : ℕ) (s : State) (m : CellOutcome) (w : MadeBy text before middle s m (run.make text Cell.absent)) where
-  pub absent-limit : (g : Reached) → (m .limit ≡ 0 → ⊥) → g ≡ reachedWith m 0 → Reaches book text before s middle j g (sidePart book text j Next.Steps at items)
+module _ (book : Book) (text before middle : List ℕ) (j at items : ℕ) (s : State) (m : CellOutcome)
+    (w : MadeBy text before middle s m (run.make text Cell.absent)) where
+  pub absent-limit : (g : Reached) → (m .limit ≡ 0 → ⊥) → g ≡ reachedWith m 0 →
+      Reaches book text before s middle j g (sidePart book text j Next.Steps at items)
   unfolding sideRows
   absent-limit g l e h =
       let v = w h in
       rw e (record {
         is = λ inner n c rest T.
-            resumes-met book text inner n c j rest Doing.Steps 0 (m .cell) (withoutFailure (m .limit) (m .state)) (cellsOf middle (m .state .cells)) T l
-            ∙ sym (bind-met _ (makes-met text middle m (run.make text Cell.absent) (s .units) (cellsOf before (s .cells)) v T l));
+            resumes-met book text inner n c j rest Doing.Steps 0 (m .cell) (withoutFailure (m .limit) (m .state))
+            (cellsOf middle (m .state .cells)) T l
+            ∙ sym (bind-met _
+            (makes-met text middle m (run.make text Cell.absent) (s .units) (cellsOf before (s .cells)) v T l));
         held = v .held;
       })
 
-  pub absent-goes : (after : List ℕ) (g : Reached) (r : CellOutcome) → m .limit ≡ 0 → MadeBy text middle after (m .state) r (run.withCell book text j items (m .cell)) →
+  pub absent-goes : (after : List ℕ) (g : Reached) (r : CellOutcome) → m .limit ≡ 0 →
+      MadeBy text middle after (m .state) r (run.withCell book text j items (m .cell)) →
       g ≡ reachedWith r at → Reaches book text before s after j g (sidePart book text j Next.Steps at items)
   unfolding sideRows doesRows
   absent-goes after g r l k e h =
@@ -186,23 +206,30 @@ module _ (book : Book) (text before middle : List ℕ) (j at items : ℕ) (s : S
       let u = k (v .held) in
       rw e (record {
         is = λ inner n c rest T.
-            made-resumes book text inner n c j rest Doing.Steps at (r .cell) after r (run.withCell book text j items (m .cell)) (m .state .units)
-            (cellsOf middle (m .state .cells)) u T (λ b. stepsRows book text inner n c j rest at (b .cell) (b .state)) refl
-            ∙ sym (bind-ok _ (makes-ok text middle m (run.make text Cell.absent) (s .units) (cellsOf before (s .cells)) v T l));
+            made-resumes book text inner n c j rest Doing.Steps at (r .cell) after r
+            (run.withCell book text j items (m .cell)) (m .state .units) (cellsOf middle (m .state .cells)) u T
+            (λ b. stepsRows book text inner n c j rest at (b .cell) (b .state)) refl
+            ∙ sym (bind-ok _
+            (makes-ok text middle m (run.make text Cell.absent) (s .units) (cellsOf before (s .cells)) v T l));
         held = u .held;
       })
 
 module _ (s : State) (spent : Outcome) (p : Spent spent s) (cells : List Cell) (T : List Row) where
-  spend-stops : (spent .limit ≡ 0 → ⊥) → spendRows (rowState (s .units) cells T) ≡ met (spent .limit) (spent .state .units)
-  spend-stops l = unit-met (spendRows (rowState (s .units) cells T)) (spent .limit) (spent .state .units) (sym (given-met spent cells T l) ∙ p .is cells T)
+  spend-stops : (spent .limit ≡ 0 → ⊥) →
+      spendRows (rowState (s .units) cells T) ≡ met (spent .limit) (spent .state .units)
+  spend-stops l =
+      unit-met (spendRows (rowState (s .units) cells T)) (spent .limit) (spent .state .units)
+      (sym (given-met spent cells T l) ∙ p .is cells T)
 
   spend-goes : spent .limit ≡ 0 → spendRows (rowState (s .units) cells T) ≡ ok (rowState (spent .state .units) cells T)
   spend-goes l =
-      unit-ok (spendRows (rowState (s .units) cells T)) (failureOf (failureAt spent)) (rowState (spent .state .units) cells T)
-      (sym (given-ok spent cells T l) ∙ p .is cells T)
+      unit-ok (spendRows (rowState (s .units) cells T)) (failureOf (failureAt spent))
+      (rowState (spent .state .units) cells T) (sym (given-ok spent cells T l) ∙ p .is cells T)
 
-module _ (book : Book) (text before : List ℕ) (j at items : ℕ) (l : lists.List) (s : State) (spent : Outcome) (p : Spent spent s) where
-  pub side-limit : (g : Reached) → (spent .limit ≡ 0 → ⊥) → g ≡ endedBy spent → Reaches book text before s before j g (sidePart book text j (Next.Elements l) at items)
+module _ (book : Book) (text before : List ℕ) (j at items : ℕ) (l : lists.List) (s : State) (spent : Outcome)
+    (p : Spent spent s) where
+  pub side-limit : (g : Reached) → (spent .limit ≡ 0 → ⊥) → g ≡ endedBy spent →
+      Reaches book text before s before j g (sidePart book text j (Next.Elements l) at items)
   unfolding sideRows
   side-limit g b e h =
       rw e (record {
@@ -221,26 +248,31 @@ module _ (book : Book) (text before : List ℕ) (j at items : ℕ) (l : lists.Li
       record {
         is = λ inner n c rest T.
             u .is inner n c rest T
-            ∙ ap (λ k. stopsRows book text j (l .values) (closingIn (l .closing)) (stepsRows book text inner n c j rest) at items (rowState (spent .state .units) k T))
-            (ap (λ k. cellsOf before k) (p .cells))
+            ∙ ap (λ k. stopsRows book text j (l .values) (closingIn (l .closing)) (stepsRows book text inner n c j rest)
+            at items (rowState (spent .state .units) k T)) (ap (λ k. cellsOf before k) (p .cells))
             ∙ sym (bind-ok _ (spend-goes s spent p (cellsOf before (s .cells)) T b));
         held = u .held;
       }
 
-pub first-next : (book : Book) (text before after : List ℕ) (j at items : ℕ) (next other : Next) (s : State) (g : Reached) → next ≡ other →
-    Reaches book text before s after j g (sidePart book text j other at items) → Reaches book text before s after j g (sidePart book text j next at items)
+pub first-next :
+    (book : Book) (text before after : List ℕ) (j at items : ℕ) (next other : Next) (s : State) (g : Reached) →
+    next ≡ other → Reaches book text before s after j g (sidePart book text j other at items) →
+    Reaches book text before s after j g (sidePart book text j next at items)
 first-next book text before after j at items next other s g e w = rw e w
 
 -- both sides
-pub both-limit : (text : List ℕ) (T : List Row) (c at : ℕ) (a b : Outcome) → (b .limit ≡ 0 → ⊥) → Chosen text T c at a b b
+pub both-limit : (text : List ℕ) (T : List Row) (c at : ℕ) (a b : Outcome) →
+    (b .limit ≡ 0 → ⊥) → Chosen text T c at a b b
 both-limit text T c at a b l =
     record {
       is = λ book inner n cells. given-met b cells T l ∙ sym (bind-met _ (given-met b cells T l));
       cells = refl;
     }
 
-pub both-chosen : (text : List ℕ) (T : List Row) (c at N x : ℕ) (a b r : Outcome) (first second f : Failure) → b .limit ≡ 0 → N ≡ rowOf T c .nonterminal →
-    x ≡ skipFrom text at → first ≡ failureAt a → second ≡ failureAt b → failureOf f ≡ chosenFailure x N (failureOf first) (failureOf second) → r ≡ doneWith f (b .state) → Chosen text T c at a b r
+pub both-chosen : (text : List ℕ) (T : List Row) (c at N x : ℕ) (a b r : Outcome) (first second f : Failure) →
+    b .limit ≡ 0 → N ≡ rowOf T c .nonterminal → x ≡ skipFrom text at → first ≡ failureAt a → second ≡ failureAt b →
+    failureOf f ≡ chosenFailure x N (failureOf first) (failureOf second) →
+    r ≡ doneWith f (b .state) → Chosen text T c at a b r
 both-chosen text T c at N x a b r first second f l eN ex ea eb e q =
     rw q (record {
       is = λ book inner n cells.

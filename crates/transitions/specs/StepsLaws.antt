@@ -31,7 +31,8 @@ use Rattle.semantics.specs.Run as run
 use Rattle.semantics.specs.Run.{met, ok, _>>=_, closingOf}
 use Rattle.run_model.specs.Rows.{Row}
 use Rattle.run_model.specs.Model as model
-use Rattle.run_model.specs.Model.{RowState, rowState, outcome, RowRunner, RowGo, RowMade, rowMade, makes, valueCell, addRun, completeRows}
+use Rattle.run_model.specs.Model.{RowState, rowState, outcome, RowRunner, RowGo, RowMade, rowMade, makes, valueCell}
+use Rattle.run_model.specs.Model.{addRun, completeRows}
 use Rattle.run_model.specs.Model.{stopsRows, choiceRows, listingRows, stepUnitRows, stepsRows}
 use Rattle.sets.specs.Sets.{parse}
 use Rattle.calls.specs.Table.{RunAdded}
@@ -51,22 +52,26 @@ use Rattle.transitions.specs.declared.stages.Doing.{Doing}
 use Rattle.transitions.specs.declared.stages.Reached.{Reached}
 use Rattle.transitions.specs.declared.stages.Stage.{Stage}
 use Rattle.transitions.specs.Fit.{Fit}
-use Rattle.transitions.specs.Outcomes.{cellsOf, Held, bare, given, Runs, Spent, MadeIn, MadeBy, withoutFailure, doneWith, failureAt}
+use Rattle.transitions.specs.Outcomes.{cellsOf, Held, bare, given, Runs, Spent, MadeIn, MadeBy, withoutFailure}
+use Rattle.transitions.specs.Outcomes.{doneWith, failureAt}
 use Rattle.transitions.specs.OutcomeLaws.{given-ok, given-met}
-use Rattle.transitions.specs.Steps.{nextRows, descendsRows, choosesRows, doesRows, unopenedRows, tokenRows, ModelPart, Stages, Reaches, StepSpent}
+use Rattle.transitions.specs.Steps.{nextRows, descendsRows, choosesRows, doesRows, unopenedRows, tokenRows}
+use Rattle.transitions.specs.Steps.{ModelPart, Stages, Reaches, StepSpent}
 use Rattle.transitions.specs.Steps.{endedBy, reachedWith, thenSteps, thenDoes}
-use Rattle.transitions.specs.ResumeLaws.{stateIn, bind-met, bind-ok, unit-met, unit-ok, makes-ok, makes-met, resumes-met, resumes-on, resumes-failed, made-resumes}
+use Rattle.transitions.specs.ResumeLaws.{stateIn, bind-met, bind-ok, unit-met, unit-ok, makes-ok, makes-met}
+use Rattle.transitions.specs.ResumeLaws.{resumes-met, resumes-on, resumes-failed, made-resumes}
 
 -- ---- The end of a variant
-pub level-fits : (book : Book) (text : List ℕ) (j : ℕ) (w : Variant) → w ≡ nthVariant book j → Fit book text → w .level < 4294967296
+pub level-fits : (book : Book) (text : List ℕ) (j : ℕ) (w : Variant) → w ≡ nthVariant book j →
+    Fit book text → w .level < 4294967296
 level-fits book text j w e fit = rw e (fit .levels j)
 
 pub parse-of-variant : (book : Book) (text : List ℕ) (j x v : ℕ) (w : Variant) (p : Parse ℕ) → w ≡ nthVariant book j →
     p ≡ parse x (w .level) (w .associativity) v → p ≡ model.variantParse book text j x v
 parse-of-variant book text j x v w p e q = rw e at q
 
-module _ (book : Book) (text before after : List ℕ) (c j x items : ℕ) (s : State) (m : CellOutcome) (w : MadeBy text before after s m (valueCell book text j items))
-    (T : List Row) where
+module _ (book : Book) (text before after : List ℕ) (c j x items : ℕ) (s : State) (m : CellOutcome)
+    (w : MadeBy text before after s m (valueCell book text j items)) (T : List Row) where
   pub finish-limit : (r : Outcome) → (m .limit ≡ 0 → ⊥) → r ≡ withoutFailure (m .limit) (m .state) →
       Runs text before (s .cells) after T r (λ cells. completeRows book text c j x items (rowState (s .units) cells T))
   unfolding completeRows
@@ -74,11 +79,13 @@ module _ (book : Book) (text before after : List ℕ) (c j x items : ℕ) (s : S
       let v = w h in
       rw e (record {
         is = given-met (withoutFailure (m .limit) (m .state)) (cellsOf after (m .state .cells)) T l
-            ∙ sym (bind-met _ (makes-met text after m (valueCell book text j items) (s .units) (cellsOf before (s .cells)) v T l));
+            ∙ sym (bind-met _
+            (makes-met text after m (valueCell book text j items) (s .units) (cellsOf before (s .cells)) v T l));
         held = v .held;
       })
 
-  module _ (U : List Row) (b : Bool) (p : Parse ℕ) (q : p ≡ model.variantParse book text j x (m .cell)) (a : RunAdded b T U c p) (l : m .limit ≡ 0) where
+  module _ (U : List Row) (b : Bool) (p : Parse ℕ) (q : p ≡ model.variantParse book text j x (m .cell))
+      (a : RunAdded b T U c p) (l : m .limit ≡ 0) where
     completed : (v : MadeIn text after m (valueCell book text j items (bare (s .units) (cellsOf before (s .cells))))) →
         completeRows book text c j x items (rowState (s .units) (cellsOf before (s .cells)) T)
         ≡ cond b (ok (outcome none (stateIn (m .state) after U))) (met 22 (m .state .units))
@@ -89,65 +96,80 @@ module _ (book : Book) (text before after : List ℕ) (c j x items : ℕ) (s : S
         ∙ run-added-model b T U c p a book text (m .state .units) (cellsOf after (m .state .cells))
 
     pub finish-added : (r : Outcome) → b ≡ true → r ≡ doneWith Failure.None (m .state) →
-        Runs text before (s .cells) after U r (λ cells. completeRows book text c j x items (rowState (s .units) cells T))
+        Runs text before (s .cells) after U r
+        (λ cells. completeRows book text c j x items (rowState (s .units) cells T))
     finish-added r y e h =
         let v = w h in
         rw e (record {
-          is = given-ok (doneWith Failure.None (m .state)) (cellsOf after (m .state .cells)) U refl ∙ sym (rw y at (completed v));
+          is = given-ok (doneWith Failure.None (m .state)) (cellsOf after (m .state .cells)) U refl
+              ∙ sym (rw y at (completed v));
           held = v .held;
         })
 
     pub finish-full : (r : Outcome) → b ≡ false → r ≡ withoutFailure 22 (m .state) →
-        Runs text before (s .cells) after U r (λ cells. completeRows book text c j x items (rowState (s .units) cells T))
+        Runs text before (s .cells) after U r
+        (λ cells. completeRows book text c j x items (rowState (s .units) cells T))
     finish-full r y e h =
         let v = w h in
         rw e (record {
-          is = given-met (withoutFailure 22 (m .state)) (cellsOf after (m .state .cells)) U (λ z. omega (arith, z)) ∙ sym (rw y at (completed v));
+          is = given-met (withoutFailure 22 (m .state)) (cellsOf after (m .state .cells)) U (λ z. omega (arith, z))
+              ∙ sym (rw y at (completed v));
           held = v .held;
         })
 
 -- ---- A list stops
-module _ (book : Book) (text : List ℕ) (j values : ℕ) (close : Option ℕ) (go : RowGo) (x items : ℕ) (s : RowState) (l : RowMade)
-    (e : makes (run.make text (Cell.list values)) s ≡ ok l) where
+module _ (book : Book) (text : List ℕ) (j values : ℕ) (close : Option ℕ) (go : RowGo) (x items : ℕ) (s : RowState)
+    (l : RowMade) (e : makes (run.make text (Cell.list values)) s ≡ ok l) where
   stops-unclosed : closed text close x ≡ none →
-      stopsRows book text j values close go x items s ≡ ok (outcome (some (error (skipFrom text x) 1 (closingOf close))) (l .state))
+      stopsRows book text j values close go x items s
+      ≡ ok (outcome (some (error (skipFrom text x) 1 (closingOf close))) (l .state))
   unfolding stopsRows _>>=_
   stops-unclosed n = rw (e, stopsRows, _>>=_) (rw n)
 
   stops-closed : (y : ℕ) → closed text close x ≡ some y →
-      stopsRows book text j values close go x items s ≡ (makes (run.withCell book text j items (l .cell)) (l .state) >>= (λ m. go y (m .cell) (m .state)))
+      stopsRows book text j values close go x items s
+      ≡ (makes (run.withCell book text j items (l .cell)) (l .state) >>= (λ m. go y (m .cell) (m .state)))
   unfolding stopsRows _>>=_
   stops-closed y n = rw (e, stopsRows, _>>=_) (rw n)
 
 -- the list's part of the model
 abbrev pub stopsPart : Book → List ℕ → ℕ → ℕ → Closing → ℕ → ℕ → ModelPart
-stopsPart book text j values closing at items inner n c rest s = stopsRows book text j values (closingIn closing) (stepsRows book text inner n c j rest) at items s
+stopsPart book text j values closing at items inner n c rest s =
+    stopsRows book text j values (closingIn closing) (stepsRows book text inner n c j rest) at items s
 
-module _ (book : Book) (text before middle : List ℕ) (j values : ℕ) (closing : Closing) (at items : ℕ) (s : State) (m : CellOutcome)
-    (w : MadeBy text before middle s m (run.make text (Cell.list values))) where
-  pub stop-limit : (g : Reached) → (m .limit ≡ 0 → ⊥) → g ≡ reachedWith m 0 → Reaches book text before s middle j g (stopsPart book text j values closing at items)
+module _ (book : Book) (text before middle : List ℕ) (j values : ℕ) (closing : Closing) (at items : ℕ) (s : State)
+    (m : CellOutcome) (w : MadeBy text before middle s m (run.make text (Cell.list values))) where
+  pub stop-limit : (g : Reached) → (m .limit ≡ 0 → ⊥) → g ≡ reachedWith m 0 →
+      Reaches book text before s middle j g (stopsPart book text j values closing at items)
   unfolding stopsRows
   stop-limit g l e h =
       let v = w h in
       rw e (record {
         is = λ inner n c rest T.
-            resumes-met book text inner n c j rest Doing.Steps 0 (m .cell) (withoutFailure (m .limit) (m .state)) (cellsOf middle (m .state .cells)) T l
-            ∙ sym (bind-met _ (makes-met text middle m (run.make text (Cell.list values)) (s .units) (cellsOf before (s .cells)) v T l));
+            resumes-met book text inner n c j rest Doing.Steps 0 (m .cell) (withoutFailure (m .limit) (m .state))
+            (cellsOf middle (m .state .cells)) T l
+            ∙ sym (bind-met _
+            (makes-met text middle m (run.make text (Cell.list values)) (s .units) (cellsOf before (s .cells)) v T l));
         held = v .held;
       })
 
   module _ (l : m .limit ≡ 0) (end : End) (ee : endOf end ≡ closed text (closingIn closing) at) where
-    pub stop-unclosed : (g : Reached) (e : code.Error) (o : Outcome) → end ≡ End.Nothing → errorOf e ≡ error (skipFrom text at) 1 (closingOf (closingIn closing)) →
-        o ≡ doneWith (Failure.At e) (m .state) → g ≡ endedBy o → Reaches book text before s middle j g (stopsPart book text j values closing at items)
+    pub stop-unclosed : (g : Reached) (e : code.Error) (o : Outcome) → end ≡ End.Nothing →
+        errorOf e ≡ error (skipFrom text at) 1 (closingOf (closingIn closing)) →
+        o ≡ doneWith (Failure.At e) (m .state) → g ≡ endedBy o →
+        Reaches book text before s middle j g (stopsPart book text j values closing at items)
     stop-unclosed g e o n d eo q h =
         let v = w h in
         rw (q, eo) (record {
           is = λ inner n₁ c rest T.
-              resumes-failed book text inner n₁ c j rest Doing.Steps 0 0 e (m .state) (cellsOf middle (m .state .cells)) T
+              resumes-failed book text inner n₁ c j rest Doing.Steps 0 0 e (m .state)
+              (cellsOf middle (m .state .cells)) T
               ∙ ap (λ z. ok (outcome (some z) (stateIn (m .state) middle T))) d
-              ∙ sym (stops-unclosed book text j values (closingIn closing) (stepsRows book text inner n₁ c j rest) at items (rowState (s .units) (cellsOf before (s .cells)) T)
+              ∙ sym (stops-unclosed book text j values (closingIn closing) (stepsRows book text inner n₁ c j rest)
+              at items (rowState (s .units) (cellsOf before (s .cells)) T)
               (rowMade (m .cell) (stateIn (m .state) middle T))
-              (makes-ok text middle m (run.make text (Cell.list values)) (s .units) (cellsOf before (s .cells)) v T l) (sym ee ∙ ap endOf n));
+              (makes-ok text middle m (run.make text (Cell.list values)) (s .units) (cellsOf before (s .cells)) v T l)
+              (sym ee ∙ ap endOf n));
           held = v .held;
         })
 
@@ -160,11 +182,14 @@ module _ (book : Book) (text before middle : List ℕ) (j values : ℕ) (closing
         let u = k (v .held) in
         rw q (record {
           is = λ inner n₁ c rest T.
-              made-resumes book text inner n₁ c j rest Doing.Steps next (r .cell) after r (run.withCell book text j items (m .cell)) (m .state .units)
-              (cellsOf middle (m .state .cells)) u T (λ b. stepsRows book text inner n₁ c j rest next (b .cell) (b .state)) refl
-              ∙ sym (stops-closed book text j values (closingIn closing) (stepsRows book text inner n₁ c j rest) at items (rowState (s .units) (cellsOf before (s .cells)) T)
+              made-resumes book text inner n₁ c j rest Doing.Steps next (r .cell) after r
+              (run.withCell book text j items (m .cell)) (m .state .units) (cellsOf middle (m .state .cells)) u T
+              (λ b. stepsRows book text inner n₁ c j rest next (b .cell) (b .state)) refl
+              ∙ sym (stops-closed book text j values (closingIn closing) (stepsRows book text inner n₁ c j rest)
+              at items (rowState (s .units) (cellsOf before (s .cells)) T)
               (rowMade (m .cell) (stateIn (m .state) middle T))
-              (makes-ok text middle m (run.make text (Cell.list values)) (s .units) (cellsOf before (s .cells)) v T l) next (sym ee ∙ ap endOf n));
+              (makes-ok text middle m (run.make text (Cell.list values)) (s .units) (cellsOf before (s .cells)) v T l)
+              next (sym ee ∙ ap endOf n));
           held = u .held;
         })
 
@@ -188,7 +213,8 @@ module _ (step : Step) (s : State) (r : Outcome) (kind : ℕ) (ek : kind ≡ ste
   other-kind h k =
       by-test (between 10 11 kind)
       (λ t. by-test (leb 10 kind)
-      (λ a. by-test (leb kind 11) (λ b. absurd (omega (arith, leb-true 10 kind a, leb-true kind 11 b, h, k))) (λ b. rw (a, b)))
+      (λ a. by-test (leb kind 11) (λ b. absurd (omega (arith, leb-true 10 kind a, leb-true kind 11 b, h, k))) (λ b.
+      rw (a, b)))
       (λ a. rw a))
       (λ t. t)
 
@@ -200,20 +226,23 @@ module _ (step : Step) (s : State) (r : Outcome) (kind : ℕ) (ek : kind ≡ ste
         cells = p .cells;
       }
 
-module _ (r : Outcome) (step : Step) (s : State) (p : StepSpent r step s) (book : Book) (text : List ℕ) (inner : Option RowRunner) (n : ℕ) (cells : List Cell)
-    (T : List Row) where
-  unit-stops : (r .limit ≡ 0 → ⊥) → stepUnitRows book text inner n step (rowState (s .units) cells T) ≡ met (r .limit) (r .state .units)
+module _ (r : Outcome) (step : Step) (s : State) (p : StepSpent r step s) (book : Book) (text : List ℕ)
+    (inner : Option RowRunner) (n : ℕ) (cells : List Cell) (T : List Row) where
+  unit-stops : (r .limit ≡ 0 → ⊥) →
+      stepUnitRows book text inner n step (rowState (s .units) cells T) ≡ met (r .limit) (r .state .units)
   unit-stops l =
       unit-met (stepUnitRows book text inner n step (rowState (s .units) cells T)) (r .limit) (r .state .units)
       (sym (given-met r cells T l) ∙ p .is book text inner n cells T)
 
-  unit-goes : r .limit ≡ 0 → stepUnitRows book text inner n step (rowState (s .units) cells T) ≡ ok (rowState (r .state .units) cells T)
+  unit-goes : r .limit ≡ 0 →
+      stepUnitRows book text inner n step (rowState (s .units) cells T) ≡ ok (rowState (r .state .units) cells T)
   unit-goes l =
-      unit-ok (stepUnitRows book text inner n step (rowState (s .units) cells T)) (failureOf (failureAt r)) (rowState (r .state .units) cells T)
-      (sym (given-ok r cells T l) ∙ p .is book text inner n cells T)
+      unit-ok (stepUnitRows book text inner n step (rowState (s .units) cells T)) (failureOf (failureAt r))
+      (rowState (r .state .units) cells T) (sym (given-ok r cells T l) ∙ p .is book text inner n cells T)
 
 -- ---- A list begins, or has no opening
-module _ (book : Book) (text before after : List ℕ) (j : ℕ) (s : State) (m : CellOutcome) (w : MadeBy text before after s m (run.make text Cell.empty)) (place items : ℕ) where
+module _ (book : Book) (text before after : List ℕ) (j : ℕ) (s : State) (m : CellOutcome)
+    (w : MadeBy text before after s m (run.make text Cell.empty)) (place items : ℕ) where
   pub list-begun : (comma : Bool) (M : ℕ) (closing : Closing) (o : Outcome) → o ≡ withoutFailure (m .limit) (m .state) →
       Stages book text before s after j
       (record {
@@ -222,16 +251,19 @@ module _ (book : Book) (text before after : List ℕ) (j : ℕ) (s : State) (m :
         items = items;
         doing = Doing.Elements (record { comma = comma; nonterminal = M; values = m .cell; closing = closing });
       })
-      (λ inner n c rest s. listingRows book text inner n c j comma M (closingIn closing) rest (stepsRows book text inner n c j rest) place items s)
+      (λ inner n c rest s.
+      listingRows book text inner n c j comma M (closingIn closing) rest
+      (stepsRows book text inner n c j rest) place items s)
   unfolding listingRows doesRows choosesRows
   list-begun comma M closing o e h =
       let v = w h in
       rw e (record {
         is = λ inner n c rest T.
             made-resumes book text inner n c j rest
-            (Doing.Elements (record { comma = comma; nonterminal = M; values = m .cell; closing = closing })) place items after m (run.make text Cell.empty)
-            (s .units) (cellsOf before (s .cells)) v T
-            (λ b. choiceRows book text inner n c j comma M (b .cell) (closingIn closing) rest (stepsRows book text inner n c j rest) place items (b .state)) refl;
+            (Doing.Elements (record { comma = comma; nonterminal = M; values = m .cell; closing = closing })) place
+            items after m (run.make text Cell.empty) (s .units) (cellsOf before (s .cells)) v T
+            (λ b. choiceRows book text inner n c j comma M (b .cell) (closingIn closing) rest
+            (stepsRows book text inner n c j rest) place items (b .state)) refl;
         held = v .held;
       })
 
@@ -242,8 +274,10 @@ module _ (book : Book) (text before after : List ℕ) (j : ℕ) (s : State) (m :
       let v = w h in
       rw e (record {
         is = λ inner n c rest T.
-            resumes-met book text inner n c j rest Doing.Steps 0 (m .cell) (withoutFailure (m .limit) (m .state)) (cellsOf after (m .state .cells)) T l
-            ∙ sym (bind-met _ (makes-met text after m (run.make text Cell.empty) (s .units) (cellsOf before (s .cells)) v T l));
+            resumes-met book text inner n c j rest Doing.Steps 0 (m .cell) (withoutFailure (m .limit) (m .state))
+            (cellsOf after (m .state .cells)) T l
+            ∙ sym (bind-met _
+            (makes-met text after m (run.make text Cell.empty) (s .units) (cellsOf before (s .cells)) v T l));
         held = v .held;
       })
 
@@ -256,12 +290,14 @@ module _ (book : Book) (text before after : List ℕ) (j : ℕ) (s : State) (m :
       let u = k (v .held) in
       record {
         is = λ inner n c rest T.
-            u .is inner n c rest T ∙ sym (bind-ok _ (makes-ok text after m (run.make text Cell.empty) (s .units) (cellsOf before (s .cells)) v T l));
+            u .is inner n c rest T ∙ sym (bind-ok _
+            (makes-ok text after m (run.make text Cell.empty) (s .units) (cellsOf before (s .cells)) v T l));
         held = u .held;
       }
 
 -- ---- A token was read
-pub token-taken : (book : Book) (text before after : List ℕ) (j items : ℕ) (o : Option steps.Item) (next : ℕ) (s : State) (m : CellOutcome) (g : Reached) →
+pub token-taken : (book : Book) (text before after : List ℕ) (j items : ℕ) (o : Option steps.Item) (next : ℕ)
+    (s : State) (m : CellOutcome) (g : Reached) →
     MadeBy text before after s m (run.withToken book text j items o) → g ≡ reachedWith m next →
     Reaches book text before s after j g (λ inner n c rest s. tokenRows book text inner n c j rest o next items s)
 unfolding tokenRows doesRows
@@ -269,7 +305,8 @@ token-taken book text before after j items o next s m g w e h =
     let v = w h in
     rw e (record {
       is = λ inner n c rest T.
-          made-resumes book text inner n c j rest Doing.Steps next (m .cell) after m (run.withToken book text j items o) (s .units) (cellsOf before (s .cells)) v T
+          made-resumes book text inner n c j rest Doing.Steps next (m .cell) after m (run.withToken book text j items o)
+          (s .units) (cellsOf before (s .cells)) v T
           (λ b. stepsRows book text inner n c j rest next (b .cell) (b .state)) refl;
       held = v .held;
     })
@@ -279,10 +316,11 @@ abbrev stepPart : Book → List ℕ → ℕ → Step → ℕ → ℕ → ModelPa
 stepPart book text j step x items inner n c rest s = stepsRows book text inner n c j (taking step ∷ rest) x items s
 
 -- what the step took, in the model, on a state whose unit is spent
-module _ (book : Book) (text : List ℕ) (inner : Option RowRunner) (n c j : ℕ) (rest : List (Todo ℕ)) (step : Step) (x items : ℕ) (s t : RowState)
-    (u : stepUnitRows book text inner n step s ≡ ok t) where
+module _ (book : Book) (text : List ℕ) (inner : Option RowRunner) (n c j : ℕ) (rest : List (Todo ℕ)) (step : Step)
+    (x items : ℕ) (s t : RowState) (u : stepUnitRows book text inner n step s ≡ ok t) where
   step-nothing : stepAt book text step x ≡ steps.Taken.nothing →
-      stepPart book text j step x items inner n c rest s ≡ ok (outcome (some (stepError book text step (skipFrom text x))) t)
+      stepPart book text j step x items inner n c rest s
+      ≡ ok (outcome (some (stepError book text step (skipFrom text x))) t)
   unfolding stepsRows _>>=_
   step-nothing e = rw (u, stepsRows, _>>=_) (rw e)
 
@@ -297,12 +335,13 @@ module _ (book : Book) (text : List ℕ) (inner : Option RowRunner) (n c j : ℕ
   step-child M e = rw (u, stepsRows, _>>=_) (rw e)
 
   step-optional : (M : ℕ) → stepAt book text step x ≡ steps.Taken.optional M →
-      stepPart book text j step x items inner n c rest s ≡ doesRows book text inner n c j rest (Doing.Optional M) x items t
+      stepPart book text j step x items inner n c rest s
+      ≡ doesRows book text inner n c j rest (Doing.Optional M) x items t
   unfolding stepsRows doesRows choosesRows _>>=_
   step-optional M e = rw (u, stepsRows, _>>=_) (rw e)
 
-  step-list : (comma : Bool) (M : ℕ) (close : Option ℕ) (y : ℕ) → stepAt book text step x ≡ steps.Taken.list comma M close y →
-      stepPart book text j step x items inner n c rest s
+  step-list : (comma : Bool) (M : ℕ) (close : Option ℕ) (y : ℕ) →
+      stepAt book text step x ≡ steps.Taken.list comma M close y → stepPart book text j step x items inner n c rest s
       ≡ listingRows book text inner n c j comma M close rest (stepsRows book text inner n c j rest) y items t
   unfolding stepsRows _>>=_
   step-list comma M close y e = rw (u, stepsRows, _>>=_) (rw e)
@@ -312,7 +351,8 @@ module _ (book : Book) (text : List ℕ) (inner : Option RowRunner) (n c j : ℕ
   unfolding stepsRows unopenedRows _>>=_
   step-unopened y e = rw (u, stepsRows, _>>=_) (rw e)
 
-module _ (book : Book) (text store : List ℕ) (j : ℕ) (s : State) (x items : ℕ) (step : Step) (spent : Outcome) (p : StepSpent spent step s) where
+module _ (book : Book) (text store : List ℕ) (j : ℕ) (s : State) (x items : ℕ) (step : Step) (spent : Outcome)
+    (p : StepSpent spent step s) where
   same-cells : cellsOf store (spent .state .cells) ≡ cellsOf store (s .cells)
   same-cells = ap (λ k. cellsOf store k) (p .cells)
 
@@ -333,32 +373,38 @@ module _ (book : Book) (text store : List ℕ) (j : ℕ) (s : State) (x items : 
   module _ (l : spent .limit ≡ 0) (t : Taken) (et : takenOf t ≡ stepAt book text step x) where
     -- the state of the model after the unit
     spends : (inner : Option RowRunner) (n : ℕ) (T : List Row) →
-        stepUnitRows book text inner n step (rowState (s .units) (cellsOf store (s .cells)) T) ≡ ok (stateIn (spent .state) store T)
+        stepUnitRows book text inner n step (rowState (s .units) (cellsOf store (s .cells)) T)
+        ≡ ok (stateIn (spent .state) store T)
     spends inner n T =
         unit-goes spent step s p book text inner n (cellsOf store (s .cells)) T l
         ∙ ap (λ k. ok (rowState (spent .state .units) k T)) (sym same-cells)
 
-    pub step-fails : (e : code.Error) (o : Outcome) (r : Reached) (g : Stage) → t ≡ Taken.Nothing → errorOf e ≡ stepError book text step (skipFrom text x) →
-        o ≡ doneWith (Failure.At e) (spent .state) → r ≡ endedBy o → g ≡ thenSteps r → Stages book text store s store j g (stepPart book text j step x items)
+    pub step-fails : (e : code.Error) (o : Outcome) (r : Reached) (g : Stage) → t ≡ Taken.Nothing →
+        errorOf e ≡ stepError book text step (skipFrom text x) → o ≡ doneWith (Failure.At e) (spent .state) →
+        r ≡ endedBy o → g ≡ thenSteps r → Stages book text store s store j g (stepPart book text j step x items)
     step-fails e o r g k d eo er eg h =
         rw (eg, er, eo) (record {
           is = λ inner n c rest T.
-              resumes-failed book text inner n c j rest Doing.Steps 0 0 e (spent .state) (cellsOf store (spent .state .cells)) T
+              resumes-failed book text inner n c j rest Doing.Steps 0 0 e (spent .state)
+              (cellsOf store (spent .state .cells)) T
               ∙ ap (λ z. ok (outcome (some z) (stateIn (spent .state) store T))) d
-              ∙ sym (step-nothing book text inner n c j rest step x items (rowState (s .units) (cellsOf store (s .cells)) T) (stateIn (spent .state) store T)
+              ∙ sym (step-nothing book text inner n c j rest step x items
+              (rowState (s .units) (cellsOf store (s .cells)) T) (stateIn (spent .state) store T)
               (spends inner n T) (sym et ∙ ap takenOf k));
           held = spent-held h;
         })
 
     pub step-reads : (after : List ℕ) (next : ℕ) (item : Item) (r : Reached) (g : Stage) → t ≡ Taken.Token next item →
-        Reaches book text store (spent .state) after j r (λ inner n c rest s. tokenRows book text inner n c j rest (itemOf item) next items s) →
+        Reaches book text store (spent .state) after j r
+        (λ inner n c rest s. tokenRows book text inner n c j rest (itemOf item) next items s) →
         g ≡ thenSteps r → Stages book text store s after j g (stepPart book text j step x items)
     step-reads after next item r g k w eg h =
         let u = w (spent-held h) in
         rw eg (record {
           is = λ inner n c rest T.
               u .is inner n c rest T
-              ∙ sym (step-token book text inner n c j rest step x items (rowState (s .units) (cellsOf store (s .cells)) T) (stateIn (spent .state) store T)
+              ∙ sym (step-token book text inner n c j rest step x items
+              (rowState (s .units) (cellsOf store (s .cells)) T) (stateIn (spent .state) store T)
               (spends inner n T) next (itemOf item) (sym et ∙ ap takenOf k));
           held = u .held;
         })
@@ -368,51 +414,61 @@ module _ (book : Book) (text store : List ℕ) (j : ℕ) (s : State) (x items : 
     step-descends M g k eg h =
         rw eg (record {
           is = λ inner n c rest T.
-              resumes-on book text inner n c j rest (Doing.Child M) x items 0 (spent .state) (cellsOf store (spent .state .cells)) T refl
-              ∙ sym (step-child book text inner n c j rest step x items (rowState (s .units) (cellsOf store (s .cells)) T) (stateIn (spent .state) store T)
-              (spends inner n T) M (sym et ∙ ap takenOf k));
+              resumes-on book text inner n c j rest (Doing.Child M) x items 0 (spent .state)
+              (cellsOf store (spent .state .cells)) T refl
+              ∙ sym (step-child book text inner n c j rest step x items (rowState (s .units) (cellsOf store (s .cells))
+              T) (stateIn (spent .state) store T) (spends inner n T) M (sym et ∙ ap takenOf k));
           held = spent-held h;
         })
 
-    pub step-chooses : (M : ℕ) (g : Stage) → t ≡ Taken.Optional M → g ≡ thenDoes x items (Doing.Optional M) (spent .state) →
+    pub step-chooses : (M : ℕ) (g : Stage) → t ≡ Taken.Optional M →
+        g ≡ thenDoes x items (Doing.Optional M) (spent .state) →
         Stages book text store s store j g (stepPart book text j step x items)
     step-chooses M g k eg h =
         rw eg (record {
           is = λ inner n c rest T.
-              resumes-on book text inner n c j rest (Doing.Optional M) x items 0 (spent .state) (cellsOf store (spent .state .cells)) T refl
-              ∙ sym (step-optional book text inner n c j rest step x items (rowState (s .units) (cellsOf store (s .cells)) T) (stateIn (spent .state) store T)
+              resumes-on book text inner n c j rest (Doing.Optional M) x items 0 (spent .state)
+              (cellsOf store (spent .state .cells)) T refl
+              ∙ sym (step-optional book text inner n c j rest step x items
+              (rowState (s .units) (cellsOf store (s .cells)) T) (stateIn (spent .state) store T)
               (spends inner n T) M (sym et ∙ ap takenOf k));
           held = spent-held h;
         })
 
-    pub step-lists : (after : List ℕ) (comma : Bool) (M : ℕ) (closing : Closing) (y : ℕ) (g : Stage) → t ≡ Taken.List comma M closing y →
-        Stages book text store (spent .state) after j g
-        (λ inner n c rest s. listingRows book text inner n c j comma M (closingIn closing) rest (stepsRows book text inner n c j rest) y items s) →
+    pub step-lists : (after : List ℕ) (comma : Bool) (M : ℕ) (closing : Closing) (y : ℕ) (g : Stage) →
+        t ≡ Taken.List comma M closing y → Stages book text store (spent .state) after j g
+        (λ inner n c rest s. listingRows book text inner n c j comma M (closingIn closing) rest
+        (stepsRows book text inner n c j rest) y items s) →
         Stages book text store s after j g (stepPart book text j step x items)
     step-lists after comma M closing y g k w h =
         let u = w (spent-held h) in
         record {
           is = λ inner n c rest T.
               u .is inner n c rest T
-              ∙ sym (step-list book text inner n c j rest step x items (rowState (s .units) (cellsOf store (s .cells)) T) (stateIn (spent .state) store T)
+              ∙ sym (step-list book text inner n c j rest step x items
+              (rowState (s .units) (cellsOf store (s .cells)) T) (stateIn (spent .state) store T)
               (spends inner n T) comma M (closingIn closing) y (sym et ∙ ap takenOf k));
           held = u .held;
         }
 
     pub step-unopens : (after : List ℕ) (y : ℕ) (r : Reached) (g : Stage) → t ≡ Taken.Unopened y →
-        Reaches book text store (spent .state) after j r (λ inner n c rest s. unopenedRows book text inner n c j rest y items s) → g ≡ thenSteps r →
+        Reaches book text store (spent .state) after j r
+        (λ inner n c rest s. unopenedRows book text inner n c j rest y items s) → g ≡ thenSteps r →
         Stages book text store s after j g (stepPart book text j step x items)
     step-unopens after y r g k w eg h =
         let u = w (spent-held h) in
         rw eg (record {
           is = λ inner n c rest T.
               u .is inner n c rest T
-              ∙ sym (step-unopened book text inner n c j rest step x items (rowState (s .units) (cellsOf store (s .cells)) T) (stateIn (spent .state) store T)
+              ∙ sym (step-unopened book text inner n c j rest step x items
+              (rowState (s .units) (cellsOf store (s .cells)) T) (stateIn (spent .state) store T)
               (spends inner n T) y (sym et ∙ ap takenOf k));
           held = u .held;
         })
 
 -- the step that the code has read
-pub at-step : (book : Book) (text before after : List ℕ) (j : ℕ) (s : State) (g : Stage) (x items : ℕ) (step other : Step) → step ≡ other →
-    Stages book text before s after j g (stepPart book text j step x items) → Stages book text before s after j g (stepPart book text j other x items)
+pub at-step :
+    (book : Book) (text before after : List ℕ) (j : ℕ) (s : State) (g : Stage) (x items : ℕ) (step other : Step) →
+    step ≡ other → Stages book text before s after j g (stepPart book text j step x items) →
+    Stages book text before s after j g (stepPart book text j other x items)
 at-step book text before after j s g x items step other e w = rw (← e) w

@@ -48,7 +48,8 @@ skip-fits text x short h =
     (λ t. let inside = ltb-true x (length text) t in omega (arith, skip-within text x (omega arith)))
     (λ t. omega (arith, skip-out text x (ltb-false x (length text) t)))
 
-pub free-end-fits : (book : Book) (text : List ℕ) (at end : ℕ) → length text ≤ 4096 → freeEnd book text at ≡ some end → end < 4294967296
+pub free-end-fits : (book : Book) (text : List ℕ) (at end : ℕ) → length text ≤ 4096 →
+    freeEnd book text at ≡ some end → end < 4294967296
 free-end-fits book text at end short q = omega (arith, free-end-within book text at end q)
 
 -- ---- Characters
@@ -60,14 +61,16 @@ character-within text a x end q =
     (λ u. let p : some (skipFrom text x + 1) ≡ some end = rw (t, u, characterEnd) at q in
     let s : skipFrom text x + 1 ≡ end = cc in
     omega (arith, ltb-true (skipFrom text x) (length text) t))
-    (λ u. let p : none ≡ some end = rw (t, u, characterEnd) at q in let z : _≡_ {A = ℕ} 0 1 = cc in absurd (omega arith)))
+    (λ u.
+    let p : none ≡ some end = rw (t, u, characterEnd) at q in let z : _≡_ {A = ℕ} 0 1 = cc in absurd (omega arith)))
     (λ t. let p : none ≡ some end = rw (t, characterEnd) at q in let z : _≡_ {A = ℕ} 0 1 = cc in absurd (omega arith))
 
 pub character-fits : (text : List ℕ) (a x end : ℕ) → length text ≤ 4096 → characterEnd text a x ≡ some end → Fits end
 character-fits text a x end short q = omega (arith, character-within text a x end q)
 
 -- where a list is closed
-pub closed-fits : (text : List ℕ) (close : Option ℕ) (x y : ℕ) → length text ≤ 4096 → Fits x → closed text close x ≡ some y → Fits y
+pub closed-fits : (text : List ℕ) (close : Option ℕ) (x y : ℕ) → length text ≤ 4096 → Fits x →
+    closed text close x ≡ some y → Fits y
 unfolding closed
 closed-fits text none x y short h q = let s : x ≡ y = cc in omega arith
 closed-fits text (some c) x y short h q = character-fits text c x y short q
@@ -77,7 +80,8 @@ AfterFits (goes y) = Fits y
 AfterFits (halts y) = Fits y
 
 -- where a list is after an element
-pub after-fits : (text : List ℕ) (comma : Bool) (x : ℕ) → length text ≤ 4096 → Fits x → AfterFits (afterElement text comma x)
+pub after-fits : (text : List ℕ) (comma : Bool) (x : ℕ) → length text ≤ 4096 → Fits x →
+    AfterFits (afterElement text comma x)
 unfolding afterElement
 after-fits text false x short h = h
 after-fits text true x short h =
@@ -85,17 +89,20 @@ after-fits text true x short h =
     (λ y e. rw (e, afterElement) (character-fits text 44 x y short e))
     (λ e. rw (e, afterElement) (skip-fits text x short h))
 
-pub goes-fits : (text : List ℕ) (comma : Bool) (x y : ℕ) → length text ≤ 4096 → Fits x → goes y ≡ afterElement text comma x → Fits y
+pub goes-fits : (text : List ℕ) (comma : Bool) (x y : ℕ) → length text ≤ 4096 → Fits x →
+    goes y ≡ afterElement text comma x → Fits y
 goes-fits text comma x y short h e = rw (← e) at (after-fits text comma x short h)
 
-pub halts-fits : (text : List ℕ) (comma : Bool) (x y : ℕ) → length text ≤ 4096 → Fits x → halts y ≡ afterElement text comma x → Fits y
+pub halts-fits : (text : List ℕ) (comma : Bool) (x y : ℕ) → length text ≤ 4096 → Fits x →
+    halts y ≡ afterElement text comma x → Fits y
 halts-fits text comma x y short h e = rw (← e) at (after-fits text comma x short h)
 
 -- ---- Names
 found-fits : (t : Bool) (bound i label : ℕ) (found : Found) → i < bound → Fits label →
     ((j k : ℕ) → found ≡ Found.Name j k → (j < bound) × Fits k) →
     (j k : ℕ) → cond t (Found.Name i label) found ≡ Found.Name j k → (j < bound) × Fits k
-found-fits true bound i label found l f h j k e = let p : i ≡ j = cc in let q : label ≡ k = cc in (omega arith, omega arith)
+found-fits true bound i label found l f h j k e =
+    let p : i ≡ j = cc in let q : label ≡ k = cc in (omega arith, omega arith)
 found-fits false bound i label found l f h j k e = h j k e
 
 lookup-fits : (bound i : ℕ) (found : Found) (names : List Entry) (spelling : List ℕ) → i + length names ≤ bound →
@@ -104,7 +111,8 @@ lookup-fits : (bound i : ℕ) (found : Found) (names : List Entry) (spelling : L
 unfolding lookupFrom
 lookup-fits bound i found [] spelling room kinds h j k e = h j k e
 lookup-fits bound i found (n ∷ names) spelling room kinds h j k e =
-    lookup-fits bound (suc i) (cond (same spelling (n .spelling)) (Found.Name i (n .label)) found) names spelling (omega arith) (λ m. kinds (suc m))
+    lookup-fits bound (suc i) (cond (same spelling (n .spelling)) (Found.Name i (n .label)) found) names spelling
+    (omega arith) (λ m. kinds (suc m))
     (found-fits (same spelling (n .spelling)) bound i (n .label) found (omega arith) (kinds 0) h) j k e
 
 -- a name's number is below the number of names, and its kind fits as theirs do
@@ -116,21 +124,25 @@ name-fits names spelling kinds j k e =
 
 -- ---- Variables
 module _ (book : Book) (text : List ℕ) (fit : Fit book text) where
-  variable-named : (at end : ℕ) (v : Variable) → freeEnd book text at ≡ some end → (f : Found) → lookupName (book .names) (spelled text at end) ≡ f →
-      elim f [ Found.Name i kind ↦ some (record { end = end; number = i; kind = kind }) | Found.Nothing ↦ none ] ≡ some v →
-      Fits (v .end) × Fits (v .number) × Fits (v .kind)
+  variable-named : (at end : ℕ) (v : Variable) → freeEnd book text at ≡ some end → (f : Found) →
+      lookupName (book .names) (spelled text at end) ≡ f →
+      elim f [ Found.Name i kind ↦ some (record { end = end; number = i; kind = kind }) | Found.Nothing ↦ none ]
+      ≡ some v → Fits (v .end) × Fits (v .number) × Fits (v .kind)
   variable-named at end v e (Found.Name i kind) q p =
       let s : record { end = end; number = i; kind = kind } ≡ v = cc in
       let low = name-fits (book .names) (spelled text at end) (fit .kinds) i kind q in
-      let all : Fits end × Fits i × Fits kind = (free-end-fits book text at end (fit .short) e, omega (arith, fit .names), low .1) in
+      let all : Fits end × Fits i × Fits kind =
+      (free-end-fits book text at end (fit .short) e, omega (arith, fit .names), low .1) in
       rw (← s) all
   variable-named at end v e Found.Nothing q p = let z : _≡_ {A = ℕ} 0 1 = cc in absurd (omega arith)
 
-  pub variable-fits : (at : ℕ) (v : Variable) → variableAt book text at ≡ some v → Fits (v .end) × Fits (v .number) × Fits (v .kind)
+  pub variable-fits : (at : ℕ) (v : Variable) → variableAt book text at ≡ some v →
+      Fits (v .end) × Fits (v .number) × Fits (v .kind)
   unfolding variableAt
   variable-fits at v q =
       by-option (freeEnd book text at)
-      (λ end e. variable-named at end v e (lookupName (book .names) (spelled text at end)) refl (rw (e, variableAt) at q))
+      (λ end e.
+      variable-named at end v e (lookupName (book .names) (spelled text at end)) refl (rw (e, variableAt) at q))
       (λ e. let p : none ≡ some v = rw (e, variableAt) at q in let z : _≡_ {A = ℕ} 0 1 = cc in absurd (omega arith))
 
 -- ---- What a step takes
@@ -155,7 +167,8 @@ module _ (book : Book) (text : List ℕ) (fit : Fit book text) (x : ℕ) (h : Fi
   character-taken : (a : ℕ) → TakenIn (stepAt book text (Step.Character a) x)
   unfolding stepAt
   character-taken a =
-      by-option (characterEnd text a x) (λ end e. rw (e, stepAt) (character-fits text a x end (fit .short) e, tt)) (λ e. rw (e, stepAt) tt)
+      by-option (characterEnd text a x)
+      (λ end e. rw (e, stepAt) (character-fits text a x end (fit .short) e, tt)) (λ e. rw (e, stepAt) tt)
 
   word-taken : (a : ℕ) → TakenIn (stepAt book text (Step.Word a) x)
   unfolding stepAt
@@ -163,14 +176,17 @@ module _ (book : Book) (text : List ℕ) (fit : Fit book text) (x : ℕ) (h : Fi
       by-option (identifierEnd text (skipFrom text x))
       (λ end e. let short = fit .short in
       let fits : Fits end = omega (arith, identifier-within text (skipFrom text x) end e) in
-      by-test (same (spelled text (skipFrom text x) end) (nthEntry (book .words) a .spelling)) (λ t. rw (e, t, stepAt) (fits, tt)) (λ t. rw (e, t, stepAt) tt))
+      by-test (same (spelled text (skipFrom text x) end) (nthEntry (book .words) a .spelling))
+      (λ t. rw (e, t, stepAt) (fits, tt)) (λ t. rw (e, t, stepAt) tt))
       (λ e. rw (e, stepAt) tt)
 
   identifier-taken : TakenIn (stepAt book text Step.Identifier x)
   unfolding stepAt
   identifier-taken =
       by-option (freeEnd book text (skipFrom text x))
-      (λ end e. let fits = free-end-fits book text (skipFrom text x) end (fit .short) e in rw (e, stepAt) (fits, (at-fits, omega arith)))
+      (λ end e.
+      let fits = free-end-fits book text (skipFrom text x) end (fit .short) e in
+      rw (e, stepAt) (fits, (at-fits, omega arith)))
       (λ e. rw (e, stepAt) tt)
 
   number-told : (n : Number) → numberAt text (skipFrom text x) ≡ n → TakenIn (stepAt book text Step.Number x)
@@ -199,21 +215,25 @@ module _ (book : Book) (text : List ℕ) (fit : Fit book text) (x : ℕ) (h : Fi
 
   reject-variable-taken : TakenIn (stepAt book text Step.RejectVariable x)
   unfolding stepAt
-  reject-variable-taken = by-option (variableAt book text (skipFrom text x)) (λ v e. rw (e, stepAt) tt) (λ e. rw (e, stepAt) (h, tt))
+  reject-variable-taken =
+      by-option (variableAt book text (skipFrom text x)) (λ v e. rw (e, stepAt) tt) (λ e. rw (e, stepAt) (h, tt))
 
   reject-reserved-taken : TakenIn (stepAt book text Step.RejectReserved x)
   unfolding stepAt
-  reject-reserved-taken = by-test (reservedAt book text (skipFrom text x)) (λ e. rw (e, stepAt) tt) (λ e. rw (e, stepAt) (h, tt))
+  reject-reserved-taken =
+      by-test (reservedAt book text (skipFrom text x)) (λ e. rw (e, stepAt) tt) (λ e. rw (e, stepAt) (h, tt))
 
   delimited-taken : (M b c : ℕ) → TakenIn (stepAt book text (Step.Delimited M b c) x)
   unfolding stepAt
   delimited-taken M b c =
-      by-option (characterEnd text b x) (λ end e. rw (e, stepAt) (character-fits text b x end (fit .short) e)) (λ e. rw (e, stepAt) tt)
+      by-option (characterEnd text b x)
+      (λ end e. rw (e, stepAt) (character-fits text b x end (fit .short) e)) (λ e. rw (e, stepAt) tt)
 
   optional-taken : (M b c : ℕ) → TakenIn (stepAt book text (Step.OptionalDelimited M b c) x)
   unfolding stepAt
   optional-taken M b c =
-      by-option (characterEnd text b x) (λ end e. rw (e, stepAt) (character-fits text b x end (fit .short) e)) (λ e. rw (e, stepAt) at-fits)
+      by-option (characterEnd text b x) (λ end e. rw (e, stepAt) (character-fits text b x end (fit .short) e))
+      (λ e. rw (e, stepAt) at-fits)
 
   step-taken : (step : Step) → TakenIn (stepAt book text step x)
   unfolding stepAt
@@ -255,7 +275,8 @@ module _ (t : Taken) (f : TakenFits t) where
   pub token-fits : (next : ℕ) (item : Item) → t ≡ Taken.Token next item → Fits next × ItemFits item
   token-fits next item e = rw e at f
 
-  pub list-fits : (comma : Bool) (N : ℕ) (closing : Closing) (place : ℕ) → t ≡ Taken.List comma N closing place → Fits place
+  pub list-fits : (comma : Bool) (N : ℕ) (closing : Closing) (place : ℕ) →
+      t ≡ Taken.List comma N closing place → Fits place
   list-fits comma N closing place e = rw e at f
 
   pub unopened-fits : (place : ℕ) → t ≡ Taken.Unopened place → Fits place

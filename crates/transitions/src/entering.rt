@@ -1,5 +1,5 @@
-// What a use of a nonterminal does up to its runs: one unit, the governor, a stored answer, one level of nesting, a use of
-// mark 2.
+// What a use of a nonterminal does up to its runs: one unit, the governor, a stored answer, one level of nesting, a use
+// of mark 2.
 ghost use mathlib.Core.Path.{_≡_};
 ghost use mathlib.Core.Bool.{false};
 ghost use mathlib.Core.Option.{some};

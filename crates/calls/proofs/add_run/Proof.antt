@@ -11,4 +11,5 @@ returns c =
     run-added _ _ _ (pre .0) _ _ (add .ensures)
 
 pub add-run-spec : {M : Type 1} → statement M
-add-run-spec = tie.close (tie.spec (λ c. search needs) (λ c. search needs) (λ c κs. search needs) (λ c. search needs) returns)
+add-run-spec =
+    tie.close (tie.spec (λ c. search needs) (λ c. search needs) (λ c κs. search needs) (λ c. search needs) returns)

@@ -21,10 +21,5 @@ pub add-run-to-set-spec : {M : Type 1} → statement M
 add-run-to-set-spec =
     tie.close
     (tie.spec
-    (λ c. search needs)
-    (λ c. search needs)
-    (λ c. search needs)
-    (λ c. search needs)
-    add-all-requires
-    (λ c. search needs)
+    (λ c. search needs) (λ c. search needs) (λ c. search needs) (λ c. search needs) add-all-requires (λ c. search needs)
     returns)

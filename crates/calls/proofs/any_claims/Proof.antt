@@ -50,8 +50,11 @@ loop-again : tie.Need-loop-again Inv-loop μ-loop
 loop-again c =
     let loop = c .before .before .before .loop in
     let loop-test = c .before .before .loop-test in
-    let claims = c .before .claims in
-    (omega (arith, loop .inv .0), omega (arith, loop-test .taken), asking-on _ _ _ _ _ _ (loop .inv .2) (loop-test .taken) (claims .ensures) (c .if1 .left))
+    let claims = c .before .claims in (
+      omega (arith, loop .inv .0),
+      omega (arith, loop-test .taken),
+      asking-on _ _ _ _ _ _ (loop .inv .2) (loop-test .taken) (claims .ensures) (c .if1 .left),
+    )
 
 returns-2 : tie.Need-returns-2 Inv-loop μ-loop
 returns-2 c =
@@ -62,13 +65,4 @@ pub any-claims-spec : {M : Type 1} → statement M
 any-claims-spec =
     tie.close
     (tie.spec
-    Inv-loop
-    μ-loop
-    add-above
-    loop-holds
-    claims-requires
-    returns
-    add-above-2
-    loop-less
-    loop-again
-    returns-2)
+    Inv-loop μ-loop add-above loop-holds claims-requires returns add-above-2 loop-less loop-again returns-2)

@@ -19,7 +19,8 @@ returns-2 c =
     let get = c .before .before .before .get in
     let if1 = c .before .before .if1 in
     let get2 = c .before .get2 in
-    claims-start _ (rowOf (table (args .rows .now)) (args .row)) _ _ _ (get .ensures) (if1 .left) (get2 .ensures) (c .if2 .taken)
+    claims-start _ (rowOf (table (args .rows .now)) (args .row)) _ _ _ (get .ensures) (if1 .left)
+    (get2 .ensures) (c .if2 .taken)
 
 returns-3 : tie.Need-returns-3
 returns-3 c =
@@ -29,7 +30,8 @@ returns-3 c =
     let get2 = c .before .before .before .get2 in
     let if2 = c .before .before .if2 in
     let get3 = c .before .get3 in
-    claims-scope _ (rowOf (table (args .rows .now)) (args .row)) _ _ _ _ (get .ensures) (if1 .left) (get2 .ensures) (if2 .left) (get3 .ensures) (c .if3 .taken)
+    claims-scope _ (rowOf (table (args .rows .now)) (args .row)) _ _ _ _ (get .ensures) (if1 .left) (get2 .ensures)
+    (if2 .left) (get3 .ensures) (c .if3 .taken)
 
 returns-4 : tie.Need-returns-4
 returns-4 c =
@@ -42,19 +44,12 @@ returns-4 c =
     let if3 = c .before .before .if3 in
     let get4 = c .before .get4 in
     claims-mark (bookIn (args .book .now) (args .index .now)) (rowOf (table (args .rows .now)) (args .row)) _ _ _ _ _ _
-    (get .ensures) (if1 .left) (get2 .ensures) (if2 .left) (get3 .ensures) (if3 .left) (get4 .ensures) (c .is-variable .ensures)
+    (get .ensures) (if1 .left) (get2 .ensures) (if2 .left) (get3 .ensures) (if3 .left) (get4 .ensures)
+    (c .is-variable .ensures)
 
 pub claims-spec : {M : Type 1} → statement M
 claims-spec =
     tie.close
     (tie.spec
-    (λ c κs. search needs)
-    returns
-    (λ c κs. search needs)
-    returns-2
-    (λ c κs. search needs)
-    returns-3
-    (λ c κs. search needs)
-    (λ c. search needs)
-    (λ c κs. search needs)
-    returns-4)
+    (λ c κs. search needs) returns (λ c κs. search needs) returns-2 (λ c κs. search needs) returns-3
+    (λ c κs. search needs) (λ c. search needs) (λ c κs. search needs) returns-4)

@@ -12,4 +12,5 @@ returns c =
     table-run _ _ _ (pre .0) [] (clear .ensures .now) (clear .ensures .only)
 
 pub clear-run-spec : {M : Type 1} → statement M
-clear-run-spec = tie.close (tie.spec (λ c. search needs) (λ c. search needs) (λ c κs. search needs) (λ c. search needs) returns)
+clear-run-spec =
+    tie.close (tie.spec (λ c. search needs) (λ c. search needs) (λ c κs. search needs) (λ c. search needs) returns)

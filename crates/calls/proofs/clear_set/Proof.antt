@@ -12,4 +12,5 @@ returns c =
     table-set _ _ _ (pre .0) [] (clear .ensures .now) (clear .ensures .only)
 
 pub clear-set-spec : {M : Type 1} → statement M
-clear-set-spec = tie.close (tie.spec (λ c. search needs) (λ c. search needs) (λ c κs. search needs) (λ c. search needs) returns)
+clear-set-spec =
+    tie.close (tie.spec (λ c. search needs) (λ c. search needs) (λ c κs. search needs) (λ c. search needs) returns)

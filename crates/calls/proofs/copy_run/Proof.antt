@@ -17,8 +17,10 @@ returns c =
     let pre = c .before .before .before .before .before .pre in
     let copy = c .before .before .copy in
     let args = c .before .before .before .before .before .args in
-    table-set _ _ _ (pre .0) _ (copy .ensures .now ∙ sym (read-run (args .rows .now) (args .row) (pre .0))) (copy .ensures .only)
+    table-set _ _ _ (pre .0) _
+    (copy .ensures .now ∙ sym (read-run (args .rows .now) (args .row) (pre .0))) (copy .ensures .only)
 
 pub copy-run-spec : {M : Type 1} → statement M
 copy-run-spec =
-    tie.close (tie.spec (λ c. search needs) (λ c. search needs) (λ c. search needs) (λ c. search needs) copy-requires (λ c. search needs) returns)
+    tie.close (tie.spec (λ c. search needs) (λ c. search needs) (λ c. search needs) (λ c. search needs) copy-requires
+    (λ c. search needs) returns)

@@ -24,7 +24,8 @@ returns-2 c =
     let newest-governor = c .before .before .before .newest-governor in
     let if1 = c .before .before .if1 in
     let get = c .before .get in
-    governor-same (table (args .rows .now)) _ _ _ _ (newest-governor .ensures) _ (if1 .left) (get .ensures) (c .if2 .taken)
+    governor-same (table (args .rows .now)) _ _ _ _ (newest-governor .ensures) _ (if1 .left)
+    (get .ensures) (c .if2 .taken)
 
 get-requires-2 : tie.Need-get-requires-2
 get-requires-2 c κs =
@@ -48,19 +49,12 @@ returns-3 c =
     let get2 = c .before .before .before .get2 in
     let get3 = c .before .get3 in
     let associativity-of = c .before .before .associativity-of in
-    governor-minimum (table (args .rows .now)) _ _ _ _ (newest-governor .ensures) _ _ _ _ (if1 .left) (get .ensures) (if2 .left) (get2 .ensures) (get3 .ensures)
-    (c .minimum-of .ensures ∙ rw (associativity-of .ensures))
+    governor-minimum (table (args .rows .now)) _ _ _ _ (newest-governor .ensures) _ _ _ _ (if1 .left) (get .ensures)
+    (if2 .left) (get2 .ensures) (get3 .ensures) (c .minimum-of .ensures ∙ rw (associativity-of .ensures))
 
 pub governor-of-spec : {M : Type 1} → statement M
 governor-of-spec =
     tie.close
     (tie.spec
-    (λ c κs. search needs)
-    returns
-    get-requires
-    returns-2
-    get-requires-2
-    (λ c κs. search needs)
-    get-requires-3
-    (λ c κs. search needs)
-    returns-3)
+    (λ c κs. search needs) returns get-requires returns-2 get-requires-2 (λ c κs. search needs) get-requires-3
+    (λ c κs. search needs) returns-3)

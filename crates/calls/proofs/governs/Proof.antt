@@ -18,7 +18,8 @@ returns-2 c =
     let get = c .before .before .before .get in
     let if1 = c .before .before .if1 in
     let get2 = c .before .get2 in
-    not-same (rowOf (table (args .rows .now)) (args .row)) _ _ _ _ (get .ensures) (if1 .left) (get2 .ensures) (c .if2 .taken)
+    not-same (rowOf (table (args .rows .now)) (args .row)) _ _ _ _ (get .ensures) (if1 .left)
+    (get2 .ensures) (c .if2 .taken)
 
 returns-3 : tie.Need-returns-3
 returns-3 c =
@@ -28,7 +29,8 @@ returns-3 c =
     let get2 = c .before .before .before .get2 in
     let if2 = c .before .before .if2 in
     let get3 = c .before .get3 in
-    not-scope (rowOf (table (args .rows .now)) (args .row)) _ _ _ _ _ (get .ensures) (if1 .left) (get2 .ensures) (if2 .left) (get3 .ensures) (c .if3 .taken)
+    not-scope (rowOf (table (args .rows .now)) (args .row)) _ _ _ _ _ (get .ensures) (if1 .left) (get2 .ensures)
+    (if2 .left) (get3 .ensures) (c .if3 .taken)
 
 returns-4 : tie.Need-returns-4
 returns-4 c =
@@ -46,11 +48,5 @@ pub governs-spec : {M : Type 1} → statement M
 governs-spec =
     tie.close
     (tie.spec
-    (λ c κs. search needs)
-    returns
-    (λ c κs. search needs)
-    returns-2
-    (λ c κs. search needs)
-    returns-3
-    (λ c κs. search needs)
-    returns-4)
+    (λ c κs. search needs) returns (λ c κs. search needs) returns-2 (λ c κs. search needs) returns-3
+    (λ c κs. search needs) returns-4)

@@ -18,19 +18,12 @@ returns c =
     let associativity-of = c .before .before .before .before .before .before .associativity-of in
     let get2 = c .before .before .before .before .get2 in
     let kept = c .before .before .kept in
-    kept-law _ _ _ _ (omega (arith, pre)) (pre .1) _ _ _ (get .ensures) (associativity-of .ensures) (get2 .ensures) (kept .ensures)
+    kept-law _ _ _ _ (omega (arith, pre)) (pre .1) _ _ _ (get .ensures) (associativity-of .ensures)
+    (get2 .ensures) (kept .ensures)
 
 pub kept-of-spec : {M : Type 1} → statement M
 kept-of-spec =
     tie.close
     (tie.spec
-    (λ c κs. search needs)
-    (λ c κs. search needs)
-    (λ c κs. search needs)
-    (λ c. search needs)
-    (λ c. search needs)
-    (λ c. search needs)
-    (λ c. search needs)
-    kept-requires
-    (λ c. search needs)
-    returns)
+    (λ c κs. search needs) (λ c κs. search needs) (λ c κs. search needs) (λ c. search needs) (λ c. search needs)
+    (λ c. search needs) (λ c. search needs) kept-requires (λ c. search needs) returns)

@@ -49,8 +49,11 @@ loop-again : tie.Need-loop-again Inv-loop μ-loop
 loop-again c =
     let loop = c .before .before .before .loop in
     let loop-test = c .before .before .loop-test in
-    let governs = c .before .governs in
-    (omega (arith, loop .inv .0), omega (arith, loop-test .taken), seeking-on _ _ _ _ _ _ (loop .inv .2) (loop-test .taken) (governs .ensures) (c .if1 .left))
+    let governs = c .before .governs in (
+      omega (arith, loop .inv .0),
+      omega (arith, loop-test .taken),
+      seeking-on _ _ _ _ _ _ (loop .inv .2) (loop-test .taken) (governs .ensures) (c .if1 .left),
+    )
 
 returns-2 : tie.Need-returns-2 Inv-loop μ-loop
 returns-2 c =

@@ -8,4 +8,6 @@ returns : tie.Need-returns
 returns c = table-field _ _ (c .pre .0) (c .pre .2) _ _ (c .pre .1)
 
 pub put-spec : {M : Type 1} → statement M
-put-spec = tie.close (tie.spec (λ c. search needs) (λ c. search needs) (λ c. search needs) (λ c. search needs) (λ c. search needs) returns)
+put-spec =
+    tie.close (tie.spec (λ c. search needs) (λ c. search needs) (λ c. search needs) (λ c. search needs)
+    (λ c. search needs) returns)

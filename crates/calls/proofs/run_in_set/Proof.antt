@@ -8,8 +8,10 @@ returns : tie.Need-returns
 returns c =
     let args = c .before .before .args in
     let pre = c .before .before .pre in
-    rw (read-set (args .rows .now) (args .row) (pre .0), read-run (args .rows .now) (args .row) (pre .0)) (c .all-in .ensures)
+    rw (read-set (args .rows .now) (args .row) (pre .0), read-run (args .rows .now) (args .row) (pre .0))
+    (c .all-in .ensures)
 
 pub run-in-set-spec : {M : Type 1} → statement M
 run-in-set-spec =
-    tie.close (tie.spec (λ c. search needs) (λ c. search needs) (λ c. search needs) (λ c. search needs) (λ c κs. search needs) returns)
+    tie.close (tie.spec (λ c. search needs) (λ c. search needs) (λ c. search needs) (λ c. search needs)
+    (λ c κs. search needs) returns)

@@ -9,14 +9,18 @@ use Rattle.calls.proofs.take_stored.Tie as tie
 
 returns : tie.Need-returns
 returns c =
-    let args = c .before .before .before .before .before .before .before .before .before .before .before .before .before .args in
-    let pre = c .before .before .before .before .before .before .before .before .before .before .before .before .before .pre in
+    let args =
+    c .before .before .before .before .before .before .before .before .before .before .before .before .before .args in
+    let pre =
+    c .before .before .before .before .before .before .before .before .before .before .before .before .before .pre in
     let mark = c .before .before .before .before .before .before .before .before .before .before .mark in
     let kept-of = c .before .before .before .before .before .before .kept-of in
     let end-call = c .before .before .end-call in
-    answer-law (table (args .rows .now)) _ _ _ (args .row) (args .governor) (table-below (args .rows .now) (args .row) (omega (arith, pre)))
+    answer-law (table (args .rows .now)) _ _ _ (args .row) (args .governor)
+    (table-below (args .rows .now) (args .row) (omega (arith, pre)))
     (table-below (args .rows .now) (args .governor) (pre .1)) (mark .ensures) (kept-of .ensures) (end-call .ensures)
 
 pub take-stored-spec : {M : Type 1} → statement M
 take-stored-spec =
-    tie.close (tie.spec (λ c κs. search needs) (λ c κs. search needs) (λ c κs. search needs) (λ c. search needs) returns)
+    tie.close
+    (tie.spec (λ c κs. search needs) (λ c κs. search needs) (λ c κs. search needs) (λ c. search needs) returns)

@@ -14,7 +14,8 @@ returns c =
     let put = c .before .before .before .before .before .before .before .put in
     let put2 = c .before .before .put2 in
     rw (← associativity-number .ensures)
-    (variant-law (table (args .rows .now)) (args .row) _ _ (table-below (args .rows .now) (args .row) (pre .0)) _ _ (put .ensures) (put2 .ensures))
+    (variant-law (table (args .rows .now)) (args .row) _ _ (table-below (args .rows .now) (args .row) (pre .0)) _ _
+    (put .ensures) (put2 .ensures))
 
 pub take-variant-spec : {M : Type 1} → statement M
 take-variant-spec =

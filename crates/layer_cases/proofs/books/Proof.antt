@@ -45,14 +45,5 @@ pub books-spec : {M : Type 1} → statement M
 books-spec =
     tie.close
     (tie.spec
-    Inv-loop
-    μ-loop
-    none-requires
-    loop-holds
-    case-requires
-    case-requires-2
-    case-requires-3
-    returns
-    loop-less
-    loop-again
+    Inv-loop μ-loop none-requires loop-holds case-requires case-requires-2 case-requires-3 returns loop-less loop-again
     returns-2)

@@ -8,23 +8,21 @@ use Rattle.midgebillon.proofs.midgebillon_read.Tie as tie
 returns : tie.Need-returns
 returns c =
     let args = c .before .before .before .before .before .before .args in
-    untouched (args .book .now) (args .text .now) (args .start) (args .allowance) (args .cells .now) (args .parses .now) (args .answer .now) (omega arith)
+    untouched (args .book .now) (args .text .now) (args .start) (args .allowance) (args .cells .now) (args .parses .now)
+    (args .answer .now) (omega arith)
 
 returns-2 : tie.Need-returns-2
 returns-2 c =
-    let args = c .before .before .before .before .before .before .before .before .before .before .before .before .before .before .before .before .before .args in
+    let args = c .before .before .before .before .before .before .before .before .before .before .before .before .before
+    .before .before .before .before .args in
     let read = c .before .before .before .before .before .before .before .before .read in
     let put-answer = c .before .before .put-answer in
-    answers (args .book .now) (args .text .now) (args .start) (args .allowance) (args .cells .now) (args .parses .now) (args .answer .now) _ _ _ (read .result) (omega arith) (read .ensures) (put-answer .ensures)
+    answers (args .book .now) (args .text .now) (args .start) (args .allowance) (args .cells .now) (args .parses .now)
+    (args .answer .now) _ _ _ (read .result) (omega arith) (read .ensures) (put-answer .ensures)
 
 pub midgebillon-read-spec : {M : Type 1} → statement M
 midgebillon-read-spec =
     tie.close
     (tie.spec
-    returns
-    (λ c κs. search needs)
-    (λ c κs. search needs)
-    (λ c. search needs)
-    (λ c. search needs)
-    (λ c. search needs)
+    returns (λ c κs. search needs) (λ c κs. search needs) (λ c. search needs) (λ c. search needs) (λ c. search needs)
     returns-2)

@@ -4,10 +4,15 @@
 --
 -- The measures: 2,048 for each level of nesting left, 6 for each step left, and a rank that falls from one function to
 -- the next on one level.
-use Rattle.parser.specs.PathLaws.{choice-stopped, choice-both, path-ended, path-child, path-optional, path-elements, path-end, path-step, rank-few, rank-child, rank-optional, rank-elements}
-use Rattle.parser.specs.ChildLaws.{descended, follow-ended, follow-whole, follow-end, follow-deep, follow-stop, follow-again}
-use Rattle.parser.specs.VariantLaws.{variants-end, variants-stop, variants-again, one-run-whole, variant-skipped, variant-ran, variants-fit, steps-fit}
-use Rattle.parser.specs.CallLaws.{enter-over, enter-runs, run-call-over, run-call-rounds, rounds-none, rounds-over, rounds-again}
+use Rattle.parser.specs.PathLaws.{choice-stopped, choice-both, path-ended, path-child, path-optional}
+use Rattle.parser.specs.PathLaws.{path-elements, path-end, path-step, rank-few, rank-child, rank-optional}
+use Rattle.parser.specs.PathLaws.{rank-elements}
+use Rattle.parser.specs.ChildLaws.{descended, follow-ended, follow-whole, follow-end, follow-deep, follow-stop}
+use Rattle.parser.specs.ChildLaws.{follow-again}
+use Rattle.parser.specs.VariantLaws.{variants-end, variants-stop, variants-again, one-run-whole, variant-skipped}
+use Rattle.parser.specs.VariantLaws.{variant-ran, variants-fit, steps-fit}
+use Rattle.parser.specs.CallLaws.{enter-over, enter-runs, run-call-over, run-call-rounds, rounds-none}
+use Rattle.parser.specs.CallLaws.{rounds-over, rounds-again}
 use Rattle.parser.specs.ResultLaws.{Going, goes-without-limit}
 use Rattle.parser.specs.Cycle.{InRange, todoAt, further, proceeds, rankOf}
 use Rattle.transitions.specs.Entering.{innerRunner}
@@ -29,33 +34,34 @@ use mathlib.Core.List.{List}
 use borrow.Fn.Kind.{PK}
 use borrow.Fn.Kinds.{In}
 use borrow.Fn.PlainCycle.{Measures, is, falls, and}
+use Rattle.parser.proofs.+left_recursion-enter+left_recursion-rounds+left_recursion-run_call+parser-choice+parser-descend+parser-follow+parser-one_run+parser-steps+parser-variant as cycle
 use Rattle.parser.proofs.left_recursion.enter.Reads as left-recursion·enter
 use Rattle.parser.proofs.left_recursion.enter.Kinds as left-recursion·enter-kinds
-use Rattle.parser.proofs.+left_recursion-enter+left_recursion-rounds+left_recursion-run_call+parser-choice+parser-descend+parser-follow+parser-one_run+parser-steps+parser-variant.Lts-left_recursion-enter as left-recursion·enter-lts
+use cycle.Lts-left_recursion-enter as left-recursion·enter-lts
 use Rattle.parser.proofs.left_recursion.rounds.Reads as left-recursion·rounds
 use Rattle.parser.proofs.left_recursion.rounds.Kinds as left-recursion·rounds-kinds
-use Rattle.parser.proofs.+left_recursion-enter+left_recursion-rounds+left_recursion-run_call+parser-choice+parser-descend+parser-follow+parser-one_run+parser-steps+parser-variant.Lts-left_recursion-rounds as left-recursion·rounds-lts
+use cycle.Lts-left_recursion-rounds as left-recursion·rounds-lts
 use Rattle.parser.proofs.left_recursion.run_call.Reads as left-recursion·run-call
 use Rattle.parser.proofs.left_recursion.run_call.Kinds as left-recursion·run-call-kinds
-use Rattle.parser.proofs.+left_recursion-enter+left_recursion-rounds+left_recursion-run_call+parser-choice+parser-descend+parser-follow+parser-one_run+parser-steps+parser-variant.Lts-left_recursion-run_call as left-recursion·run-call-lts
+use cycle.Lts-left_recursion-run_call as left-recursion·run-call-lts
 use Rattle.parser.proofs.parser.choice.Reads as parser·choice
 use Rattle.parser.proofs.parser.choice.Kinds as parser·choice-kinds
-use Rattle.parser.proofs.+left_recursion-enter+left_recursion-rounds+left_recursion-run_call+parser-choice+parser-descend+parser-follow+parser-one_run+parser-steps+parser-variant.Lts-parser-choice as parser·choice-lts
+use cycle.Lts-parser-choice as parser·choice-lts
 use Rattle.parser.proofs.parser.descend.Reads as parser·descend
 use Rattle.parser.proofs.parser.descend.Kinds as parser·descend-kinds
-use Rattle.parser.proofs.+left_recursion-enter+left_recursion-rounds+left_recursion-run_call+parser-choice+parser-descend+parser-follow+parser-one_run+parser-steps+parser-variant.Lts-parser-descend as parser·descend-lts
+use cycle.Lts-parser-descend as parser·descend-lts
 use Rattle.parser.proofs.parser.follow.Reads as parser·follow
 use Rattle.parser.proofs.parser.follow.Kinds as parser·follow-kinds
-use Rattle.parser.proofs.+left_recursion-enter+left_recursion-rounds+left_recursion-run_call+parser-choice+parser-descend+parser-follow+parser-one_run+parser-steps+parser-variant.Lts-parser-follow as parser·follow-lts
+use cycle.Lts-parser-follow as parser·follow-lts
 use Rattle.parser.proofs.parser.one_run.Reads as parser·one-run
 use Rattle.parser.proofs.parser.one_run.Kinds as parser·one-run-kinds
-use Rattle.parser.proofs.+left_recursion-enter+left_recursion-rounds+left_recursion-run_call+parser-choice+parser-descend+parser-follow+parser-one_run+parser-steps+parser-variant.Lts-parser-one_run as parser·one-run-lts
+use cycle.Lts-parser-one_run as parser·one-run-lts
 use Rattle.parser.proofs.parser.steps.Reads as parser·steps
 use Rattle.parser.proofs.parser.steps.Kinds as parser·steps-kinds
-use Rattle.parser.proofs.+left_recursion-enter+left_recursion-rounds+left_recursion-run_call+parser-choice+parser-descend+parser-follow+parser-one_run+parser-steps+parser-variant.Lts-parser-steps as parser·steps-lts
+use cycle.Lts-parser-steps as parser·steps-lts
 use Rattle.parser.proofs.parser.variant.Reads as parser·variant
 use Rattle.parser.proofs.parser.variant.Kinds as parser·variant-kinds
-use Rattle.parser.proofs.+left_recursion-enter+left_recursion-rounds+left_recursion-run_call+parser-choice+parser-descend+parser-follow+parser-one_run+parser-steps+parser-variant.Lts-parser-variant as parser·variant-lts
+use cycle.Lts-parser-variant as parser·variant-lts
 use Rattle.book.proofs.nonterminal.Reads as nonterminal-reads
 use Rattle.book.proofs.variant.Reads as variant-reads
 use Rattle.calls.proofs.clear_run.Reads as clear-run-reads
@@ -78,10 +84,10 @@ use Rattle.transitions.proofs.first_side.Reads as first-side-reads
 use Rattle.transitions.proofs.joined.Reads as joined-reads
 use Rattle.transitions.proofs.next_of.Reads as next-of-reads
 use Rattle.transitions.proofs.take_step.Reads as take-step-reads
-use Rattle.parser.proofs.+left_recursion-enter+left_recursion-rounds+left_recursion-run_call+parser-choice+parser-descend+parser-follow+parser-one_run+parser-steps+parser-variant.{
+use cycle.{
   statement,
 }
-use Rattle.parser.proofs.+left_recursion-enter+left_recursion-rounds+left_recursion-run_call+parser-choice+parser-descend+parser-follow+parser-one_run+parser-steps+parser-variant.Tie.{
+use cycle.Tie.{
   close,
 }
 
@@ -107,7 +113,8 @@ abbrev μ-parser·one-run : Measures 5 parser·one-run-kinds.ps ℕ
 μ-parser·one-run κs a = 2048 * (a .1 .1 .1 .1 .1 .0) + 2
 
 abbrev μ-parser·steps : Measures 5 parser·steps-kinds.ps ℕ
-μ-parser·steps κs a = 2048 * (a .1 .1 .1 .1 .1 .0) + 6 * (a .1 .1 .1 .1 .1 .1 .0) .remaining + rankOf (a .1 .1 .1 .1 .1 .1 .1 .0) + 8
+μ-parser·steps κs a =
+    2048 * (a .1 .1 .1 .1 .1 .0) + 6 * (a .1 .1 .1 .1 .1 .1 .0) .remaining + rankOf (a .1 .1 .1 .1 .1 .1 .1 .0) + 8
 
 abbrev μ-parser·variant : Measures 5 parser·variant-kinds.ps ℕ
 μ-parser·variant κs a = 2048 * (a .1 .1 .1 .1 .1 .0) + 1
@@ -123,19 +130,24 @@ abbrev left-recursion·enter-at : ℕ → In 5 left-recursion·enter-kinds.ps
 left-recursion·enter-at t = at-measure left-recursion·enter-kinds.ps μ-left-recursion·enter left-recursion·enter.Pre t
 
 abbrev left-recursion·enter-below : ℕ → In 5 left-recursion·enter-kinds.ps
-left-recursion·enter-below t = below-measure left-recursion·enter-kinds.ps μ-left-recursion·enter left-recursion·enter.Pre t
+left-recursion·enter-below t =
+    below-measure left-recursion·enter-kinds.ps μ-left-recursion·enter left-recursion·enter.Pre t
 
 abbrev left-recursion·rounds-at : ℕ → In 5 left-recursion·rounds-kinds.ps
-left-recursion·rounds-at t = at-measure left-recursion·rounds-kinds.ps μ-left-recursion·rounds left-recursion·rounds.Pre t
+left-recursion·rounds-at t =
+    at-measure left-recursion·rounds-kinds.ps μ-left-recursion·rounds left-recursion·rounds.Pre t
 
 abbrev left-recursion·rounds-below : ℕ → In 5 left-recursion·rounds-kinds.ps
-left-recursion·rounds-below t = below-measure left-recursion·rounds-kinds.ps μ-left-recursion·rounds left-recursion·rounds.Pre t
+left-recursion·rounds-below t =
+    below-measure left-recursion·rounds-kinds.ps μ-left-recursion·rounds left-recursion·rounds.Pre t
 
 abbrev left-recursion·run-call-at : ℕ → In 5 left-recursion·run-call-kinds.ps
-left-recursion·run-call-at t = at-measure left-recursion·run-call-kinds.ps μ-left-recursion·run-call left-recursion·run-call.Pre t
+left-recursion·run-call-at t =
+    at-measure left-recursion·run-call-kinds.ps μ-left-recursion·run-call left-recursion·run-call.Pre t
 
 abbrev left-recursion·run-call-below : ℕ → In 5 left-recursion·run-call-kinds.ps
-left-recursion·run-call-below t = below-measure left-recursion·run-call-kinds.ps μ-left-recursion·run-call left-recursion·run-call.Pre t
+left-recursion·run-call-below t =
+    below-measure left-recursion·run-call-kinds.ps μ-left-recursion·run-call left-recursion·run-call.Pre t
 
 abbrev parser·choice-at : ℕ → In 5 parser·choice-kinds.ps
 parser·choice-at t = at-measure parser·choice-kinds.ps μ-parser·choice parser·choice.Pre t
@@ -175,76 +187,190 @@ parser·variant-below t = below-measure parser·variant-kinds.ps μ-parser·vari
 
 -- what a member is told of those that it calls
 abbrev left-recursion·enter-callees : ℕ → left-recursion·enter-lts.Claims
-left-recursion·enter-callees t = (begin-use-reads.Asked, begin-use-reads.Learnt, left-recursion·run-call-below t, left-recursion·run-call.Post)
+left-recursion·enter-callees t =
+    (begin-use-reads.Asked, begin-use-reads.Learnt, left-recursion·run-call-below t, left-recursion·run-call.Post)
 
 abbrev left-recursion·rounds-callees : ℕ → left-recursion·rounds-lts.Claims
-left-recursion·rounds-callees t = (parser·one-run-below t, parser·one-run.Post, after-round-reads.Asked, after-round-reads.Learnt, without-failure-reads.Asked, without-failure-reads.Learnt)
+left-recursion·rounds-callees t = (
+  parser·one-run-below t,
+  parser·one-run.Post,
+  after-round-reads.Asked,
+  after-round-reads.Learnt,
+  without-failure-reads.Asked,
+  without-failure-reads.Learnt,
+)
 
 abbrev left-recursion·run-call-callees : ℕ → left-recursion·run-call-lts.Claims
-left-recursion·run-call-callees t = (open-call-reads.Asked, open-call-reads.Learnt, parser·one-run-below t, parser·one-run.Post, after-first-reads.Asked, after-first-reads.Learnt, left-recursion·rounds-below t, left-recursion·rounds.Post)
+left-recursion·run-call-callees t = (
+  open-call-reads.Asked,
+  open-call-reads.Learnt,
+  parser·one-run-below t,
+  parser·one-run.Post,
+  after-first-reads.Asked,
+  after-first-reads.Learnt,
+  left-recursion·rounds-below t,
+  left-recursion·rounds.Post,
+)
 
 abbrev parser·choice-callees : ℕ → parser·choice-lts.Claims
-parser·choice-callees t = (first-side-reads.Asked, first-side-reads.Learnt, parser·steps-below t, parser·steps.Post, parser·descend-below t, parser·descend.Post, both-reads.Asked, both-reads.Learnt)
+parser·choice-callees t = (
+  first-side-reads.Asked,
+  first-side-reads.Learnt,
+  parser·steps-below t,
+  parser·steps.Post,
+  parser·descend-below t,
+  parser·descend.Post,
+  both-reads.Asked,
+  both-reads.Learnt,
+)
 
 abbrev parser·descend-callees : ℕ → parser·descend-lts.Claims
-parser·descend-callees t = (begin-child-reads.Asked, begin-child-reads.Learnt, left-recursion·enter-below t, left-recursion·enter.Post, parser·follow-below t, parser·follow.Post)
+parser·descend-callees t = (
+  begin-child-reads.Asked,
+  begin-child-reads.Learnt,
+  left-recursion·enter-below t,
+  left-recursion·enter.Post,
+  parser·follow-below t,
+  parser·follow.Post,
+)
 
 abbrev parser·follow-callees : ℕ → parser·follow-lts.Claims
-parser·follow-callees t = (goes-on-reads.Asked, goes-on-reads.Learnt, parse-count-reads.Asked, parse-count-reads.Learnt, without-failure-reads.Asked, without-failure-reads.Learnt, nth-parse-reads.Asked, nth-parse-reads.Learnt, next-of-reads.Asked, next-of-reads.Learnt, parser·steps-below t, parser·steps.Post, joined-reads.Asked, joined-reads.Learnt)
+parser·follow-callees t = (
+  goes-on-reads.Asked,
+  goes-on-reads.Learnt,
+  parse-count-reads.Asked,
+  parse-count-reads.Learnt,
+  without-failure-reads.Asked,
+  without-failure-reads.Learnt,
+  nth-parse-reads.Asked,
+  nth-parse-reads.Learnt,
+  next-of-reads.Asked,
+  next-of-reads.Learnt,
+  parser·steps-below t,
+  parser·steps.Post,
+  joined-reads.Asked,
+  joined-reads.Learnt,
+)
 
 abbrev parser·one-run-callees : ℕ → parser·one-run-lts.Claims
-parser·one-run-callees t = (nonterminal-of-reads.Asked, nonterminal-of-reads.Learnt, clear-run-reads.Asked, clear-run-reads.Learnt, nonterminal-reads.Asked, nonterminal-reads.Learnt, done-reads.Asked, done-reads.Learnt, parser·variant-below t, parser·variant.Post)
+parser·one-run-callees t = (
+  nonterminal-of-reads.Asked,
+  nonterminal-of-reads.Learnt,
+  clear-run-reads.Asked,
+  clear-run-reads.Learnt,
+  nonterminal-reads.Asked,
+  nonterminal-reads.Learnt,
+  done-reads.Asked,
+  done-reads.Learnt,
+  parser·variant-below t,
+  parser·variant.Post,
+)
 
 abbrev parser·steps-callees : ℕ → parser·steps-lts.Claims
-parser·steps-callees t = (goes-on-reads.Asked, goes-on-reads.Learnt, finish-reads.Asked, finish-reads.Learnt, take-step-reads.Asked, take-step-reads.Learnt, parser·descend-below t, parser·descend.Post, parser·choice-below t, parser·choice.Post)
+parser·steps-callees t = (
+  goes-on-reads.Asked,
+  goes-on-reads.Learnt,
+  finish-reads.Asked,
+  finish-reads.Learnt,
+  take-step-reads.Asked,
+  take-step-reads.Learnt,
+  parser·descend-below t,
+  parser·descend.Post,
+  parser·choice-below t,
+  parser·choice.Post,
+)
 
 abbrev parser·variant-callees : ℕ → parser·variant-lts.Claims
-parser·variant-callees t = (variant-reads.Asked, variant-reads.Learnt, begin-variant-reads.Asked, begin-variant-reads.Learnt, parser·steps-below t, parser·steps.Post, after-variant-reads.Asked, after-variant-reads.Learnt)
+parser·variant-callees t = (
+  variant-reads.Asked,
+  variant-reads.Learnt,
+  begin-variant-reads.Asked,
+  begin-variant-reads.Learnt,
+  parser·steps-below t,
+  parser·steps.Post,
+  after-variant-reads.Asked,
+  after-variant-reads.Learnt,
+)
 
 left-recursion·enter-begin-use-requires :
-    (t : ℕ) → left-recursion·enter-lts.Need-begin-use-requires (left-recursion·enter-callees t) (left-recursion·enter-at t) left-recursion·enter.Post
+    (t : ℕ) →
+    left-recursion·enter-lts.Need-begin-use-requires (left-recursion·enter-callees t) (left-recursion·enter-at t)
+    left-recursion·enter.Post
 left-recursion·enter-begin-use-requires t c κs = (c .before .before .before .before .before .before .before) .pre .1
 
-left-recursion·enter-same-length : (t : ℕ) → left-recursion·enter-lts.Need-same-length (left-recursion·enter-callees t) (left-recursion·enter-at t) left-recursion·enter.Post
-left-recursion·enter-same-length t c = (c .before .before .before .before .before .before .before .begin-use) .kept .1 .1 .1 .0
+left-recursion·enter-same-length : (t : ℕ) →
+    left-recursion·enter-lts.Need-same-length (left-recursion·enter-callees t) (left-recursion·enter-at t)
+    left-recursion·enter.Post
+left-recursion·enter-same-length t c =
+    (c .before .before .before .before .before .before .before .begin-use) .kept .1 .1 .1 .0
 
-left-recursion·enter-same-length-2 : (t : ℕ) → left-recursion·enter-lts.Need-same-length-2 (left-recursion·enter-callees t) (left-recursion·enter-at t) left-recursion·enter.Post
-left-recursion·enter-same-length-2 t c = (c .before .before .before .before .before .before .before .begin-use) .kept .1 .1 .1 .1 .0
+left-recursion·enter-same-length-2 : (t : ℕ) →
+    left-recursion·enter-lts.Need-same-length-2 (left-recursion·enter-callees t) (left-recursion·enter-at t)
+    left-recursion·enter.Post
+left-recursion·enter-same-length-2 t c =
+    (c .before .before .before .before .before .before .before .begin-use) .kept .1 .1 .1 .1 .0
 
-left-recursion·enter-returns : (t : ℕ) → left-recursion·enter-lts.Need-returns (left-recursion·enter-callees t) (left-recursion·enter-at t) left-recursion·enter.Post
+left-recursion·enter-returns : (t : ℕ) →
+    left-recursion·enter-lts.Need-returns (left-recursion·enter-callees t) (left-recursion·enter-at t)
+    left-recursion·enter.Post
 left-recursion·enter-returns t c =
     let begin-use = c .before .before .before .before .before .before .before .begin-use in
     let if1 = c .if1 in
     enter-over _ _ _ _ _ _ _ _ _ _ _ (begin-use .ensures) (not-true _ (if1 .taken))
 
-left-recursion·enter-run-call-requires : (t : ℕ) → left-recursion·enter-lts.Need-run-call-requires (left-recursion·enter-callees t) (left-recursion·enter-at t) left-recursion·enter.Post
+left-recursion·enter-run-call-requires : (t : ℕ) →
+    left-recursion·enter-lts.Need-run-call-requires (left-recursion·enter-callees t) (left-recursion·enter-at t)
+    left-recursion·enter.Post
 left-recursion·enter-run-call-requires t c κs =
-    let start = c .before .before .before .before .before .before .before .before .before .before .before .before .before .before .before .before .before in
+    let start = c .before .before .before .before .before .before .before .before .before .before .before .before
+    .before .before .before .before .before in
     let begin-use = c .before .before .before .before .before .before .before .before .before .begin-use in
-    let if1 = c .before .before .if1 in
-    (omega (arith, start .pre .0), (start .pre .1 .0, omega (arith, start .pre .1 .1, begin-use .kept .1 .1 .1 .1 .0), start .pre .1 .2, begin-use .ensures .above (not-false _ (if1 .left))))
+    let if1 = c .before .before .if1 in (
+      omega (arith, start .pre .0),
+      (
+        start .pre .1 .0,
+        omega (arith, start .pre .1 .1, begin-use .kept .1 .1 .1 .1 .0),
+        start .pre .1 .2,
+        begin-use .ensures .above (not-false _ (if1 .left)),
+      ),
+    )
 
-left-recursion·enter-same-length-3 : (t : ℕ) → left-recursion·enter-lts.Need-same-length-3 (left-recursion·enter-callees t) (left-recursion·enter-at t) left-recursion·enter.Post
+left-recursion·enter-same-length-3 : (t : ℕ) →
+    left-recursion·enter-lts.Need-same-length-3 (left-recursion·enter-callees t) (left-recursion·enter-at t)
+    left-recursion·enter.Post
 left-recursion·enter-same-length-3 t c =
-    let begin-use = c .before .before .before .before .before .before .before .before .before .before .before .before .before .before .begin-use in
+    let begin-use = c .before .before .before .before .before .before .before .before .before .before .before .before
+    .before .before .begin-use in
     let run-call = c .before .before .before .before .run-call in
     run-call .kept .1 .1 .1 .0 ∙ begin-use .kept .1 .1 .1 .0
 
-left-recursion·enter-same-length-4 : (t : ℕ) → left-recursion·enter-lts.Need-same-length-4 (left-recursion·enter-callees t) (left-recursion·enter-at t) left-recursion·enter.Post
+left-recursion·enter-same-length-4 : (t : ℕ) →
+    left-recursion·enter-lts.Need-same-length-4 (left-recursion·enter-callees t) (left-recursion·enter-at t)
+    left-recursion·enter.Post
 left-recursion·enter-same-length-4 t c =
-    let begin-use = c .before .before .before .before .before .before .before .before .before .before .before .before .before .before .begin-use in
+    let begin-use = c .before .before .before .before .before .before .before .before .before .before .before .before
+    .before .before .begin-use in
     let run-call = c .before .before .before .before .run-call in
     run-call .kept .1 .1 .1 .1 .0 ∙ begin-use .kept .1 .1 .1 .1 .0
 
-left-recursion·enter-returns-2 : (t : ℕ) → left-recursion·enter-lts.Need-returns-2 (left-recursion·enter-callees t) (left-recursion·enter-at t) left-recursion·enter.Post
+left-recursion·enter-returns-2 : (t : ℕ) →
+    left-recursion·enter-lts.Need-returns-2 (left-recursion·enter-callees t) (left-recursion·enter-at t)
+    left-recursion·enter.Post
 left-recursion·enter-returns-2 t c =
-    let begin-use = c .before .before .before .before .before .before .before .before .before .before .before .before .before .before .begin-use in
+    let begin-use = c .before .before .before .before .before .before .before .before .before .before .before .before
+    .before .before .begin-use in
     let if1 = c .before .before .before .before .before .before .before .if1 in
     let run-call = c .before .before .before .before .run-call in
     enter-runs _ _ _ _ _ _ _ _ _ _ _ (begin-use .ensures) _ _ _ (not-false _ (if1 .left)) (run-call .ensures)
 
 abbrev left-recursion·rounds-Inv-loop : left-recursion·rounds-lts.InvT-loop
-left-recursion·rounds-Inv-loop book index text store₀ rows₀ left minimum s₀ round₀ store rows s round = (round ≤ 65) × (length store ≡ length store₀) × (length rows ≡ length rows₀) × (Held text store₀ (s₀ .cells) → Going text store (s .cells) (roundsRows (bookIn book index) text (65 - round) (innerRunner (bookIn book index) text left) left minimum (rowState (s .units) (cellsOf store (s .cells)) (table rows))) (roundsRows (bookIn book index) text 65 (innerRunner (bookIn book index) text left) left minimum (rowState (s₀ .units) (cellsOf store₀ (s₀ .cells)) (table rows₀))))
+left-recursion·rounds-Inv-loop book index text store₀ rows₀ left minimum s₀ round₀ store rows s round =
+    (round ≤ 65) × (length store ≡ length store₀) × (length rows ≡ length rows₀) ×
+    (Held text store₀ (s₀ .cells) → Going text store (s .cells)
+    (roundsRows (bookIn book index) text (65 - round) (innerRunner (bookIn book index) text left) left minimum
+    (rowState (s .units) (cellsOf store (s .cells)) (table rows)))
+    (roundsRows (bookIn book index) text 65 (innerRunner (bookIn book index) text left) left minimum
+    (rowState (s₀ .units) (cellsOf store₀ (s₀ .cells)) (table rows₀))))
 
 abbrev left-recursion·rounds-μ-loop : left-recursion·rounds-lts.MeasureT-loop
 left-recursion·rounds-μ-loop book index text store₀ rows₀ left minimum s₀ round₀ store rows s round = 65 - round
@@ -256,15 +382,17 @@ left-recursion·rounds-loop-holds : (t : ℕ) → left-recursion·rounds-lts.Nee
     left-recursion·rounds-μ-loop
 left-recursion·rounds-loop-holds t c = (search needs, refl, refl, λ held. record { held = held; is = refl })
 
-left-recursion·rounds-one-run-requires : (t : ℕ) → left-recursion·rounds-lts.Need-one-run-requires (left-recursion·rounds-callees t)
-    (left-recursion·rounds-at t)
+left-recursion·rounds-one-run-requires : (t : ℕ) →
+    left-recursion·rounds-lts.Need-one-run-requires (left-recursion·rounds-callees t) (left-recursion·rounds-at t)
     left-recursion·rounds.Post
     left-recursion·rounds-Inv-loop
     left-recursion·rounds-μ-loop
 left-recursion·rounds-one-run-requires t c κs =
     let start = c .before .before .before .before .before .before .before .before .before in
-    let loop = c .before .before .before .loop in
-    (omega (arith, start .pre .0), (start .pre .1 .0, omega (arith, start .pre .1 .1, loop .inv .2), start .pre .1 .2, start .pre .1 .3))
+    let loop = c .before .before .before .loop in (
+      omega (arith, start .pre .0),
+      (start .pre .1 .0, omega (arith, start .pre .1 .1, loop .inv .2), start .pre .1 .2, start .pre .1 .3),
+    )
 
 left-recursion·rounds-after-round-requires :
     (t : ℕ) → left-recursion·rounds-lts.Need-after-round-requires (left-recursion·rounds-callees t)
@@ -273,28 +401,31 @@ left-recursion·rounds-after-round-requires :
     left-recursion·rounds-Inv-loop
     left-recursion·rounds-μ-loop
 left-recursion·rounds-after-round-requires t c κs =
-    let start = c .before .before .before .before .before .before .before .before .before .before .before .before .before .before .before in
+    let start = c .before .before .before .before .before .before .before .before .before .before .before .before
+    .before .before .before in
     let loop = c .before .before .before .before .before .before .before .before .before .loop in
     let one-run = c .before .before .before .before .before .one-run in
     (start .pre .1 .0, omega (arith, start .pre .1 .1, loop .inv .2, one-run .kept .1 .1 .1 .1 .0))
 
-left-recursion·rounds-same-length : (t : ℕ) → left-recursion·rounds-lts.Need-same-length (left-recursion·rounds-callees t)
-    (left-recursion·rounds-at t)
+left-recursion·rounds-same-length : (t : ℕ) →
+    left-recursion·rounds-lts.Need-same-length (left-recursion·rounds-callees t) (left-recursion·rounds-at t)
     left-recursion·rounds.Post
     left-recursion·rounds-Inv-loop
     left-recursion·rounds-μ-loop
 left-recursion·rounds-same-length t c =
-    let loop = c .before .before .before .before .before .before .before .before .before .before .before .before .before .before .before .loop in
+    let loop = c .before .before .before .before .before .before .before .before .before .before .before .before
+    .before .before .before .loop in
     let one-run = c .before .before .before .before .before .before .before .before .before .before .before .one-run in
     one-run .kept .1 .1 .1 .0 ∙ loop .inv .1
 
-left-recursion·rounds-same-length-2 : (t : ℕ) → left-recursion·rounds-lts.Need-same-length-2 (left-recursion·rounds-callees t)
-    (left-recursion·rounds-at t)
+left-recursion·rounds-same-length-2 : (t : ℕ) →
+    left-recursion·rounds-lts.Need-same-length-2 (left-recursion·rounds-callees t) (left-recursion·rounds-at t)
     left-recursion·rounds.Post
     left-recursion·rounds-Inv-loop
     left-recursion·rounds-μ-loop
 left-recursion·rounds-same-length-2 t c =
-    let loop = c .before .before .before .before .before .before .before .before .before .before .before .before .before .before .before .loop in
+    let loop = c .before .before .before .before .before .before .before .before .before .before .before .before
+    .before .before .before .loop in
     let one-run = c .before .before .before .before .before .before .before .before .before .before .before .one-run in
     let after-round = c .before .before .before .before .before .after-round in
     after-round .kept .0 ∙ one-run .kept .1 .1 .1 .1 .0 ∙ loop .inv .2
@@ -305,12 +436,15 @@ left-recursion·rounds-returns : (t : ℕ) → left-recursion·rounds-lts.Need-r
     left-recursion·rounds-Inv-loop
     left-recursion·rounds-μ-loop
 left-recursion·rounds-returns t c =
-    let loop = c .before .before .before .before .before .before .before .before .before .before .before .before .before .before .before .loop in
-    let loop-test = c .before .before .before .before .before .before .before .before .before .before .before .before .before .before .loop-test in
+    let loop = c .before .before .before .before .before .before .before .before .before .before .before .before
+    .before .before .before .loop in
+    let loop-test = c .before .before .before .before .before .before .before .before .before .before .before .before
+    .before .before .loop-test in
     let one-run = c .before .before .before .before .before .before .before .before .before .before .before .one-run in
     let after-round = c .before .before .before .before .before .after-round in
     let if1 = c .if1 in
-    rounds-over _ _ _ _ _ _ _ _ _ _ _ _ (loop .inv .3) _ _ _ _ _ (loop-test .taken) (one-run .ensures) (after-round .ensures) (not-true _ (if1 .taken))
+    rounds-over _ _ _ _ _ _ _ _ _ _ _ _ (loop .inv .3) _ _ _ _ _ (loop-test .taken) (one-run .ensures)
+    (after-round .ensures) (not-true _ (if1 .taken))
 
 left-recursion·rounds-add-round : (t : ℕ) → left-recursion·rounds-lts.Need-add-round (left-recursion·rounds-callees t)
     (left-recursion·rounds-at t)
@@ -318,7 +452,8 @@ left-recursion·rounds-add-round : (t : ℕ) → left-recursion·rounds-lts.Need
     left-recursion·rounds-Inv-loop
     left-recursion·rounds-μ-loop
 left-recursion·rounds-add-round t c =
-    let loop-test = c .before .before .before .before .before .before .before .before .before .before .before .before .before .before .before .loop-test in
+    let loop-test = c .before .before .before .before .before .before .before .before .before .before .before .before
+    .before .before .before .loop-test in
     omega (arith, loop-test .taken)
 
 left-recursion·rounds-loop-less : (t : ℕ) → left-recursion·rounds-lts.Need-loop-less (left-recursion·rounds-callees t)
@@ -327,7 +462,8 @@ left-recursion·rounds-loop-less : (t : ℕ) → left-recursion·rounds-lts.Need
     left-recursion·rounds-Inv-loop
     left-recursion·rounds-μ-loop
 left-recursion·rounds-loop-less t c =
-    let loop-test = c .before .before .before .before .before .before .before .before .before .before .before .before .before .before .before .loop-test in
+    let loop-test = c .before .before .before .before .before .before .before .before .before .before .before .before
+    .before .before .before .loop-test in
     omega (arith, loop-test .taken)
 
 left-recursion·rounds-loop-again : (t : ℕ) → left-recursion·rounds-lts.Need-loop-again (left-recursion·rounds-callees t)
@@ -336,12 +472,20 @@ left-recursion·rounds-loop-again : (t : ℕ) → left-recursion·rounds-lts.Nee
     left-recursion·rounds-Inv-loop
     left-recursion·rounds-μ-loop
 left-recursion·rounds-loop-again t c =
-    let loop = c .before .before .before .before .before .before .before .before .before .before .before .before .before .before .before .before .loop in
-    let loop-test = c .before .before .before .before .before .before .before .before .before .before .before .before .before .before .before .loop-test in
-    let one-run = c .before .before .before .before .before .before .before .before .before .before .before .before .one-run in
+    let loop = c .before .before .before .before .before .before .before .before .before .before .before .before .before
+    .before .before .before .loop in
+    let loop-test = c .before .before .before .before .before .before .before .before .before .before .before .before
+    .before .before .before .loop-test in
+    let one-run =
+    c .before .before .before .before .before .before .before .before .before .before .before .before .one-run in
     let after-round = c .before .before .before .before .before .before .after-round in
-    let if1 = c .before .if1 in
-    (omega (arith, loop-test .taken), one-run .kept .1 .1 .1 .0 ∙ loop .inv .1, after-round .kept .0 ∙ one-run .kept .1 .1 .1 .1 .0 ∙ loop .inv .2, rounds-again _ _ _ _ _ _ _ _ _ _ _ _ (loop .inv .3) _ _ _ _ _ (loop-test .taken) (one-run .ensures) (after-round .ensures) (not-false _ (if1 .left)))
+    let if1 = c .before .if1 in (
+      omega (arith, loop-test .taken),
+      one-run .kept .1 .1 .1 .0 ∙ loop .inv .1,
+      after-round .kept .0 ∙ one-run .kept .1 .1 .1 .1 .0 ∙ loop .inv .2,
+      rounds-again _ _ _ _ _ _ _ _ _ _ _ _ (loop .inv .3) _ _ _ _ _ (loop-test .taken) (one-run .ensures)
+          (after-round .ensures) (not-false _ (if1 .left)),
+    )
 
 left-recursion·rounds-without-failure-requires :
     (t : ℕ) → left-recursion·rounds-lts.Need-without-failure-requires (left-recursion·rounds-callees t)
@@ -351,15 +495,15 @@ left-recursion·rounds-without-failure-requires :
     left-recursion·rounds-μ-loop
 left-recursion·rounds-without-failure-requires t c κs = search needs
 
-left-recursion·rounds-same-length-3 : (t : ℕ) → left-recursion·rounds-lts.Need-same-length-3 (left-recursion·rounds-callees t)
-    (left-recursion·rounds-at t)
+left-recursion·rounds-same-length-3 : (t : ℕ) →
+    left-recursion·rounds-lts.Need-same-length-3 (left-recursion·rounds-callees t) (left-recursion·rounds-at t)
     left-recursion·rounds.Post
     left-recursion·rounds-Inv-loop
     left-recursion·rounds-μ-loop
 left-recursion·rounds-same-length-3 t c = (c .before .before .loop) .inv .1
 
-left-recursion·rounds-same-length-4 : (t : ℕ) → left-recursion·rounds-lts.Need-same-length-4 (left-recursion·rounds-callees t)
-    (left-recursion·rounds-at t)
+left-recursion·rounds-same-length-4 : (t : ℕ) →
+    left-recursion·rounds-lts.Need-same-length-4 (left-recursion·rounds-callees t) (left-recursion·rounds-at t)
     left-recursion·rounds.Post
     left-recursion·rounds-Inv-loop
     left-recursion·rounds-μ-loop
@@ -377,205 +521,323 @@ left-recursion·rounds-returns-2 t c =
     rounds-none _ _ _ _ _ _ _ _ _ _ _ _ (loop .inv .3) _ (without-failure .ensures) (loop-test .left)
 
 left-recursion·run-call-open-call-requires :
-    (t : ℕ) → left-recursion·run-call-lts.Need-open-call-requires (left-recursion·run-call-callees t) (left-recursion·run-call-at t) left-recursion·run-call.Post
+    (t : ℕ) →
+    left-recursion·run-call-lts.Need-open-call-requires (left-recursion·run-call-callees t)
+    (left-recursion·run-call-at t) left-recursion·run-call.Post
 left-recursion·run-call-open-call-requires t c κs =
     let start = c .before .before .before .before .before .before in
     (start .pre .1 .0, start .pre .1 .1)
 
 left-recursion·run-call-one-run-requires :
-    (t : ℕ) → left-recursion·run-call-lts.Need-one-run-requires (left-recursion·run-call-callees t) (left-recursion·run-call-at t) left-recursion·run-call.Post
+    (t : ℕ) →
+    left-recursion·run-call-lts.Need-one-run-requires (left-recursion·run-call-callees t) (left-recursion·run-call-at t)
+    left-recursion·run-call.Post
 left-recursion·run-call-one-run-requires t c κs =
     let start = c .before .before .before .before .before .before .before .before .before .before .before in
-    let open-call = c .before .before .before .before .open-call in
-    (omega (arith, start .pre .0), (start .pre .1 .0, omega (arith, start .pre .1 .1, open-call .kept .0), start .pre .1 .2, start .pre .1 .3))
+    let open-call = c .before .before .before .before .open-call in (
+      omega (arith, start .pre .0),
+      (start .pre .1 .0, omega (arith, start .pre .1 .1, open-call .kept .0), start .pre .1 .2, start .pre .1 .3),
+    )
 
 left-recursion·run-call-after-first-requires :
-    (t : ℕ) → left-recursion·run-call-lts.Need-after-first-requires (left-recursion·run-call-callees t) (left-recursion·run-call-at t) left-recursion·run-call.Post
+    (t : ℕ) →
+    left-recursion·run-call-lts.Need-after-first-requires (left-recursion·run-call-callees t)
+    (left-recursion·run-call-at t) left-recursion·run-call.Post
 left-recursion·run-call-after-first-requires t c κs =
-    let start = c .before .before .before .before .before .before .before .before .before .before .before .before .before .before .before .before .before in
+    let start = c .before .before .before .before .before .before .before .before .before .before .before .before
+    .before .before .before .before .before in
     let open-call = c .before .before .before .before .before .before .before .before .before .before .open-call in
     let one-run = c .before .before .before .before .before .one-run in
     (start .pre .1 .0, omega (arith, start .pre .1 .1, open-call .kept .0, one-run .kept .1 .1 .1 .1 .0))
 
-left-recursion·run-call-same-length : (t : ℕ) → left-recursion·run-call-lts.Need-same-length (left-recursion·run-call-callees t) (left-recursion·run-call-at t) left-recursion·run-call.Post
+left-recursion·run-call-same-length : (t : ℕ) →
+    left-recursion·run-call-lts.Need-same-length (left-recursion·run-call-callees t) (left-recursion·run-call-at t)
+    left-recursion·run-call.Post
 left-recursion·run-call-same-length t c =
     let one-run = c .before .before .before .before .before .before .before .before .before .before .before .one-run in
     one-run .kept .1 .1 .1 .0
 
-left-recursion·run-call-same-length-2 : (t : ℕ) → left-recursion·run-call-lts.Need-same-length-2 (left-recursion·run-call-callees t) (left-recursion·run-call-at t) left-recursion·run-call.Post
+left-recursion·run-call-same-length-2 : (t : ℕ) →
+    left-recursion·run-call-lts.Need-same-length-2 (left-recursion·run-call-callees t) (left-recursion·run-call-at t)
+    left-recursion·run-call.Post
 left-recursion·run-call-same-length-2 t c =
-    let open-call = c .before .before .before .before .before .before .before .before .before .before .before .before .before .before .before .before .open-call in
+    let open-call = c .before .before .before .before .before .before .before .before .before .before .before .before
+    .before .before .before .before .open-call in
     let one-run = c .before .before .before .before .before .before .before .before .before .before .before .one-run in
     let after-first = c .before .before .before .before .before .after-first in
     after-first .kept .0 ∙ one-run .kept .1 .1 .1 .1 .0 ∙ open-call .kept .0
 
-left-recursion·run-call-returns : (t : ℕ) → left-recursion·run-call-lts.Need-returns (left-recursion·run-call-callees t) (left-recursion·run-call-at t) left-recursion·run-call.Post
+left-recursion·run-call-returns : (t : ℕ) →
+    left-recursion·run-call-lts.Need-returns (left-recursion·run-call-callees t) (left-recursion·run-call-at t)
+    left-recursion·run-call.Post
 left-recursion·run-call-returns t c =
-    let open-call = c .before .before .before .before .before .before .before .before .before .before .before .before .before .before .before .before .open-call in
+    let open-call = c .before .before .before .before .before .before .before .before .before .before .before .before
+    .before .before .before .before .open-call in
     let one-run = c .before .before .before .before .before .before .before .before .before .before .before .one-run in
     let after-first = c .before .before .before .before .before .after-first in
     let if1 = c .if1 in
-    run-call-over _ _ _ _ _ _ _ _ _ _ _ _ _ _ _ _ (open-call .ensures) (one-run .ensures) (after-first .ensures) (not-true _ (if1 .taken))
+    run-call-over _ _ _ _ _ _ _ _ _ _ _ _ _ _ _ _ (open-call .ensures) (one-run .ensures) (after-first .ensures)
+    (not-true _ (if1 .taken))
 
 left-recursion·run-call-rounds-requires :
-    (t : ℕ) → left-recursion·run-call-lts.Need-rounds-requires (left-recursion·run-call-callees t) (left-recursion·run-call-at t) left-recursion·run-call.Post
+    (t : ℕ) →
+    left-recursion·run-call-lts.Need-rounds-requires (left-recursion·run-call-callees t) (left-recursion·run-call-at t)
+    left-recursion·run-call.Post
 left-recursion·run-call-rounds-requires t c κs =
-    let start = c .before .before .before .before .before .before .before .before .before .before .before .before .before .before .before .before .before .before .before .before .before .before .before .before .before in
-    let open-call = c .before .before .before .before .before .before .before .before .before .before .before .before .before .before .before .before .before .before .open-call in
-    let one-run = c .before .before .before .before .before .before .before .before .before .before .before .before .before .one-run in
-    let after-first = c .before .before .before .before .before .before .before .after-first in
-    (omega (arith, start .pre .0), (start .pre .1 .0, omega (arith, start .pre .1 .1, open-call .kept .0, one-run .kept .1 .1 .1 .1 .0, after-first .kept .0), start .pre .1 .2, start .pre .1 .3))
+    let start = c .before .before .before .before .before .before .before .before .before .before .before .before
+    .before .before .before .before .before .before .before .before .before .before .before .before .before in
+    let open-call = c .before .before .before .before .before .before .before .before .before .before .before .before
+    .before .before .before .before .before .before .open-call in
+    let one-run = c .before .before .before .before .before .before .before .before .before .before .before
+    .before .before .one-run in
+    let after-first = c .before .before .before .before .before .before .before .after-first in (
+      omega (arith, start .pre .0),
+      (
+        start .pre .1 .0,
+        omega (arith, start .pre .1 .1, open-call .kept .0, one-run .kept .1 .1 .1 .1 .0, after-first .kept .0),
+        start .pre .1 .2,
+        start .pre .1 .3,
+      ),
+    )
 
-left-recursion·run-call-same-length-3 : (t : ℕ) → left-recursion·run-call-lts.Need-same-length-3 (left-recursion·run-call-callees t) (left-recursion·run-call-at t) left-recursion·run-call.Post
+left-recursion·run-call-same-length-3 : (t : ℕ) →
+    left-recursion·run-call-lts.Need-same-length-3 (left-recursion·run-call-callees t) (left-recursion·run-call-at t)
+    left-recursion·run-call.Post
 left-recursion·run-call-same-length-3 t c =
-    let one-run = c .before .before .before .before .before .before .before .before .before .before .before .before .before .before .before .before .before .before .one-run in
+    let one-run = c .before .before .before .before .before .before .before .before .before .before .before .before
+    .before .before .before .before .before .before .one-run in
     let rounds = c .before .before .before .before .rounds in
     rounds .kept .1 .1 .1 .0 ∙ one-run .kept .1 .1 .1 .0
 
-left-recursion·run-call-same-length-4 : (t : ℕ) → left-recursion·run-call-lts.Need-same-length-4 (left-recursion·run-call-callees t) (left-recursion·run-call-at t) left-recursion·run-call.Post
+left-recursion·run-call-same-length-4 : (t : ℕ) →
+    left-recursion·run-call-lts.Need-same-length-4 (left-recursion·run-call-callees t) (left-recursion·run-call-at t)
+    left-recursion·run-call.Post
 left-recursion·run-call-same-length-4 t c =
-    let open-call = c .before .before .before .before .before .before .before .before .before .before .before .before .before .before .before .before .before .before .before .before .before .before .before .open-call in
-    let one-run = c .before .before .before .before .before .before .before .before .before .before .before .before .before .before .before .before .before .before .one-run in
-    let after-first = c .before .before .before .before .before .before .before .before .before .before .before .before .after-first in
+    let open-call = c .before .before .before .before .before .before .before .before .before .before .before .before
+    .before .before .before .before .before .before .before .before .before .before .before .open-call in
+    let one-run = c .before .before .before .before .before .before .before .before .before .before .before .before
+    .before .before .before .before .before .before .one-run in
+    let after-first =
+    c .before .before .before .before .before .before .before .before .before .before .before .before .after-first in
     let rounds = c .before .before .before .before .rounds in
     rounds .kept .1 .1 .1 .1 .0 ∙ after-first .kept .0 ∙ one-run .kept .1 .1 .1 .1 .0 ∙ open-call .kept .0
 
-left-recursion·run-call-returns-2 : (t : ℕ) → left-recursion·run-call-lts.Need-returns-2 (left-recursion·run-call-callees t) (left-recursion·run-call-at t) left-recursion·run-call.Post
+left-recursion·run-call-returns-2 : (t : ℕ) →
+    left-recursion·run-call-lts.Need-returns-2 (left-recursion·run-call-callees t) (left-recursion·run-call-at t)
+    left-recursion·run-call.Post
 left-recursion·run-call-returns-2 t c =
-    let open-call = c .before .before .before .before .before .before .before .before .before .before .before .before .before .before .before .before .before .before .before .before .before .before .before .open-call in
-    let one-run = c .before .before .before .before .before .before .before .before .before .before .before .before .before .before .before .before .before .before .one-run in
-    let after-first = c .before .before .before .before .before .before .before .before .before .before .before .before .after-first in
+    let open-call = c .before .before .before .before .before .before .before .before .before .before .before .before
+    .before .before .before .before .before .before .before .before .before .before .before .open-call in
+    let one-run = c .before .before .before .before .before .before .before .before .before .before .before .before
+    .before .before .before .before .before .before .one-run in
+    let after-first =
+    c .before .before .before .before .before .before .before .before .before .before .before .before .after-first in
     let if1 = c .before .before .before .before .before .before .before .if1 in
     let rounds = c .before .before .before .before .rounds in
-    run-call-rounds _ _ _ _ _ _ _ _ _ _ _ _ _ _ _ _ (open-call .ensures) (one-run .ensures) (after-first .ensures) _ _ _ (not-false _ (if1 .left)) (rounds .ensures)
+    run-call-rounds _ _ _ _ _ _ _ _ _ _ _ _ _ _ _ _ (open-call .ensures) (one-run .ensures) (after-first .ensures) _ _ _
+    (not-false _ (if1 .left)) (rounds .ensures)
 
-parser·choice-first-side-requires : (t : ℕ) → parser·choice-lts.Need-first-side-requires (parser·choice-callees t) (parser·choice-at t) parser·choice.Post
+parser·choice-first-side-requires : (t : ℕ) →
+    parser·choice-lts.Need-first-side-requires (parser·choice-callees t) (parser·choice-at t) parser·choice.Post
 parser·choice-first-side-requires t c κs = (c .before .before .before .before .before .before) .pre .1 .2
 
-parser·choice-steps-requires : (t : ℕ) → parser·choice-lts.Need-steps-requires (parser·choice-callees t) (parser·choice-at t) parser·choice.Post
+parser·choice-steps-requires : (t : ℕ) →
+    parser·choice-lts.Need-steps-requires (parser·choice-callees t) (parser·choice-at t) parser·choice.Post
 parser·choice-steps-requires t c κs =
     let start = c .before .before .before .before .before .before .before .before .before .before .before in
     (omega (arith, start .pre .0), (start .pre .1 .0, start .pre .1 .1, start .pre .1 .2, start .pre .1 .3))
 
-parser·choice-same-length : (t : ℕ) → parser·choice-lts.Need-same-length (parser·choice-callees t) (parser·choice-at t) parser·choice.Post
+parser·choice-same-length : (t : ℕ) →
+    parser·choice-lts.Need-same-length (parser·choice-callees t) (parser·choice-at t) parser·choice.Post
 parser·choice-same-length t c =
-    let first-side = c .before .before .before .before .before .before .before .before .before .before .before .first-side in
+    let first-side =
+    c .before .before .before .before .before .before .before .before .before .before .before .first-side in
     let steps = c .before .before .before .before .before .before .steps in
     steps .kept .1 .1 .1 .0 ∙ first-side .kept .1 .1 .1 .0
 
-parser·choice-same-length-2 : (t : ℕ) → parser·choice-lts.Need-same-length-2 (parser·choice-callees t) (parser·choice-at t) parser·choice.Post
+parser·choice-same-length-2 : (t : ℕ) →
+    parser·choice-lts.Need-same-length-2 (parser·choice-callees t) (parser·choice-at t) parser·choice.Post
 parser·choice-same-length-2 t c = (c .before .before .before .before .before .before .steps) .kept .1 .1 .1 .1 .0
 
-parser·choice-returns : (t : ℕ) → parser·choice-lts.Need-returns (parser·choice-callees t) (parser·choice-at t) parser·choice.Post
+parser·choice-returns : (t : ℕ) →
+    parser·choice-lts.Need-returns (parser·choice-callees t) (parser·choice-at t) parser·choice.Post
 parser·choice-returns t c =
-    let first-side = c .before .before .before .before .before .before .before .before .before .before .before .first-side in
+    let first-side =
+    c .before .before .before .before .before .before .before .before .before .before .before .first-side in
     let steps = c .before .before .before .before .before .before .steps in
     let if1 = c .if1 in
     choice-stopped _ _ _ _ _ _ _ _ _ _ _ _ _ _ _ _ _ _ _ (first-side .ensures) (steps .ensures) (if1 .taken)
 
-parser·choice-descend-requires : (t : ℕ) → parser·choice-lts.Need-descend-requires (parser·choice-callees t) (parser·choice-at t) parser·choice.Post
+parser·choice-descend-requires : (t : ℕ) →
+    parser·choice-lts.Need-descend-requires (parser·choice-callees t) (parser·choice-at t) parser·choice.Post
 parser·choice-descend-requires t c κs =
-    let start = c .before .before .before .before .before .before .before .before .before .before .before .before .before .before .before .before .before .before .before .before in
-    let steps = c .before .before .before .before .before .before .before .before .steps in
-    (omega (arith, start .pre .0), (start .pre .1 .0, omega (arith, start .pre .1 .1, steps .kept .1 .1 .1 .1 .0), start .pre .1 .2, start .pre .1 .3))
+    let start = c .before .before .before .before .before .before .before .before .before .before .before .before
+    .before .before .before .before .before .before .before .before in
+    let steps = c .before .before .before .before .before .before .before .before .steps in (
+      omega (arith, start .pre .0),
+      (
+        start .pre .1 .0,
+        omega (arith, start .pre .1 .1, steps .kept .1 .1 .1 .1 .0),
+        start .pre .1 .2,
+        start .pre .1 .3,
+      ),
+    )
 
-parser·choice-both-requires : (t : ℕ) → parser·choice-lts.Need-both-requires (parser·choice-callees t) (parser·choice-at t) parser·choice.Post
+parser·choice-both-requires : (t : ℕ) →
+    parser·choice-lts.Need-both-requires (parser·choice-callees t) (parser·choice-at t) parser·choice.Post
 parser·choice-both-requires t c κs =
-    let start = c .before .before .before .before .before .before .before .before .before .before .before .before .before .before .before .before .before .before .before .before .before .before .before .before .before .before in
-    let steps = c .before .before .before .before .before .before .before .before .before .before .before .before .before .before .steps in
-    let descend = c .before .before .before .before .before .descend in
-    ((start .pre .1 .3 .0, omega (arith, start .pre .1 .1, steps .kept .1 .1 .1 .1 .0, descend .kept .1 .1 .1 .1 .0)), start .pre .1 .2 .short)
+    let start = c .before .before .before .before .before .before .before .before .before .before .before .before
+    .before .before .before .before .before .before .before .before .before .before .before .before .before .before in
+    let steps = c .before .before .before .before .before .before .before .before .before .before .before .before
+    .before .before .steps in
+    let descend = c .before .before .before .before .before .descend in (
+      (start .pre .1 .3 .0, omega (arith, start .pre .1 .1, steps .kept .1 .1 .1 .1 .0, descend .kept .1 .1 .1 .1 .0)),
+      start .pre .1 .2 .short,
+    )
 
-parser·choice-same-length-3 : (t : ℕ) → parser·choice-lts.Need-same-length-3 (parser·choice-callees t) (parser·choice-at t) parser·choice.Post
+parser·choice-same-length-3 : (t : ℕ) →
+    parser·choice-lts.Need-same-length-3 (parser·choice-callees t) (parser·choice-at t) parser·choice.Post
 parser·choice-same-length-3 t c =
-    let first-side = c .before .before .before .before .before .before .before .before .before .before .before .before .before .before .before .before .before .before .before .before .first-side in
-    let steps = c .before .before .before .before .before .before .before .before .before .before .before .before .before .before .before .steps in
+    let first-side = c .before .before .before .before .before .before .before .before .before .before .before .before
+    .before .before .before .before .before .before .before .before .first-side in
+    let steps = c .before .before .before .before .before .before .before .before .before .before .before .before
+    .before .before .before .steps in
     let descend = c .before .before .before .before .before .before .descend in
     descend .kept .1 .1 .1 .0 ∙ steps .kept .1 .1 .1 .0 ∙ first-side .kept .1 .1 .1 .0
 
-parser·choice-same-length-4 : (t : ℕ) → parser·choice-lts.Need-same-length-4 (parser·choice-callees t) (parser·choice-at t) parser·choice.Post
+parser·choice-same-length-4 : (t : ℕ) →
+    parser·choice-lts.Need-same-length-4 (parser·choice-callees t) (parser·choice-at t) parser·choice.Post
 parser·choice-same-length-4 t c =
-    let steps = c .before .before .before .before .before .before .before .before .before .before .before .before .before .before .before .steps in
+    let steps = c .before .before .before .before .before .before .before .before .before .before .before .before
+    .before .before .before .steps in
     let descend = c .before .before .before .before .before .before .descend in
     descend .kept .1 .1 .1 .1 .0 ∙ steps .kept .1 .1 .1 .1 .0
 
-parser·choice-returns-2 : (t : ℕ) → parser·choice-lts.Need-returns-2 (parser·choice-callees t) (parser·choice-at t) parser·choice.Post
+parser·choice-returns-2 : (t : ℕ) →
+    parser·choice-lts.Need-returns-2 (parser·choice-callees t) (parser·choice-at t) parser·choice.Post
 parser·choice-returns-2 t c =
-    let first-side = c .before .before .before .before .before .before .before .before .before .before .before .before .before .before .before .before .before .before .before .before .first-side in
-    let steps = c .before .before .before .before .before .before .before .before .before .before .before .before .before .before .before .steps in
+    let first-side = c .before .before .before .before .before .before .before .before .before .before .before .before
+    .before .before .before .before .before .before .before .before .first-side in
+    let steps = c .before .before .before .before .before .before .before .before .before .before .before .before
+    .before .before .before .steps in
     let if1 = c .before .before .before .before .before .before .before .before .before .if1 in
     let descend = c .before .before .before .before .before .before .descend in
     let both = c .both in
-    choice-both _ _ _ _ _ _ _ _ _ _ _ _ _ _ _ _ _ _ _ (first-side .ensures) (steps .ensures) (if1 .left) _ _ _ _ (descend .ensures) (both .ensures)
+    choice-both _ _ _ _ _ _ _ _ _ _ _ _ _ _ _ _ _ _ _ (first-side .ensures) (steps .ensures) (if1 .left) _ _ _ _
+    (descend .ensures) (both .ensures)
 
-parser·descend-begin-child-requires : (t : ℕ) → parser·descend-lts.Need-begin-child-requires (parser·descend-callees t) (parser·descend-at t) parser·descend.Post
+parser·descend-begin-child-requires : (t : ℕ) →
+    parser·descend-lts.Need-begin-child-requires (parser·descend-callees t) (parser·descend-at t) parser·descend.Post
 parser·descend-begin-child-requires t c κs =
     let start = c .before .before .before .before .before .before in
     (start .pre .1 .3 .0, start .pre .1 .1, start .pre .1 .2 .short)
 
-parser·descend-enter-requires : (t : ℕ) → parser·descend-lts.Need-enter-requires (parser·descend-callees t) (parser·descend-at t) parser·descend.Post
+parser·descend-enter-requires : (t : ℕ) →
+    parser·descend-lts.Need-enter-requires (parser·descend-callees t) (parser·descend-at t) parser·descend.Post
 parser·descend-enter-requires t c κs =
     let start = c .before .before .before .before .before .before .before .before .before .before .before in
-    let begin-child = c .before .before .before .before .begin-child in
-    (omega (arith, start .pre .0), (start .pre .1 .0, omega (arith, start .pre .1 .1, begin-child .kept .1 .0), start .pre .1 .2))
+    let begin-child = c .before .before .before .before .begin-child in (
+      omega (arith, start .pre .0),
+      (start .pre .1 .0, omega (arith, start .pre .1 .1, begin-child .kept .1 .0), start .pre .1 .2),
+    )
 
-parser·descend-follow-requires : (t : ℕ) → parser·descend-lts.Need-follow-requires (parser·descend-callees t) (parser·descend-at t) parser·descend.Post
+parser·descend-follow-requires : (t : ℕ) →
+    parser·descend-lts.Need-follow-requires (parser·descend-callees t) (parser·descend-at t) parser·descend.Post
 parser·descend-follow-requires t c κs =
-    let start = c .before .before .before .before .before .before .before .before .before .before .before .before .before .before .before .before .before .before in
-    let begin-child = c .before .before .before .before .before .before .before .before .before .before .before .begin-child in
-    let enter = c .before .before .before .before .before .before .enter in
-    (omega (arith, start .pre .0), (start .pre .1 .0, omega (arith, start .pre .1 .1, begin-child .kept .1 .0, enter .kept .1 .1 .1 .1 .0), start .pre .1 .2, start .pre .1 .3))
+    let start = c .before .before .before .before .before .before .before .before .before .before .before .before
+    .before .before .before .before .before .before in
+    let begin-child =
+    c .before .before .before .before .before .before .before .before .before .before .before .begin-child in
+    let enter = c .before .before .before .before .before .before .enter in (
+      omega (arith, start .pre .0),
+      (
+        start .pre .1 .0,
+        omega (arith, start .pre .1 .1, begin-child .kept .1 .0, enter .kept .1 .1 .1 .1 .0),
+        start .pre .1 .2,
+        start .pre .1 .3,
+      ),
+    )
 
-parser·descend-same-length : (t : ℕ) → parser·descend-lts.Need-same-length (parser·descend-callees t) (parser·descend-at t) parser·descend.Post
+parser·descend-same-length : (t : ℕ) →
+    parser·descend-lts.Need-same-length (parser·descend-callees t) (parser·descend-at t) parser·descend.Post
 parser·descend-same-length t c =
     let enter = c .before .before .before .before .before .before .before .before .before .before .before .enter in
     let follow = c .before .before .before .before .follow in
     follow .kept .1 .1 .1 .0 ∙ enter .kept .1 .1 .1 .0
 
-parser·descend-same-length-2 : (t : ℕ) → parser·descend-lts.Need-same-length-2 (parser·descend-callees t) (parser·descend-at t) parser·descend.Post
+parser·descend-same-length-2 : (t : ℕ) →
+    parser·descend-lts.Need-same-length-2 (parser·descend-callees t) (parser·descend-at t) parser·descend.Post
 parser·descend-same-length-2 t c =
-    let begin-child = c .before .before .before .before .before .before .before .before .before .before .before .before .before .before .before .before .begin-child in
+    let begin-child = c .before .before .before .before .before .before .before .before .before .before .before .before
+    .before .before .before .before .begin-child in
     let enter = c .before .before .before .before .before .before .before .before .before .before .before .enter in
     let follow = c .before .before .before .before .follow in
     follow .kept .1 .1 .1 .1 .0 ∙ enter .kept .1 .1 .1 .1 .0 ∙ begin-child .kept .1 .0
 
-parser·descend-returns : (t : ℕ) → parser·descend-lts.Need-returns (parser·descend-callees t) (parser·descend-at t) parser·descend.Post
+parser·descend-returns : (t : ℕ) →
+    parser·descend-lts.Need-returns (parser·descend-callees t) (parser·descend-at t) parser·descend.Post
 parser·descend-returns t c =
-    let begin-child = c .before .before .before .before .before .before .before .before .before .before .before .before .before .before .before .before .begin-child in
+    let begin-child = c .before .before .before .before .before .before .before .before .before .before .before .before
+    .before .before .before .before .begin-child in
     let enter = c .before .before .before .before .before .before .before .before .before .before .before .enter in
     let follow = c .before .before .before .before .follow in
     descended _ _ _ _ _ _ _ _ _ _ _ _ _ _ _ _ _ _ _ _ _ _ (begin-child .ensures) (enter .ensures) (follow .ensures)
 
 abbrev parser·follow-Inv-loop : parser·follow-lts.InvT-loop
-parser·follow-Inv-loop book index text store₀ rows₀ left here next parses all₀ i₀ store rows all i = (i ≤ parses) × (length store ≡ length store₀) × (length rows ≡ length rows₀) × (all .limit ≡ 0) × (Held text store₀ (all₀ .state .cells) → Going text store (all .state .cells) (followFrom (bookIn book index) text (runnerRows (bookIn book index) text left) left (nextRows (bookIn book index) text (here .call) (here .variant) (todoAt (bookIn book index) here) next (here .items)) (parses - i) i (failureOf (failureAt all)) (rowState (all .state .units) (cellsOf store (all .state .cells)) (table rows))) (followFrom (bookIn book index) text (runnerRows (bookIn book index) text left) left (nextRows (bookIn book index) text (here .call) (here .variant) (todoAt (bookIn book index) here) next (here .items)) parses 0 (failureOf (failureAt all₀)) (rowState (all₀ .state .units) (cellsOf store₀ (all₀ .state .cells)) (table rows₀))))
+parser·follow-Inv-loop book index text store₀ rows₀ left here next parses all₀ i₀ store rows all i =
+    (i ≤ parses) × (length store ≡ length store₀) × (length rows ≡ length rows₀) × (all .limit ≡ 0) ×
+    (Held text store₀ (all₀ .state .cells) → Going text store (all .state .cells)
+    (followFrom (bookIn book index) text (runnerRows (bookIn book index) text left) left (nextRows (bookIn book index)
+    text (here .call) (here .variant) (todoAt (bookIn book index) here) next (here .items)) (parses - i) i
+    (failureOf (failureAt all)) (rowState (all .state .units) (cellsOf store (all .state .cells)) (table rows)))
+    (followFrom (bookIn book index) text (runnerRows (bookIn book index) text left) left (nextRows (bookIn book index)
+    text (here .call) (here .variant) (todoAt (bookIn book index) here) next (here .items)) parses 0
+    (failureOf (failureAt all₀)) (rowState (all₀ .state .units) (cellsOf store₀ (all₀ .state .cells)) (table rows₀))))
 
 abbrev parser·follow-μ-loop : parser·follow-lts.MeasureT-loop
 parser·follow-μ-loop book index text store₀ rows₀ left here next parses all₀ i₀ store rows all i = parses - i
 
-parser·follow-returns : (t : ℕ) → parser·follow-lts.Need-returns (parser·follow-callees t) (parser·follow-at t) parser·follow.Post parser·follow-Inv-loop parser·follow-μ-loop
+parser·follow-returns : (t : ℕ) →
+    parser·follow-lts.Need-returns (parser·follow-callees t) (parser·follow-at t) parser·follow.Post
+    parser·follow-Inv-loop parser·follow-μ-loop
 parser·follow-returns t c =
     let goes-on = c .before .goes-on in
     let if1 = c .if1 in
     follow-ended _ _ _ _ _ _ _ _ _ _ _ _ (sym (goes-on .ensures) ∙ not-true _ (if1 .taken))
 
-parser·follow-parse-count-requires : (t : ℕ) → parser·follow-lts.Need-parse-count-requires (parser·follow-callees t) (parser·follow-at t) parser·follow.Post parser·follow-Inv-loop parser·follow-μ-loop
+parser·follow-parse-count-requires : (t : ℕ) →
+    parser·follow-lts.Need-parse-count-requires (parser·follow-callees t) (parser·follow-at t) parser·follow.Post
+    parser·follow-Inv-loop parser·follow-μ-loop
 parser·follow-parse-count-requires t c κs =
     let start = c .before .before .before .before .before .before .before .before in
     (start .pre .1 .0, start .pre .1 .1)
 
-parser·follow-loop-holds : (t : ℕ) → parser·follow-lts.Need-loop-holds (parser·follow-callees t) (parser·follow-at t) parser·follow.Post parser·follow-Inv-loop parser·follow-μ-loop
+parser·follow-loop-holds : (t : ℕ) →
+    parser·follow-lts.Need-loop-holds (parser·follow-callees t) (parser·follow-at t) parser·follow.Post
+    parser·follow-Inv-loop parser·follow-μ-loop
 parser·follow-loop-holds t c =
     let goes-on = c .before .before .before .goes-on in
-    let if1 = c .before .before .if1 in
-    (search needs, refl, refl, goes-without-limit _ (sym (goes-on .ensures) ∙ not-false _ (if1 .left)), λ held. record { held = held; is = rw sub-zero })
+    let if1 = c .before .before .if1 in (
+      search needs,
+      refl,
+      refl,
+      goes-without-limit _ (sym (goes-on .ensures) ∙ not-false _ (if1 .left)),
+      λ held. record { held = held; is = rw sub-zero },
+    )
 
-parser·follow-same-length : (t : ℕ) → parser·follow-lts.Need-same-length (parser·follow-callees t) (parser·follow-at t) parser·follow.Post parser·follow-Inv-loop parser·follow-μ-loop
+parser·follow-same-length : (t : ℕ) →
+    parser·follow-lts.Need-same-length (parser·follow-callees t) (parser·follow-at t) parser·follow.Post
+    parser·follow-Inv-loop parser·follow-μ-loop
 parser·follow-same-length t c = (c .before .before .before .before .loop) .inv .1
 
-parser·follow-same-length-2 : (t : ℕ) → parser·follow-lts.Need-same-length-2 (parser·follow-callees t) (parser·follow-at t) parser·follow.Post parser·follow-Inv-loop parser·follow-μ-loop
+parser·follow-same-length-2 : (t : ℕ) →
+    parser·follow-lts.Need-same-length-2 (parser·follow-callees t) (parser·follow-at t) parser·follow.Post
+    parser·follow-Inv-loop parser·follow-μ-loop
 parser·follow-same-length-2 t c = (c .before .before .before .before .loop) .inv .2
 
-parser·follow-returns-2 : (t : ℕ) → parser·follow-lts.Need-returns-2 (parser·follow-callees t) (parser·follow-at t) parser·follow.Post parser·follow-Inv-loop parser·follow-μ-loop
+parser·follow-returns-2 : (t : ℕ) →
+    parser·follow-lts.Need-returns-2 (parser·follow-callees t) (parser·follow-at t) parser·follow.Post
+    parser·follow-Inv-loop parser·follow-μ-loop
 parser·follow-returns-2 t c =
     let goes-on = c .before .before .before .before .before .before .before .before .goes-on in
     let if1 = c .before .before .before .before .before .before .before .if1 in
@@ -584,188 +846,334 @@ parser·follow-returns-2 t c =
     let loop-test = c .before .before .before .loop-test in
     let if2 = c .before .if2 in
     let without-failure = c .without-failure in
-    follow-whole _ _ _ _ _ _ _ _ _ _ _ _ _ _ _ _ (sym (goes-on .ensures) ∙ not-false _ (if1 .left)) (parse-count .ensures) (follow-deep _ _ _ _ _ _ _ _ _ _ _ _ _ _ (table (loop .rows)) (loop .all) (loop .inv .4) _ (without-failure .ensures) (loop-test .taken) (if2 .taken))
+    follow-whole _ _ _ _ _ _ _ _ _ _ _ _ _ _ _ _
+    (sym (goes-on .ensures) ∙ not-false _ (if1 .left)) (parse-count .ensures)
+    (follow-deep _ _ _ _ _ _ _ _ _ _ _ _ _ _ (table (loop .rows)) (loop .all) (loop .inv .4) _
+    (without-failure .ensures) (loop-test .taken) (if2 .taken))
 
-parser·follow-nth-parse-requires : (t : ℕ) → parser·follow-lts.Need-nth-parse-requires (parser·follow-callees t) (parser·follow-at t) parser·follow.Post parser·follow-Inv-loop parser·follow-μ-loop
+parser·follow-nth-parse-requires : (t : ℕ) →
+    parser·follow-lts.Need-nth-parse-requires (parser·follow-callees t) (parser·follow-at t) parser·follow.Post
+    parser·follow-Inv-loop parser·follow-μ-loop
 parser·follow-nth-parse-requires t c κs =
-    let start = c .before .before .before .before .before .before .before .before .before .before .before .before .before .before in
+    let start =
+    c .before .before .before .before .before .before .before .before .before .before .before .before .before .before in
     let loop = c .before .before .before .before .loop in
     (start .pre .1 .0, omega (arith, start .pre .1 .1, loop .inv .2))
 
-parser·follow-next-of-requires : (t : ℕ) → parser·follow-lts.Need-next-of-requires (parser·follow-callees t) (parser·follow-at t) parser·follow.Post parser·follow-Inv-loop parser·follow-μ-loop
+parser·follow-next-of-requires : (t : ℕ) →
+    parser·follow-lts.Need-next-of-requires (parser·follow-callees t) (parser·follow-at t) parser·follow.Post
+    parser·follow-Inv-loop parser·follow-μ-loop
 parser·follow-next-of-requires t c κs =
-    let start = c .before .before .before .before .before .before .before .before .before .before .before .before .before .before .before .before in
+    let start = c .before .before .before .before .before .before .before .before .before .before .before .before
+    .before .before .before .before in
     start .pre .1 .2
 
-parser·follow-sub-inner : (t : ℕ) → parser·follow-lts.Need-sub-inner (parser·follow-callees t) (parser·follow-at t) parser·follow.Post parser·follow-Inv-loop parser·follow-μ-loop
+parser·follow-sub-inner : (t : ℕ) →
+    parser·follow-lts.Need-sub-inner (parser·follow-callees t) (parser·follow-at t) parser·follow.Post
+    parser·follow-Inv-loop parser·follow-μ-loop
 parser·follow-sub-inner t c = omega (arith, (c .before .before .before .before .before .before .if2) .left)
 
-parser·follow-steps-requires : (t : ℕ) → parser·follow-lts.Need-steps-requires (parser·follow-callees t) (parser·follow-at t) parser·follow.Post parser·follow-Inv-loop parser·follow-μ-loop
+parser·follow-steps-requires : (t : ℕ) →
+    parser·follow-lts.Need-steps-requires (parser·follow-callees t) (parser·follow-at t) parser·follow.Post
+    parser·follow-Inv-loop parser·follow-μ-loop
 parser·follow-steps-requires t c κs =
-    let start = c .before .before .before .before .before .before .before .before .before .before .before .before .before .before .before .before .before .before .before .before .before in
+    let start = c .before .before .before .before .before .before .before .before .before .before .before .before
+    .before .before .before .before .before .before .before .before .before in
     let loop = c .before .before .before .before .before .before .before .before .before .before .before .loop in
     let if2 = c .before .before .before .before .before .before .before .before .if2 in
-    let next-of = c .before .before .before .before .next-of in
-    (omega (arith, start .pre .0, if2 .left, start .pre .1 .3 .1, rank-few (next-of .result .doing)), (omega (arith, start .pre .1 .0), omega (arith, start .pre .1 .1, loop .inv .2), start .pre .1 .2, start .pre .1 .3))
+    let next-of = c .before .before .before .before .next-of in (
+      omega (arith, start .pre .0, if2 .left, start .pre .1 .3 .1, rank-few (next-of .result .doing)),
+      (
+        omega (arith, start .pre .1 .0),
+        omega (arith, start .pre .1 .1, loop .inv .2),
+        start .pre .1 .2,
+        start .pre .1 .3,
+      ),
+    )
 
-parser·follow-same-length-3 : (t : ℕ) → parser·follow-lts.Need-same-length-3 (parser·follow-callees t) (parser·follow-at t) parser·follow.Post parser·follow-Inv-loop parser·follow-μ-loop
+parser·follow-same-length-3 : (t : ℕ) →
+    parser·follow-lts.Need-same-length-3 (parser·follow-callees t) (parser·follow-at t) parser·follow.Post
+    parser·follow-Inv-loop parser·follow-μ-loop
 parser·follow-same-length-3 t c =
-    let loop = c .before .before .before .before .before .before .before .before .before .before .before .before .before .before .before .before .before .before .before .loop in
-    let next-of = c .before .before .before .before .before .before .before .before .before .before .before .before .next-of in
+    let loop = c .before .before .before .before .before .before .before .before .before .before .before .before .before
+    .before .before .before .before .before .before .loop in
+    let next-of =
+    c .before .before .before .before .before .before .before .before .before .before .before .before .next-of in
     let steps = c .before .before .before .before .before .before .before .steps in
     steps .kept .1 .1 .1 .0 ∙ next-of .kept .1 .1 .1 .0 ∙ loop .inv .1
 
-parser·follow-same-length-4 : (t : ℕ) → parser·follow-lts.Need-same-length-4 (parser·follow-callees t) (parser·follow-at t) parser·follow.Post parser·follow-Inv-loop parser·follow-μ-loop
+parser·follow-same-length-4 : (t : ℕ) →
+    parser·follow-lts.Need-same-length-4 (parser·follow-callees t) (parser·follow-at t) parser·follow.Post
+    parser·follow-Inv-loop parser·follow-μ-loop
 parser·follow-same-length-4 t c =
-    let loop = c .before .before .before .before .before .before .before .before .before .before .before .before .before .before .before .before .before .before .before .loop in
+    let loop = c .before .before .before .before .before .before .before .before .before .before .before .before .before
+    .before .before .before .before .before .before .loop in
     let steps = c .before .before .before .before .before .before .before .steps in
     steps .kept .1 .1 .1 .1 .0 ∙ loop .inv .2
 
-parser·follow-returns-3 : (t : ℕ) → parser·follow-lts.Need-returns-3 (parser·follow-callees t) (parser·follow-at t) parser·follow.Post parser·follow-Inv-loop parser·follow-μ-loop
+parser·follow-returns-3 : (t : ℕ) →
+    parser·follow-lts.Need-returns-3 (parser·follow-callees t) (parser·follow-at t) parser·follow.Post
+    parser·follow-Inv-loop parser·follow-μ-loop
 parser·follow-returns-3 t c =
-    let goes-on = c .before .before .before .before .before .before .before .before .before .before .before .before .before .before .before .before .before .before .before .before .before .before .before .goes-on in
-    let if1 = c .before .before .before .before .before .before .before .before .before .before .before .before .before .before .before .before .before .before .before .before .before .before .if1 in
-    let parse-count = c .before .before .before .before .before .before .before .before .before .before .before .before .before .before .before .before .before .before .before .before .parse-count in
-    let loop = c .before .before .before .before .before .before .before .before .before .before .before .before .before .before .before .before .before .before .before .loop in
-    let loop-test = c .before .before .before .before .before .before .before .before .before .before .before .before .before .before .before .before .before .before .loop-test in
-    let if2 = c .before .before .before .before .before .before .before .before .before .before .before .before .before .before .before .before .if2 in
-    let nth-parse = c .before .before .before .before .before .before .before .before .before .before .before .before .before .before .nth-parse in
-    let next-of = c .before .before .before .before .before .before .before .before .before .before .before .before .next-of in
+    let goes-on = c .before .before .before .before .before .before .before .before .before .before .before .before
+    .before .before .before .before .before .before .before .before .before .before .before .goes-on in
+    let if1 = c .before .before .before .before .before .before .before .before .before .before .before .before .before
+    .before .before .before .before .before .before .before .before .before .if1 in
+    let parse-count = c .before .before .before .before .before .before .before .before .before .before .before .before
+    .before .before .before .before .before .before .before .before .parse-count in
+    let loop = c .before .before .before .before .before .before .before .before .before .before .before .before .before
+    .before .before .before .before .before .before .loop in
+    let loop-test = c .before .before .before .before .before .before .before .before .before .before .before .before
+    .before .before .before .before .before .before .loop-test in
+    let if2 = c .before .before .before .before .before .before .before .before .before .before .before .before .before
+    .before .before .before .if2 in
+    let nth-parse = c .before .before .before .before .before .before .before .before .before .before .before .before
+    .before .before .nth-parse in
+    let next-of =
+    c .before .before .before .before .before .before .before .before .before .before .before .before .next-of in
     let steps = c .before .before .before .before .before .before .before .steps in
     let joined = c .before .before .joined in
     let if3 = c .if3 in
-    follow-whole _ _ _ _ _ _ _ _ _ _ _ _ _ _ _ _ (sym (goes-on .ensures) ∙ not-false _ (if1 .left)) (parse-count .ensures) (follow-stop _ _ _ _ _ _ _ _ _ _ _ _ _ _ (table (loop .rows)) (loop .all) (loop .inv .4) (loop-test .taken) (if2 .left) _ (nth-parse .ensures) _ _ _ _ _ _ (next-of .ensures) (steps .ensures) (joined .ensures) (if3 .taken))
+    follow-whole _ _ _ _ _ _ _ _ _ _ _ _ _ _ _ _
+    (sym (goes-on .ensures) ∙ not-false _ (if1 .left)) (parse-count .ensures)
+    (follow-stop _ _ _ _ _ _ _ _ _ _ _ _ _ _ (table (loop .rows)) (loop .all) (loop .inv .4) (loop-test .taken)
+    (if2 .left) _ (nth-parse .ensures) _ _ _ _ _ _ (next-of .ensures) (steps .ensures) (joined .ensures) (if3 .taken))
 
-parser·follow-add-i : (t : ℕ) → parser·follow-lts.Need-add-i (parser·follow-callees t) (parser·follow-at t) parser·follow.Post parser·follow-Inv-loop parser·follow-μ-loop
+parser·follow-add-i : (t : ℕ) →
+    parser·follow-lts.Need-add-i (parser·follow-callees t) (parser·follow-at t) parser·follow.Post
+    parser·follow-Inv-loop parser·follow-μ-loop
 parser·follow-add-i t c =
-    let parse-count = c .before .before .before .before .before .before .before .before .before .before .before .before .before .before .before .before .before .before .before .before .parse-count in
-    let loop-test = c .before .before .before .before .before .before .before .before .before .before .before .before .before .before .before .before .before .before .loop-test in
+    let parse-count = c .before .before .before .before .before .before .before .before .before .before .before .before
+    .before .before .before .before .before .before .before .before .parse-count in
+    let loop-test = c .before .before .before .before .before .before .before .before .before .before .before .before
+    .before .before .before .before .before .before .loop-test in
     omega (arith, loop-test .taken, parse-count .ok)
 
-parser·follow-loop-less : (t : ℕ) → parser·follow-lts.Need-loop-less (parser·follow-callees t) (parser·follow-at t) parser·follow.Post parser·follow-Inv-loop parser·follow-μ-loop
+parser·follow-loop-less : (t : ℕ) →
+    parser·follow-lts.Need-loop-less (parser·follow-callees t) (parser·follow-at t) parser·follow.Post
+    parser·follow-Inv-loop parser·follow-μ-loop
 parser·follow-loop-less t c =
-    let loop-test = c .before .before .before .before .before .before .before .before .before .before .before .before .before .before .before .before .before .before .loop-test in
+    let loop-test = c .before .before .before .before .before .before .before .before .before .before .before .before
+    .before .before .before .before .before .before .loop-test in
     omega (arith, loop-test .taken)
 
-parser·follow-loop-again : (t : ℕ) → parser·follow-lts.Need-loop-again (parser·follow-callees t) (parser·follow-at t) parser·follow.Post parser·follow-Inv-loop parser·follow-μ-loop
+parser·follow-loop-again : (t : ℕ) →
+    parser·follow-lts.Need-loop-again (parser·follow-callees t) (parser·follow-at t) parser·follow.Post
+    parser·follow-Inv-loop parser·follow-μ-loop
 parser·follow-loop-again t c =
-    let loop = c .before .before .before .before .before .before .before .before .before .before .before .before .before .before .before .before .before .before .before .loop in
-    let loop-test = c .before .before .before .before .before .before .before .before .before .before .before .before .before .before .before .before .before .before .loop-test in
-    let if2 = c .before .before .before .before .before .before .before .before .before .before .before .before .before .before .before .before .if2 in
-    let nth-parse = c .before .before .before .before .before .before .before .before .before .before .before .before .before .before .nth-parse in
-    let next-of = c .before .before .before .before .before .before .before .before .before .before .before .before .next-of in
+    let loop = c .before .before .before .before .before .before .before .before .before .before .before .before .before
+    .before .before .before .before .before .before .loop in
+    let loop-test = c .before .before .before .before .before .before .before .before .before .before .before .before
+    .before .before .before .before .before .before .loop-test in
+    let if2 = c .before .before .before .before .before .before .before .before .before .before .before .before .before
+    .before .before .before .if2 in
+    let nth-parse = c .before .before .before .before .before .before .before .before .before .before .before .before
+    .before .before .nth-parse in
+    let next-of =
+    c .before .before .before .before .before .before .before .before .before .before .before .before .next-of in
     let steps = c .before .before .before .before .before .before .before .steps in
     let joined = c .before .before .joined in
-    let if3 = c .if3 in
-    (omega (arith, loop-test .taken), steps .kept .1 .1 .1 .0 ∙ next-of .kept .1 .1 .1 .0 ∙ loop .inv .1, steps .kept .1 .1 .1 .1 .0 ∙ loop .inv .2, if3 .left, follow-again _ _ _ _ _ _ _ _ _ _ _ _ _ _ (table (loop .rows)) (loop .all) (loop .inv .4) (loop-test .taken) (if2 .left) _ (nth-parse .ensures) _ _ _ _ _ _ (next-of .ensures) (steps .ensures) (joined .ensures) (if3 .left))
+    let if3 = c .if3 in (
+      omega (arith, loop-test .taken),
+      steps .kept .1 .1 .1 .0 ∙ next-of .kept .1 .1 .1 .0 ∙ loop .inv .1,
+      steps .kept .1 .1 .1 .1 .0 ∙ loop .inv .2,
+      if3 .left,
+      follow-again _ _ _ _ _ _ _ _ _ _ _ _ _ _ (table (loop .rows)) (loop .all) (loop .inv .4) (loop-test .taken)
+          (if2 .left) _ (nth-parse .ensures) _ _ _ _ _ _ (next-of .ensures) (steps .ensures)
+          (joined .ensures) (if3 .left),
+    )
 
-parser·follow-same-length-5 : (t : ℕ) → parser·follow-lts.Need-same-length-5 (parser·follow-callees t) (parser·follow-at t) parser·follow.Post parser·follow-Inv-loop parser·follow-μ-loop
+parser·follow-same-length-5 : (t : ℕ) →
+    parser·follow-lts.Need-same-length-5 (parser·follow-callees t) (parser·follow-at t) parser·follow.Post
+    parser·follow-Inv-loop parser·follow-μ-loop
 parser·follow-same-length-5 t c = (c .before .loop) .inv .1
 
-parser·follow-same-length-6 : (t : ℕ) → parser·follow-lts.Need-same-length-6 (parser·follow-callees t) (parser·follow-at t) parser·follow.Post parser·follow-Inv-loop parser·follow-μ-loop
+parser·follow-same-length-6 : (t : ℕ) →
+    parser·follow-lts.Need-same-length-6 (parser·follow-callees t) (parser·follow-at t) parser·follow.Post
+    parser·follow-Inv-loop parser·follow-μ-loop
 parser·follow-same-length-6 t c = (c .before .loop) .inv .2
 
-parser·follow-returns-4 : (t : ℕ) → parser·follow-lts.Need-returns-4 (parser·follow-callees t) (parser·follow-at t) parser·follow.Post parser·follow-Inv-loop parser·follow-μ-loop
+parser·follow-returns-4 : (t : ℕ) →
+    parser·follow-lts.Need-returns-4 (parser·follow-callees t) (parser·follow-at t) parser·follow.Post
+    parser·follow-Inv-loop parser·follow-μ-loop
 parser·follow-returns-4 t c =
     let goes-on = c .before .before .before .before .before .goes-on in
     let if1 = c .before .before .before .before .if1 in
     let parse-count = c .before .before .parse-count in
     let loop = c .before .loop in
     let loop-test = c .loop-test in
-    follow-whole _ _ _ _ _ _ _ _ _ _ _ _ _ _ _ _ (sym (goes-on .ensures) ∙ not-false _ (if1 .left)) (parse-count .ensures) (follow-end _ _ _ _ _ _ _ _ _ _ _ _ _ _ (table (loop .rows)) (loop .all) (loop .inv .4) (loop-test .left) (loop .inv .3))
+    follow-whole _ _ _ _ _ _ _ _ _ _ _ _ _ _ _ _
+    (sym (goes-on .ensures) ∙ not-false _ (if1 .left)) (parse-count .ensures)
+    (follow-end _ _ _ _ _ _ _ _ _ _ _ _ _ _ (table (loop .rows)) (loop .all) (loop .inv .4)
+    (loop-test .left) (loop .inv .3))
 
 abbrev parser·one-run-Inv-loop : parser·one-run-lts.InvT-loop
-parser·one-run-Inv-loop book index text store₀ rows₀ left minimum nonterminal called o₀ k₀ store rows o k = (k ≤ called .count) × (length store ≡ length store₀) × (length rows ≡ length rows₀) × (o .limit ≡ 0) × (Held text store₀ (o₀ .state .cells) → Going text store (o .state .cells) (variantsRows (bookIn book index) text (innerRunner (bookIn book index) text left) left minimum (called .count - k) (called .first + k) (failureOf (failureAt o)) (rowState (o .state .units) (cellsOf store (o .state .cells)) (table rows))) (variantsRows (bookIn book index) text (innerRunner (bookIn book index) text left) left minimum (called .count) (called .first) (failureOf (failureAt o₀)) (rowState (o₀ .state .units) (cellsOf store₀ (o₀ .state .cells)) (table rows₀))))
+parser·one-run-Inv-loop book index text store₀ rows₀ left minimum nonterminal called o₀ k₀ store rows o k =
+    (k ≤ called .count) × (length store ≡ length store₀) × (length rows ≡ length rows₀) × (o .limit ≡ 0) ×
+    (Held text store₀ (o₀ .state .cells) → Going text store (o .state .cells) (variantsRows (bookIn book index) text
+    (innerRunner (bookIn book index) text left) left minimum (called .count - k) (called .first + k)
+    (failureOf (failureAt o)) (rowState (o .state .units) (cellsOf store (o .state .cells)) (table rows)))
+    (variantsRows (bookIn book index) text (innerRunner (bookIn book index) text left) left minimum (called .count)
+    (called .first) (failureOf (failureAt o₀))
+    (rowState (o₀ .state .units) (cellsOf store₀ (o₀ .state .cells)) (table rows₀))))
 
 abbrev parser·one-run-μ-loop : parser·one-run-lts.MeasureT-loop
-parser·one-run-μ-loop book index text store₀ rows₀ left minimum nonterminal called o₀ k₀ store rows o k = called .count - k
+parser·one-run-μ-loop book index text store₀ rows₀ left minimum nonterminal called o₀ k₀ store rows o k =
+    called .count - k
 
-parser·one-run-nonterminal-of-requires : (t : ℕ) → parser·one-run-lts.Need-nonterminal-of-requires (parser·one-run-callees t) (parser·one-run-at t) parser·one-run.Post parser·one-run-Inv-loop parser·one-run-μ-loop
+parser·one-run-nonterminal-of-requires : (t : ℕ) →
+    parser·one-run-lts.Need-nonterminal-of-requires (parser·one-run-callees t) (parser·one-run-at t) parser·one-run.Post
+    parser·one-run-Inv-loop parser·one-run-μ-loop
 parser·one-run-nonterminal-of-requires t c κs =
     let start = c .before .before .before .before .before .before in
     (start .pre .1 .0, start .pre .1 .1)
 
-parser·one-run-clear-run-requires : (t : ℕ) → parser·one-run-lts.Need-clear-run-requires (parser·one-run-callees t) (parser·one-run-at t) parser·one-run.Post parser·one-run-Inv-loop parser·one-run-μ-loop
+parser·one-run-clear-run-requires : (t : ℕ) →
+    parser·one-run-lts.Need-clear-run-requires (parser·one-run-callees t) (parser·one-run-at t) parser·one-run.Post
+    parser·one-run-Inv-loop parser·one-run-μ-loop
 parser·one-run-clear-run-requires t c κs =
     let start = c .before .before .before .before .before .before .before .before in
     (start .pre .1 .0, start .pre .1 .1)
 
-parser·one-run-loop-holds : (t : ℕ) → parser·one-run-lts.Need-loop-holds (parser·one-run-callees t) (parser·one-run-at t) parser·one-run.Post parser·one-run-Inv-loop parser·one-run-μ-loop
-parser·one-run-loop-holds t c = (search needs, refl, refl, ap (λ o. o .limit) ((c .done) .ensures), λ held. record { held = held; is = rw (sub-zero, add-zero) })
+parser·one-run-loop-holds : (t : ℕ) →
+    parser·one-run-lts.Need-loop-holds (parser·one-run-callees t) (parser·one-run-at t) parser·one-run.Post
+    parser·one-run-Inv-loop parser·one-run-μ-loop
+parser·one-run-loop-holds t c = (
+  search needs,
+  refl,
+  refl,
+  ap (λ o. o .limit) ((c .done) .ensures),
+  λ held. record { held = held; is = rw (sub-zero, add-zero) },
+)
 
-parser·one-run-add-j : (t : ℕ) → parser·one-run-lts.Need-add-j (parser·one-run-callees t) (parser·one-run-at t) parser·one-run.Post parser·one-run-Inv-loop parser·one-run-μ-loop
+parser·one-run-add-j : (t : ℕ) →
+    parser·one-run-lts.Need-add-j (parser·one-run-callees t) (parser·one-run-at t) parser·one-run.Post
+    parser·one-run-Inv-loop parser·one-run-μ-loop
 parser·one-run-add-j t c =
-    let start = c .before .before .before .before .before .before .before .before .before .before .before .before .before .before .before .before .before in
+    let start = c .before .before .before .before .before .before .before .before .before .before .before .before
+    .before .before .before .before .before in
     let nonterminal = c .before .before .before .before .before .nonterminal in
     let if1 = c .before .if1 in
     omega (arith, variants-fit _ _ _ _ _ (start .pre .1 .2) (nonterminal .ensures) (if1 .taken))
 
-parser·one-run-cast-j : (t : ℕ) → parser·one-run-lts.Need-cast-j (parser·one-run-callees t) (parser·one-run-at t) parser·one-run.Post parser·one-run-Inv-loop parser·one-run-μ-loop
+parser·one-run-cast-j : (t : ℕ) →
+    parser·one-run-lts.Need-cast-j (parser·one-run-callees t) (parser·one-run-at t) parser·one-run.Post
+    parser·one-run-Inv-loop parser·one-run-μ-loop
 parser·one-run-cast-j t c =
-    let start = c .before .before .before .before .before .before .before .before .before .before .before .before .before .before .before .before .before in
+    let start = c .before .before .before .before .before .before .before .before .before .before .before .before
+    .before .before .before .before .before in
     let nonterminal = c .before .before .before .before .before .nonterminal in
     let if1 = c .before .if1 in
     omega (arith, variants-fit _ _ _ _ _ (start .pre .1 .2) (nonterminal .ensures) (if1 .taken))
 
-parser·one-run-variant-requires : (t : ℕ) → parser·one-run-lts.Need-variant-requires (parser·one-run-callees t) (parser·one-run-at t) parser·one-run.Post parser·one-run-Inv-loop parser·one-run-μ-loop
+parser·one-run-variant-requires : (t : ℕ) →
+    parser·one-run-lts.Need-variant-requires (parser·one-run-callees t) (parser·one-run-at t) parser·one-run.Post
+    parser·one-run-Inv-loop parser·one-run-μ-loop
 parser·one-run-variant-requires t c κs =
-    let start = c .before .before .before .before .before .before .before .before .before .before .before .before .before .before .before .before .before .before .before in
+    let start = c .before .before .before .before .before .before .before .before .before .before .before .before
+    .before .before .before .before .before .before .before in
     let clear-run = c .before .before .before .before .before .before .before .before .before .before .clear-run in
-    let loop = c .before .before .before .before .before .loop in
-    (omega (arith, start .pre .0), (start .pre .1 .0, omega (arith, start .pre .1 .1, clear-run .kept .0, loop .inv .2), start .pre .1 .2, start .pre .1 .3, loop .inv .3))
+    let loop = c .before .before .before .before .before .loop in (
+      omega (arith, start .pre .0),
+      (
+        start .pre .1 .0,
+        omega (arith, start .pre .1 .1, clear-run .kept .0, loop .inv .2),
+        start .pre .1 .2,
+        start .pre .1 .3,
+        loop .inv .3,
+      ),
+    )
 
-parser·one-run-same-length : (t : ℕ) → parser·one-run-lts.Need-same-length (parser·one-run-callees t) (parser·one-run-at t) parser·one-run.Post parser·one-run-Inv-loop parser·one-run-μ-loop
+parser·one-run-same-length : (t : ℕ) →
+    parser·one-run-lts.Need-same-length (parser·one-run-callees t) (parser·one-run-at t) parser·one-run.Post
+    parser·one-run-Inv-loop parser·one-run-μ-loop
 parser·one-run-same-length t c =
-    let loop = c .before .before .before .before .before .before .before .before .before .before .before .before .loop in
+    let loop =
+    c .before .before .before .before .before .before .before .before .before .before .before .before .loop in
     let variant = c .before .before .before .before .before .before .variant in
     variant .kept .1 .1 .1 .0 ∙ loop .inv .1
 
-parser·one-run-same-length-2 : (t : ℕ) → parser·one-run-lts.Need-same-length-2 (parser·one-run-callees t) (parser·one-run-at t) parser·one-run.Post parser·one-run-Inv-loop parser·one-run-μ-loop
+parser·one-run-same-length-2 : (t : ℕ) →
+    parser·one-run-lts.Need-same-length-2 (parser·one-run-callees t) (parser·one-run-at t) parser·one-run.Post
+    parser·one-run-Inv-loop parser·one-run-μ-loop
 parser·one-run-same-length-2 t c =
-    let clear-run = c .before .before .before .before .before .before .before .before .before .before .before .before .before .before .before .before .before .clear-run in
-    let loop = c .before .before .before .before .before .before .before .before .before .before .before .before .loop in
+    let clear-run = c .before .before .before .before .before .before .before .before .before .before .before .before
+    .before .before .before .before .before .clear-run in
+    let loop =
+    c .before .before .before .before .before .before .before .before .before .before .before .before .loop in
     let variant = c .before .before .before .before .before .before .variant in
     variant .kept .1 .1 .1 .1 .0 ∙ loop .inv .2 ∙ clear-run .kept .0
 
-parser·one-run-returns : (t : ℕ) → parser·one-run-lts.Need-returns (parser·one-run-callees t) (parser·one-run-at t) parser·one-run.Post parser·one-run-Inv-loop parser·one-run-μ-loop
+parser·one-run-returns : (t : ℕ) →
+    parser·one-run-lts.Need-returns (parser·one-run-callees t) (parser·one-run-at t) parser·one-run.Post
+    parser·one-run-Inv-loop parser·one-run-μ-loop
 parser·one-run-returns t c =
-    let nonterminal-of = c .before .before .before .before .before .before .before .before .before .before .before .before .before .before .before .before .before .before .before .nonterminal-of in
-    let clear-run = c .before .before .before .before .before .before .before .before .before .before .before .before .before .before .before .before .before .clear-run in
-    let nonterminal = c .before .before .before .before .before .before .before .before .before .before .before .before .before .before .nonterminal in
-    let done = c .before .before .before .before .before .before .before .before .before .before .before .before .before .done in
-    let loop = c .before .before .before .before .before .before .before .before .before .before .before .before .loop in
+    let nonterminal-of = c .before .before .before .before .before .before .before .before .before .before .before
+    .before .before .before .before .before .before .before .before .nonterminal-of in
+    let clear-run = c .before .before .before .before .before .before .before .before .before .before .before .before
+    .before .before .before .before .before .clear-run in
+    let nonterminal = c .before .before .before .before .before .before .before .before .before .before .before .before
+    .before .before .nonterminal in
+    let done =
+    c .before .before .before .before .before .before .before .before .before .before .before .before .before .done in
+    let loop =
+    c .before .before .before .before .before .before .before .before .before .before .before .before .loop in
     let if1 = c .before .before .before .before .before .before .before .before .before .before .if1 in
     let variant = c .before .before .before .before .before .before .variant in
     let if2 = c .if2 in
-    one-run-whole _ _ _ _ _ _ _ _ _ _ _ _ _ _ _ (nonterminal-of .ensures) (clear-run .ensures) (nonterminal .ensures) (done .ensures) (variants-stop _ _ _ _ _ _ _ _ _ _ _ _ (table (loop .rows)) (loop .o) (loop .inv .4) (if1 .taken) _ refl _ _ _ (variant .ensures) (if2 .taken))
+    one-run-whole _ _ _ _ _ _ _ _ _ _ _ _ _ _ _ (nonterminal-of .ensures) (clear-run .ensures)
+    (nonterminal .ensures) (done .ensures)
+    (variants-stop _ _ _ _ _ _ _ _ _ _ _ _ (table (loop .rows)) (loop .o) (loop .inv .4) (if1 .taken) _ refl _ _ _
+    (variant .ensures) (if2 .taken))
 
-parser·one-run-add-k : (t : ℕ) → parser·one-run-lts.Need-add-k (parser·one-run-callees t) (parser·one-run-at t) parser·one-run.Post parser·one-run-Inv-loop parser·one-run-μ-loop
+parser·one-run-add-k : (t : ℕ) →
+    parser·one-run-lts.Need-add-k (parser·one-run-callees t) (parser·one-run-at t) parser·one-run.Post
+    parser·one-run-Inv-loop parser·one-run-μ-loop
 parser·one-run-add-k t c =
-    let nonterminal = c .before .before .before .before .before .before .before .before .before .before .before .before .before .before .nonterminal in
+    let nonterminal = c .before .before .before .before .before .before .before .before .before .before .before .before
+    .before .before .nonterminal in
     let if1 = c .before .before .before .before .before .before .before .before .before .before .if1 in
     omega (arith, if1 .taken, nonterminal .ok)
 
-parser·one-run-loop-less : (t : ℕ) → parser·one-run-lts.Need-loop-less (parser·one-run-callees t) (parser·one-run-at t) parser·one-run.Post parser·one-run-Inv-loop parser·one-run-μ-loop
-parser·one-run-loop-less t c = omega (arith, (c .before .before .before .before .before .before .before .before .before .before .if1) .taken)
+parser·one-run-loop-less : (t : ℕ) →
+    parser·one-run-lts.Need-loop-less (parser·one-run-callees t) (parser·one-run-at t) parser·one-run.Post
+    parser·one-run-Inv-loop parser·one-run-μ-loop
+parser·one-run-loop-less t c =
+    omega (arith, (c .before .before .before .before .before .before .before .before .before .before .if1) .taken)
 
-parser·one-run-loop-again : (t : ℕ) → parser·one-run-lts.Need-loop-again (parser·one-run-callees t) (parser·one-run-at t) parser·one-run.Post parser·one-run-Inv-loop parser·one-run-μ-loop
+parser·one-run-loop-again : (t : ℕ) →
+    parser·one-run-lts.Need-loop-again (parser·one-run-callees t) (parser·one-run-at t) parser·one-run.Post
+    parser·one-run-Inv-loop parser·one-run-μ-loop
 parser·one-run-loop-again t c =
-    let loop = c .before .before .before .before .before .before .before .before .before .before .before .before .loop in
+    let loop =
+    c .before .before .before .before .before .before .before .before .before .before .before .before .loop in
     let if1 = c .before .before .before .before .before .before .before .before .before .before .if1 in
     let variant = c .before .before .before .before .before .before .variant in
-    let if2 = c .if2 in
-    (omega (arith, if1 .taken), variant .kept .1 .1 .1 .0 ∙ loop .inv .1, variant .kept .1 .1 .1 .1 .0 ∙ loop .inv .2, if2 .left, variants-again _ _ _ _ _ _ _ _ _ _ _ _ (table (loop .rows)) (loop .o) (loop .inv .4) (if1 .taken) _ refl _ _ _ (variant .ensures) (if2 .left))
+    let if2 = c .if2 in (
+      omega (arith, if1 .taken),
+      variant .kept .1 .1 .1 .0 ∙ loop .inv .1,
+      variant .kept .1 .1 .1 .1 .0 ∙ loop .inv .2,
+      if2 .left,
+      variants-again _ _ _ _ _ _ _ _ _ _ _ _ (table (loop .rows)) (loop .o) (loop .inv .4) (if1 .taken) _ refl _ _ _
+          (variant .ensures) (if2 .left),
+    )
 
-parser·one-run-same-length-3 : (t : ℕ) → parser·one-run-lts.Need-same-length-3 (parser·one-run-callees t) (parser·one-run-at t) parser·one-run.Post parser·one-run-Inv-loop parser·one-run-μ-loop
+parser·one-run-same-length-3 : (t : ℕ) →
+    parser·one-run-lts.Need-same-length-3 (parser·one-run-callees t) (parser·one-run-at t) parser·one-run.Post
+    parser·one-run-Inv-loop parser·one-run-μ-loop
 parser·one-run-same-length-3 t c = (c .before .before .loop) .inv .1
 
-parser·one-run-same-length-4 : (t : ℕ) → parser·one-run-lts.Need-same-length-4 (parser·one-run-callees t) (parser·one-run-at t) parser·one-run.Post parser·one-run-Inv-loop parser·one-run-μ-loop
+parser·one-run-same-length-4 : (t : ℕ) →
+    parser·one-run-lts.Need-same-length-4 (parser·one-run-callees t) (parser·one-run-at t) parser·one-run.Post
+    parser·one-run-Inv-loop parser·one-run-μ-loop
 parser·one-run-same-length-4 t c =
     let clear-run = c .before .before .before .before .before .before .before .clear-run in
     let loop = c .before .before .loop in
     loop .inv .2 ∙ clear-run .kept .0
 
-parser·one-run-returns-2 : (t : ℕ) → parser·one-run-lts.Need-returns-2 (parser·one-run-callees t) (parser·one-run-at t) parser·one-run.Post parser·one-run-Inv-loop parser·one-run-μ-loop
+parser·one-run-returns-2 : (t : ℕ) →
+    parser·one-run-lts.Need-returns-2 (parser·one-run-callees t) (parser·one-run-at t) parser·one-run.Post
+    parser·one-run-Inv-loop parser·one-run-μ-loop
 parser·one-run-returns-2 t c =
     let nonterminal-of = c .before .before .before .before .before .before .before .before .before .nonterminal-of in
     let clear-run = c .before .before .before .before .before .before .before .clear-run in
@@ -773,10 +1181,13 @@ parser·one-run-returns-2 t c =
     let done = c .before .before .before .done in
     let loop = c .before .before .loop in
     let if1 = c .if1 in
-    one-run-whole _ _ _ _ _ _ _ _ _ _ _ _ _ _ _ (nonterminal-of .ensures) (clear-run .ensures) (nonterminal .ensures) (done .ensures) (variants-end _ _ _ _ _ _ _ _ _ _ _ _ (table (loop .rows)) (loop .o) (loop .inv .4) (if1 .left) (loop .inv .3))
+    one-run-whole _ _ _ _ _ _ _ _ _ _ _ _ _ _ _ (nonterminal-of .ensures) (clear-run .ensures)
+    (nonterminal .ensures) (done .ensures)
+    (variants-end _ _ _ _ _ _ _ _ _ _ _ _ (table (loop .rows)) (loop .o) (loop .inv .4) (if1 .left) (loop .inv .3))
 
 abbrev parser·steps-Inv-loop : parser·steps-lts.InvT-loop
-parser·steps-Inv-loop book index text store₀ rows₀ left from step₀ remaining₀ at₀ items₀ doing₀ o₀ store rows step remaining at items doing o =
+parser·steps-Inv-loop book index text store₀ rows₀ left from step₀ remaining₀ at₀ items₀ doing₀ o₀ store rows step
+    remaining at items doing o =
     (length store ≡ length store₀) × (length rows ≡ length rows₀)
     × InRange (bookIn book index) (further from step remaining at items)
     × (6 * remaining + rankOf doing ≤ 6 * remaining₀ + rankOf doing₀)
@@ -787,220 +1198,343 @@ parser·steps-Inv-loop book index text store₀ rows₀ left from step₀ remain
     (given o₀ (cellsOf store₀ (o₀ .state .cells)) (table rows₀))))
 
 abbrev parser·steps-μ-loop : parser·steps-lts.MeasureT-loop
-parser·steps-μ-loop book index text store₀ rows₀ left from step₀ remaining₀ at₀ items₀ doing₀ o₀ store rows step remaining at items doing o =
+parser·steps-μ-loop book index text store₀ rows₀ left from step₀ remaining₀ at₀ items₀ doing₀ o₀ store rows step
+    remaining at items doing o =
     remaining
 
-parser·steps-loop-holds : (t : ℕ) → parser·steps-lts.Need-loop-holds (parser·steps-callees t) (parser·steps-at t) parser·steps.Post parser·steps-Inv-loop parser·steps-μ-loop
-parser·steps-loop-holds t c = (refl, refl, (c .before .before .before .before .before) .pre .1 .3, omega arith, λ held. record { held = held; is = refl })
+parser·steps-loop-holds : (t : ℕ) →
+    parser·steps-lts.Need-loop-holds (parser·steps-callees t) (parser·steps-at t) parser·steps.Post
+    parser·steps-Inv-loop parser·steps-μ-loop
+parser·steps-loop-holds t c = (
+  refl,
+  refl,
+  (c .before .before .before .before .before) .pre .1 .3,
+  omega arith,
+  λ held. record { held = held; is = refl },
+)
 
-parser·steps-finish-requires : (t : ℕ) → parser·steps-lts.Need-finish-requires (parser·steps-callees t) (parser·steps-at t) parser·steps.Post parser·steps-Inv-loop parser·steps-μ-loop
+parser·steps-finish-requires : (t : ℕ) →
+    parser·steps-lts.Need-finish-requires (parser·steps-callees t) (parser·steps-at t) parser·steps.Post
+    parser·steps-Inv-loop parser·steps-μ-loop
 parser·steps-finish-requires t c κs =
-    let start = c .before .before .before .before .before .before .before .before .before .before .before .before .before in
+    let start =
+    c .before .before .before .before .before .before .before .before .before .before .before .before .before in
     let loop = c .before .before .before .before .before .before .before .loop in
     (loop .inv .2 .0, omega (arith, start .pre .1 .1, loop .inv .1), start .pre .1 .2)
 
-parser·steps-same-length : (t : ℕ) → parser·steps-lts.Need-same-length (parser·steps-callees t) (parser·steps-at t) parser·steps.Post parser·steps-Inv-loop parser·steps-μ-loop
+parser·steps-same-length : (t : ℕ) →
+    parser·steps-lts.Need-same-length (parser·steps-callees t) (parser·steps-at t) parser·steps.Post
+    parser·steps-Inv-loop parser·steps-μ-loop
 parser·steps-same-length t c =
-    let loop = c .before .before .before .before .before .before .before .before .before .before .before .before .loop in
+    let loop =
+    c .before .before .before .before .before .before .before .before .before .before .before .before .loop in
     let finish = c .before .before .before .before .finish in
     finish .kept .1 .1 .1 .0 ∙ loop .inv .0
 
-parser·steps-same-length-2 : (t : ℕ) → parser·steps-lts.Need-same-length-2 (parser·steps-callees t) (parser·steps-at t) parser·steps.Post parser·steps-Inv-loop parser·steps-μ-loop
+parser·steps-same-length-2 : (t : ℕ) →
+    parser·steps-lts.Need-same-length-2 (parser·steps-callees t) (parser·steps-at t) parser·steps.Post
+    parser·steps-Inv-loop parser·steps-μ-loop
 parser·steps-same-length-2 t c =
-    let loop = c .before .before .before .before .before .before .before .before .before .before .before .before .loop in
+    let loop =
+    c .before .before .before .before .before .before .before .before .before .before .before .before .loop in
     let finish = c .before .before .before .before .finish in
     finish .kept .1 .1 .1 .1 .0 ∙ loop .inv .1
 
-parser·steps-returns : (t : ℕ) → parser·steps-lts.Need-returns (parser·steps-callees t) (parser·steps-at t) parser·steps.Post parser·steps-Inv-loop parser·steps-μ-loop
+parser·steps-returns : (t : ℕ) →
+    parser·steps-lts.Need-returns (parser·steps-callees t) (parser·steps-at t) parser·steps.Post
+    parser·steps-Inv-loop parser·steps-μ-loop
 parser·steps-returns t c =
-    let loop = c .before .before .before .before .before .before .before .before .before .before .before .before .loop in
+    let loop =
+    c .before .before .before .before .before .before .before .before .before .before .before .before .loop in
     let goes-on = c .before .before .before .before .before .before .before .before .before .before .before .goes-on in
     let if1 = c .before .before .before .before .before .before .before .before .before .before .if1 in
     let enum-told = c .before .before .before .before .before .before .before .before .enum-told in
     let if2 = c .before .before .before .before .before .before .before .if2 in
     let finish = c .before .before .before .before .finish in
-    path-end _ _ _ _ _ _ (loop .step) (loop .remaining) _ _ _ (loop .o) _ _ _ _ (table (loop .rows)) (loop .inv .4) (sym (goes-on .ensures) ∙ if1 .taken) (enum-told .given .1) _ _ _ (if2 .taken) (finish .ensures)
+    path-end _ _ _ _ _ _ (loop .step) (loop .remaining) _ _ _ (loop .o) _ _ _ _ (table (loop .rows)) (loop .inv .4)
+    (sym (goes-on .ensures) ∙ if1 .taken) (enum-told .given .1) _ _ _ (if2 .taken) (finish .ensures)
 
-parser·steps-take-step-requires : (t : ℕ) → parser·steps-lts.Need-take-step-requires (parser·steps-callees t) (parser·steps-at t) parser·steps.Post parser·steps-Inv-loop parser·steps-μ-loop
+parser·steps-take-step-requires : (t : ℕ) →
+    parser·steps-lts.Need-take-step-requires (parser·steps-callees t) (parser·steps-at t) parser·steps.Post
+    parser·steps-Inv-loop parser·steps-μ-loop
 parser·steps-take-step-requires t c κs =
     let start = c .before .before .before .before .before .before .before .before .before .before .before .before in
     start .pre .1 .2
 
-parser·steps-add-step : (t : ℕ) → parser·steps-lts.Need-add-step (parser·steps-callees t) (parser·steps-at t) parser·steps.Post parser·steps-Inv-loop parser·steps-μ-loop
+parser·steps-add-step : (t : ℕ) →
+    parser·steps-lts.Need-add-step (parser·steps-callees t) (parser·steps-at t) parser·steps.Post
+    parser·steps-Inv-loop parser·steps-μ-loop
 parser·steps-add-step t c =
-    let start = c .before .before .before .before .before .before .before .before .before .before .before .before .before .before .before in
+    let start = c .before .before .before .before .before .before .before .before .before .before .before .before
+    .before .before .before in
     let loop = c .before .before .before .before .before .before .before .before .before .loop in
     let if2 = c .before .before .before .before .if2 in
     omega (arith, loop .inv .2 .2, start .pre .1 .2 .all, if2 .left)
 
-parser·steps-sub-remaining : (t : ℕ) → parser·steps-lts.Need-sub-remaining (parser·steps-callees t) (parser·steps-at t) parser·steps.Post parser·steps-Inv-loop parser·steps-μ-loop
+parser·steps-sub-remaining : (t : ℕ) →
+    parser·steps-lts.Need-sub-remaining (parser·steps-callees t) (parser·steps-at t) parser·steps.Post
+    parser·steps-Inv-loop parser·steps-μ-loop
 parser·steps-sub-remaining t c = omega (arith, (c .before .before .before .before .if2) .left)
 
-parser·steps-loop-less : (t : ℕ) → parser·steps-lts.Need-loop-less (parser·steps-callees t) (parser·steps-at t) parser·steps.Post parser·steps-Inv-loop parser·steps-μ-loop
+parser·steps-loop-less : (t : ℕ) →
+    parser·steps-lts.Need-loop-less (parser·steps-callees t) (parser·steps-at t) parser·steps.Post
+    parser·steps-Inv-loop parser·steps-μ-loop
 parser·steps-loop-less t c = omega (arith, (c .before .before .before .before .before .if2) .left)
 
-parser·steps-loop-again : (t : ℕ) → parser·steps-lts.Need-loop-again (parser·steps-callees t) (parser·steps-at t) parser·steps.Post parser·steps-Inv-loop parser·steps-μ-loop
+parser·steps-loop-again : (t : ℕ) →
+    parser·steps-lts.Need-loop-again (parser·steps-callees t) (parser·steps-at t) parser·steps.Post
+    parser·steps-Inv-loop parser·steps-μ-loop
 parser·steps-loop-again t c =
     let loop = c .before .before .before .before .before .before .before .before .before .before .loop in
     let goes-on = c .before .before .before .before .before .before .before .before .before .goes-on in
     let if1 = c .before .before .before .before .before .before .before .before .if1 in
     let enum-told = c .before .before .before .before .before .before .enum-told in
     let if2 = c .before .before .before .before .before .if2 in
-    let take-step = c .before .before .before .take-step in
-    (take-step .kept .1 .1 .1 .0 ∙ loop .inv .0, loop .inv .1, (loop .inv .2 .0, omega (arith, loop .inv .2 .1), omega (arith, loop .inv .2 .2, if2 .left)), omega (arith, loop .inv .3, if2 .left, rank-few (take-step .result .doing)), path-step _ _ _ _ _ _ (loop .step) (loop .remaining) _ _ _ (loop .o) _ _ _ _ (table (loop .rows)) (loop .inv .4) (sym (goes-on .ensures) ∙ if1 .taken) (enum-told .given .1) _ _ (if2 .left) (loop .inv .2 .2) (take-step .ensures))
+    let take-step = c .before .before .before .take-step in (
+      take-step .kept .1 .1 .1 .0 ∙ loop .inv .0,
+      loop .inv .1,
+      (loop .inv .2 .0, omega (arith, loop .inv .2 .1), omega (arith, loop .inv .2 .2, if2 .left)),
+      omega (arith, loop .inv .3, if2 .left, rank-few (take-step .result .doing)),
+      path-step _ _ _ _ _ _ (loop .step) (loop .remaining) _ _ _ (loop .o) _ _ _ _ (table (loop .rows)) (loop .inv .4)
+          (sym (goes-on .ensures) ∙ if1 .taken) (enum-told .given .1) _ _ (if2 .left)
+          (loop .inv .2 .2) (take-step .ensures),
+    )
 
-parser·steps-descend-requires : (t : ℕ) → parser·steps-lts.Need-descend-requires (parser·steps-callees t) (parser·steps-at t) parser·steps.Post parser·steps-Inv-loop parser·steps-μ-loop
+parser·steps-descend-requires : (t : ℕ) →
+    parser·steps-lts.Need-descend-requires (parser·steps-callees t) (parser·steps-at t) parser·steps.Post
+    parser·steps-Inv-loop parser·steps-μ-loop
 parser·steps-descend-requires t c κs =
-    let start = c .before .before .before .before .before .before .before .before .before .before .before .before .before in
-    let loop = c .before .before .before .before .before .before .before .loop in
-    (omega (arith, start .pre .0, loop .inv .3), (start .pre .1 .0, omega (arith, start .pre .1 .1, loop .inv .1), start .pre .1 .2, loop .inv .2))
+    let start =
+    c .before .before .before .before .before .before .before .before .before .before .before .before .before in
+    let loop = c .before .before .before .before .before .before .before .loop in (
+      omega (arith, start .pre .0, loop .inv .3),
+      (start .pre .1 .0, omega (arith, start .pre .1 .1, loop .inv .1), start .pre .1 .2, loop .inv .2),
+    )
 
-parser·steps-same-length-3 : (t : ℕ) → parser·steps-lts.Need-same-length-3 (parser·steps-callees t) (parser·steps-at t) parser·steps.Post parser·steps-Inv-loop parser·steps-μ-loop
+parser·steps-same-length-3 : (t : ℕ) →
+    parser·steps-lts.Need-same-length-3 (parser·steps-callees t) (parser·steps-at t) parser·steps.Post
+    parser·steps-Inv-loop parser·steps-μ-loop
 parser·steps-same-length-3 t c =
-    let loop = c .before .before .before .before .before .before .before .before .before .before .before .before .loop in
+    let loop =
+    c .before .before .before .before .before .before .before .before .before .before .before .before .loop in
     let descend = c .before .before .before .before .descend in
     descend .kept .1 .1 .1 .0 ∙ loop .inv .0
 
-parser·steps-same-length-4 : (t : ℕ) → parser·steps-lts.Need-same-length-4 (parser·steps-callees t) (parser·steps-at t) parser·steps.Post parser·steps-Inv-loop parser·steps-μ-loop
+parser·steps-same-length-4 : (t : ℕ) →
+    parser·steps-lts.Need-same-length-4 (parser·steps-callees t) (parser·steps-at t) parser·steps.Post
+    parser·steps-Inv-loop parser·steps-μ-loop
 parser·steps-same-length-4 t c =
-    let loop = c .before .before .before .before .before .before .before .before .before .before .before .before .loop in
+    let loop =
+    c .before .before .before .before .before .before .before .before .before .before .before .before .loop in
     let descend = c .before .before .before .before .descend in
     descend .kept .1 .1 .1 .1 .0 ∙ loop .inv .1
 
-parser·steps-returns-2 : (t : ℕ) → parser·steps-lts.Need-returns-2 (parser·steps-callees t) (parser·steps-at t) parser·steps.Post parser·steps-Inv-loop parser·steps-μ-loop
+parser·steps-returns-2 : (t : ℕ) →
+    parser·steps-lts.Need-returns-2 (parser·steps-callees t) (parser·steps-at t) parser·steps.Post
+    parser·steps-Inv-loop parser·steps-μ-loop
 parser·steps-returns-2 t c =
-    let loop = c .before .before .before .before .before .before .before .before .before .before .before .before .loop in
+    let loop =
+    c .before .before .before .before .before .before .before .before .before .before .before .before .loop in
     let goes-on = c .before .before .before .before .before .before .before .before .before .before .before .goes-on in
     let if1 = c .before .before .before .before .before .before .before .before .before .before .if1 in
     let doing = c .before .before .before .before .before .before .before .before .doing in
     let descend = c .before .before .before .before .descend in
-    path-child _ _ _ _ _ _ (loop .step) (loop .remaining) _ _ _ (loop .o) _ _ _ _ (table (loop .rows)) (loop .inv .4) (sym (goes-on .ensures) ∙ if1 .taken) _ _ _ _ (doing .given .1) (descend .ensures)
+    path-child _ _ _ _ _ _ (loop .step) (loop .remaining) _ _ _ (loop .o) _ _ _ _ (table (loop .rows)) (loop .inv .4)
+    (sym (goes-on .ensures) ∙ if1 .taken) _ _ _ _ (doing .given .1) (descend .ensures)
 
-parser·steps-choice-requires : (t : ℕ) → parser·steps-lts.Need-choice-requires (parser·steps-callees t) (parser·steps-at t) parser·steps.Post parser·steps-Inv-loop parser·steps-μ-loop
+parser·steps-choice-requires : (t : ℕ) →
+    parser·steps-lts.Need-choice-requires (parser·steps-callees t) (parser·steps-at t) parser·steps.Post
+    parser·steps-Inv-loop parser·steps-μ-loop
 parser·steps-choice-requires t c κs =
-    let start = c .before .before .before .before .before .before .before .before .before .before .before .before .before in
+    let start =
+    c .before .before .before .before .before .before .before .before .before .before .before .before .before in
     let loop = c .before .before .before .before .before .before .before .loop in
-    let doing2 = c .before .before .before .doing2 in
-    (omega (arith, start .pre .0, loop .inv .3, rank-optional _ _ (doing2 .given .1)), (start .pre .1 .0, omega (arith, start .pre .1 .1, loop .inv .1), start .pre .1 .2, loop .inv .2))
+    let doing2 = c .before .before .before .doing2 in (
+      omega (arith, start .pre .0, loop .inv .3, rank-optional _ _ (doing2 .given .1)),
+      (start .pre .1 .0, omega (arith, start .pre .1 .1, loop .inv .1), start .pre .1 .2, loop .inv .2),
+    )
 
-parser·steps-same-length-5 : (t : ℕ) → parser·steps-lts.Need-same-length-5 (parser·steps-callees t) (parser·steps-at t) parser·steps.Post parser·steps-Inv-loop parser·steps-μ-loop
+parser·steps-same-length-5 : (t : ℕ) →
+    parser·steps-lts.Need-same-length-5 (parser·steps-callees t) (parser·steps-at t) parser·steps.Post
+    parser·steps-Inv-loop parser·steps-μ-loop
 parser·steps-same-length-5 t c =
-    let loop = c .before .before .before .before .before .before .before .before .before .before .before .before .loop in
+    let loop =
+    c .before .before .before .before .before .before .before .before .before .before .before .before .loop in
     let choice = c .before .before .before .before .choice in
     choice .kept .1 .1 .1 .0 ∙ loop .inv .0
 
-parser·steps-same-length-6 : (t : ℕ) → parser·steps-lts.Need-same-length-6 (parser·steps-callees t) (parser·steps-at t) parser·steps.Post parser·steps-Inv-loop parser·steps-μ-loop
+parser·steps-same-length-6 : (t : ℕ) →
+    parser·steps-lts.Need-same-length-6 (parser·steps-callees t) (parser·steps-at t) parser·steps.Post
+    parser·steps-Inv-loop parser·steps-μ-loop
 parser·steps-same-length-6 t c =
-    let loop = c .before .before .before .before .before .before .before .before .before .before .before .before .loop in
+    let loop =
+    c .before .before .before .before .before .before .before .before .before .before .before .before .loop in
     let choice = c .before .before .before .before .choice in
     choice .kept .1 .1 .1 .1 .0 ∙ loop .inv .1
 
-parser·steps-returns-3 : (t : ℕ) → parser·steps-lts.Need-returns-3 (parser·steps-callees t) (parser·steps-at t) parser·steps.Post parser·steps-Inv-loop parser·steps-μ-loop
+parser·steps-returns-3 : (t : ℕ) →
+    parser·steps-lts.Need-returns-3 (parser·steps-callees t) (parser·steps-at t) parser·steps.Post
+    parser·steps-Inv-loop parser·steps-μ-loop
 parser·steps-returns-3 t c =
-    let loop = c .before .before .before .before .before .before .before .before .before .before .before .before .loop in
+    let loop =
+    c .before .before .before .before .before .before .before .before .before .before .before .before .loop in
     let goes-on = c .before .before .before .before .before .before .before .before .before .before .before .goes-on in
     let if1 = c .before .before .before .before .before .before .before .before .before .before .if1 in
     let doing2 = c .before .before .before .before .before .before .before .before .doing2 in
     let choice = c .before .before .before .before .choice in
-    path-optional _ _ _ _ _ _ (loop .step) (loop .remaining) _ _ _ (loop .o) _ _ _ _ (table (loop .rows)) (loop .inv .4) (sym (goes-on .ensures) ∙ if1 .taken) _ _ _ _ (doing2 .given .1) (choice .ensures)
+    path-optional _ _ _ _ _ _ (loop .step) (loop .remaining) _ _ _ (loop .o) _ _ _ _ (table (loop .rows)) (loop .inv .4)
+    (sym (goes-on .ensures) ∙ if1 .taken) _ _ _ _ (doing2 .given .1) (choice .ensures)
 
-parser·steps-choice-requires-2 : (t : ℕ) → parser·steps-lts.Need-choice-requires-2 (parser·steps-callees t) (parser·steps-at t) parser·steps.Post parser·steps-Inv-loop parser·steps-μ-loop
+parser·steps-choice-requires-2 : (t : ℕ) →
+    parser·steps-lts.Need-choice-requires-2 (parser·steps-callees t) (parser·steps-at t) parser·steps.Post
+    parser·steps-Inv-loop parser·steps-μ-loop
 parser·steps-choice-requires-2 t c κs =
-    let start = c .before .before .before .before .before .before .before .before .before .before .before .before .before in
+    let start =
+    c .before .before .before .before .before .before .before .before .before .before .before .before .before in
     let loop = c .before .before .before .before .before .before .before .loop in
-    let doing3 = c .before .before .before .doing3 in
-    (omega (arith, start .pre .0, loop .inv .3, rank-elements _ _ (doing3 .given .1)), (start .pre .1 .0, omega (arith, start .pre .1 .1, loop .inv .1), start .pre .1 .2, loop .inv .2))
+    let doing3 = c .before .before .before .doing3 in (
+      omega (arith, start .pre .0, loop .inv .3, rank-elements _ _ (doing3 .given .1)),
+      (start .pre .1 .0, omega (arith, start .pre .1 .1, loop .inv .1), start .pre .1 .2, loop .inv .2),
+    )
 
-parser·steps-same-length-7 : (t : ℕ) → parser·steps-lts.Need-same-length-7 (parser·steps-callees t) (parser·steps-at t) parser·steps.Post parser·steps-Inv-loop parser·steps-μ-loop
+parser·steps-same-length-7 : (t : ℕ) →
+    parser·steps-lts.Need-same-length-7 (parser·steps-callees t) (parser·steps-at t) parser·steps.Post
+    parser·steps-Inv-loop parser·steps-μ-loop
 parser·steps-same-length-7 t c =
-    let loop = c .before .before .before .before .before .before .before .before .before .before .before .before .loop in
+    let loop =
+    c .before .before .before .before .before .before .before .before .before .before .before .before .loop in
     let choice2 = c .before .before .before .before .choice2 in
     choice2 .kept .1 .1 .1 .0 ∙ loop .inv .0
 
-parser·steps-same-length-8 : (t : ℕ) → parser·steps-lts.Need-same-length-8 (parser·steps-callees t) (parser·steps-at t) parser·steps.Post parser·steps-Inv-loop parser·steps-μ-loop
+parser·steps-same-length-8 : (t : ℕ) →
+    parser·steps-lts.Need-same-length-8 (parser·steps-callees t) (parser·steps-at t) parser·steps.Post
+    parser·steps-Inv-loop parser·steps-μ-loop
 parser·steps-same-length-8 t c =
-    let loop = c .before .before .before .before .before .before .before .before .before .before .before .before .loop in
+    let loop =
+    c .before .before .before .before .before .before .before .before .before .before .before .before .loop in
     let choice2 = c .before .before .before .before .choice2 in
     choice2 .kept .1 .1 .1 .1 .0 ∙ loop .inv .1
 
-parser·steps-returns-4 : (t : ℕ) → parser·steps-lts.Need-returns-4 (parser·steps-callees t) (parser·steps-at t) parser·steps.Post parser·steps-Inv-loop parser·steps-μ-loop
+parser·steps-returns-4 : (t : ℕ) →
+    parser·steps-lts.Need-returns-4 (parser·steps-callees t) (parser·steps-at t) parser·steps.Post
+    parser·steps-Inv-loop parser·steps-μ-loop
 parser·steps-returns-4 t c =
-    let loop = c .before .before .before .before .before .before .before .before .before .before .before .before .loop in
+    let loop =
+    c .before .before .before .before .before .before .before .before .before .before .before .before .loop in
     let goes-on = c .before .before .before .before .before .before .before .before .before .before .before .goes-on in
     let if1 = c .before .before .before .before .before .before .before .before .before .before .if1 in
     let doing3 = c .before .before .before .before .before .before .before .before .doing3 in
     let choice2 = c .before .before .before .before .choice2 in
-    path-elements _ _ _ _ _ _ (loop .step) (loop .remaining) _ _ _ (loop .o) _ _ _ _ (table (loop .rows)) (loop .inv .4) (sym (goes-on .ensures) ∙ if1 .taken) _ _ _ _ (doing3 .given .1) (choice2 .ensures)
+    path-elements _ _ _ _ _ _ (loop .step) (loop .remaining) _ _ _ (loop .o) _ _ _ _ (table (loop .rows)) (loop .inv .4)
+    (sym (goes-on .ensures) ∙ if1 .taken) _ _ _ _ (doing3 .given .1) (choice2 .ensures)
 
-parser·steps-same-length-9 : (t : ℕ) → parser·steps-lts.Need-same-length-9 (parser·steps-callees t) (parser·steps-at t) parser·steps.Post parser·steps-Inv-loop parser·steps-μ-loop
+parser·steps-same-length-9 : (t : ℕ) →
+    parser·steps-lts.Need-same-length-9 (parser·steps-callees t) (parser·steps-at t) parser·steps.Post
+    parser·steps-Inv-loop parser·steps-μ-loop
 parser·steps-same-length-9 t c = (c .before .before .loop) .inv .0
 
-parser·steps-same-length-10 : (t : ℕ) → parser·steps-lts.Need-same-length-10 (parser·steps-callees t) (parser·steps-at t) parser·steps.Post parser·steps-Inv-loop parser·steps-μ-loop
+parser·steps-same-length-10 : (t : ℕ) →
+    parser·steps-lts.Need-same-length-10 (parser·steps-callees t) (parser·steps-at t) parser·steps.Post
+    parser·steps-Inv-loop parser·steps-μ-loop
 parser·steps-same-length-10 t c = (c .before .before .loop) .inv .1
 
-parser·steps-returns-5 : (t : ℕ) → parser·steps-lts.Need-returns-5 (parser·steps-callees t) (parser·steps-at t) parser·steps.Post parser·steps-Inv-loop parser·steps-μ-loop
+parser·steps-returns-5 : (t : ℕ) →
+    parser·steps-lts.Need-returns-5 (parser·steps-callees t) (parser·steps-at t) parser·steps.Post
+    parser·steps-Inv-loop parser·steps-μ-loop
 parser·steps-returns-5 t c =
     let loop = c .before .before .loop in
     let goes-on = c .before .goes-on in
     let if1 = c .if1 in
-    path-ended _ _ _ _ _ _ (loop .step) (loop .remaining) _ _ _ (loop .o) _ _ _ _ (table (loop .rows)) (loop .inv .4) (sym (goes-on .ensures) ∙ if1 .left)
+    path-ended _ _ _ _ _ _ (loop .step) (loop .remaining) _ _ _ (loop .o) _ _ _ _ (table (loop .rows)) (loop .inv .4)
+    (sym (goes-on .ensures) ∙ if1 .left)
 
-parser·variant-returns : (t : ℕ) → parser·variant-lts.Need-returns (parser·variant-callees t) (parser·variant-at t) parser·variant.Post
+parser·variant-returns : (t : ℕ) →
+    parser·variant-lts.Need-returns (parser·variant-callees t) (parser·variant-at t) parser·variant.Post
 parser·variant-returns t c =
     let start = c .before .before .before .before .before .before .before .before in
     let variant = c .before .before .variant in
     let if1 = c .if1 in
     variant-skipped _ _ _ _ _ _ _ (variant .ensures) _ _ (if1 .taken) (start .pre .1 .4)
 
-parser·variant-begin-variant-requires : (t : ℕ) → parser·variant-lts.Need-begin-variant-requires (parser·variant-callees t) (parser·variant-at t) parser·variant.Post
+parser·variant-begin-variant-requires : (t : ℕ) →
+    parser·variant-lts.Need-begin-variant-requires (parser·variant-callees t) (parser·variant-at t) parser·variant.Post
 parser·variant-begin-variant-requires t c κs =
     let start = c .before .before .before .before .before .before .before .before .before .before in
     (start .pre .1 .0, start .pre .1 .1, start .pre .1 .2)
 
-parser·variant-cast-first : (t : ℕ) → parser·variant-lts.Need-cast-first (parser·variant-callees t) (parser·variant-at t) parser·variant.Post
+parser·variant-cast-first : (t : ℕ) →
+    parser·variant-lts.Need-cast-first (parser·variant-callees t) (parser·variant-at t) parser·variant.Post
 parser·variant-cast-first t c =
-    let start = c .before .before .before .before .before .before .before .before .before .before .before .before .before .before .before .before in
+    let start = c .before .before .before .before .before .before .before .before .before .before .before .before
+    .before .before .before .before in
     let variant = c .before .before .before .before .before .before .before .before .before .before .variant in
     omega (arith, steps-fit _ _ _ _ (start .pre .1 .2) (variant .ensures))
 
-parser·variant-cast-count : (t : ℕ) → parser·variant-lts.Need-cast-count (parser·variant-callees t) (parser·variant-at t) parser·variant.Post
+parser·variant-cast-count : (t : ℕ) →
+    parser·variant-lts.Need-cast-count (parser·variant-callees t) (parser·variant-at t) parser·variant.Post
 parser·variant-cast-count t c =
-    let start = c .before .before .before .before .before .before .before .before .before .before .before .before .before .before .before .before .before in
+    let start = c .before .before .before .before .before .before .before .before .before .before .before .before
+    .before .before .before .before .before in
     let variant = c .before .before .before .before .before .before .before .before .before .before .before .variant in
     omega (arith, steps-fit _ _ _ _ (start .pre .1 .2) (variant .ensures))
 
-parser·variant-sub-steps : (t : ℕ) → parser·variant-lts.Need-sub-steps (parser·variant-callees t) (parser·variant-at t) parser·variant.Post
+parser·variant-sub-steps : (t : ℕ) →
+    parser·variant-lts.Need-sub-steps (parser·variant-callees t) (parser·variant-at t) parser·variant.Post
 parser·variant-sub-steps t c =
-    let start = c .before .before .before .before .before .before .before .before .before .before .before .before .before .before .before .before .before .before .before in
+    let start = c .before .before .before .before .before .before .before .before .before .before .before .before
+    .before .before .before .before .before .before .before in
     omega (arith, start .pre .1 .3)
 
-parser·variant-steps-requires : (t : ℕ) → parser·variant-lts.Need-steps-requires (parser·variant-callees t) (parser·variant-at t) parser·variant.Post
+parser·variant-steps-requires : (t : ℕ) →
+    parser·variant-lts.Need-steps-requires (parser·variant-callees t) (parser·variant-at t) parser·variant.Post
 parser·variant-steps-requires t c κs =
-    let start = c .before .before .before .before .before .before .before .before .before .before .before .before .before .before .before .before .before .before .before in
-    let variant = c .before .before .before .before .before .before .before .before .before .before .before .before .before .variant in
-    let begin-variant = c .before .before .before .before .before .before .before .before .begin-variant in
-    (omega (arith, start .pre .0, start .pre .1 .3, steps-fit _ _ _ _ (start .pre .1 .2) (variant .ensures)), (omega (arith, start .pre .1 .0), omega (arith, start .pre .1 .1, begin-variant .kept .1 .1 .1 .1 .0), start .pre .1 .2, (start .pre .1 .0, omega (arith, steps-fit _ _ _ _ (start .pre .1 .2) (variant .ensures)), omega (arith, steps-fit _ _ _ _ (start .pre .1 .2) (variant .ensures)))))
+    let start = c .before .before .before .before .before .before .before .before .before .before .before .before
+    .before .before .before .before .before .before .before in
+    let variant = c .before .before .before .before .before .before .before .before .before .before .before
+    .before .before .variant in
+    let begin-variant = c .before .before .before .before .before .before .before .before .begin-variant in (
+      omega (arith, start .pre .0, start .pre .1 .3, steps-fit _ _ _ _ (start .pre .1 .2) (variant .ensures)),
+      (
+        omega (arith, start .pre .1 .0),
+        omega (arith, start .pre .1 .1, begin-variant .kept .1 .1 .1 .1 .0),
+        start .pre .1 .2,
+        (
+          start .pre .1 .0,
+          omega (arith, steps-fit _ _ _ _ (start .pre .1 .2) (variant .ensures)),
+          omega (arith, steps-fit _ _ _ _ (start .pre .1 .2) (variant .ensures)),
+        ),
+      ),
+    )
 
-parser·variant-same-length : (t : ℕ) → parser·variant-lts.Need-same-length (parser·variant-callees t) (parser·variant-at t) parser·variant.Post
+parser·variant-same-length : (t : ℕ) →
+    parser·variant-lts.Need-same-length (parser·variant-callees t) (parser·variant-at t) parser·variant.Post
 parser·variant-same-length t c =
-    let begin-variant = c .before .before .before .before .before .before .before .before .before .before .before .before .before .before .begin-variant in
+    let begin-variant = c .before .before .before .before .before .before .before .before .before .before .before
+    .before .before .before .begin-variant in
     let steps = c .before .before .before .before .before .steps in
     steps .kept .1 .1 .1 .0 ∙ begin-variant .kept .1 .1 .1 .0
 
-parser·variant-same-length-2 : (t : ℕ) → parser·variant-lts.Need-same-length-2 (parser·variant-callees t) (parser·variant-at t) parser·variant.Post
+parser·variant-same-length-2 : (t : ℕ) →
+    parser·variant-lts.Need-same-length-2 (parser·variant-callees t) (parser·variant-at t) parser·variant.Post
 parser·variant-same-length-2 t c =
-    let begin-variant = c .before .before .before .before .before .before .before .before .before .before .before .before .before .before .begin-variant in
+    let begin-variant = c .before .before .before .before .before .before .before .before .before .before .before
+    .before .before .before .begin-variant in
     let steps = c .before .before .before .before .before .steps in
     steps .kept .1 .1 .1 .1 .0 ∙ begin-variant .kept .1 .1 .1 .1 .0
 
-parser·variant-returns-2 : (t : ℕ) → parser·variant-lts.Need-returns-2 (parser·variant-callees t) (parser·variant-at t) parser·variant.Post
+parser·variant-returns-2 : (t : ℕ) →
+    parser·variant-lts.Need-returns-2 (parser·variant-callees t) (parser·variant-at t) parser·variant.Post
 parser·variant-returns-2 t c =
-    let variant = c .before .before .before .before .before .before .before .before .before .before .before .before .before .before .before .before .before .before .before .variant in
-    let if1 = c .before .before .before .before .before .before .before .before .before .before .before .before .before .before .before .before .before .if1 in
-    let begin-variant = c .before .before .before .before .before .before .before .before .before .before .before .before .before .before .begin-variant in
+    let variant = c .before .before .before .before .before .before .before .before .before .before .before .before
+    .before .before .before .before .before .before .before .variant in
+    let if1 = c .before .before .before .before .before .before .before .before .before .before .before .before .before
+    .before .before .before .before .if1 in
+    let begin-variant = c .before .before .before .before .before .before .before .before .before .before .before
+    .before .before .before .begin-variant in
     let steps = c .before .before .before .before .before .steps in
     let after-variant = c .after-variant in
-    variant-ran _ _ _ _ _ _ _ (variant .ensures) _ _ (if1 .left) _ _ _ _ _ _ _ (begin-variant .ensures) (steps .ensures) (after-variant .ensures)
+    variant-ran _ _ _ _ _ _ _ (variant .ensures) _ _ (if1 .left) _ _ _ _ _ _ _ (begin-variant .ensures)
+    (steps .ensures) (after-variant .ensures)
 
 pub +left-recursion·enter+left-recursion·rounds+left-recursion·run-call+parser·choice+parser·descend+parser·follow+parser·one-run+parser·steps+parser·variant-spec :
     {M : Type 1} → statement M
@@ -1016,165 +1550,58 @@ pub +left-recursion·enter+left-recursion·rounds+left-recursion·run-call+parse
     μ-parser·steps
     μ-parser·variant
     (λ t. left-recursion·enter-lts.spec (left-recursion·enter-callees t)
-    (left-recursion·enter-at t)
-    left-recursion·enter.Post
-    (left-recursion·enter-begin-use-requires t)
-    (left-recursion·enter-same-length t)
-    (left-recursion·enter-same-length-2 t)
-    (left-recursion·enter-returns t)
-    (left-recursion·enter-run-call-requires t)
-    (left-recursion·enter-same-length-3 t)
-    (left-recursion·enter-same-length-4 t)
-    (left-recursion·enter-returns-2 t))
-    (λ t. left-recursion·rounds-lts.spec (left-recursion·rounds-callees t)
-    (left-recursion·rounds-at t)
-    left-recursion·rounds.Post
-    left-recursion·rounds-Inv-loop
-    left-recursion·rounds-μ-loop
-    (left-recursion·rounds-loop-holds t)
-    (left-recursion·rounds-one-run-requires t)
-    (left-recursion·rounds-after-round-requires t)
-    (left-recursion·rounds-same-length t)
-    (left-recursion·rounds-same-length-2 t)
-    (left-recursion·rounds-returns t)
-    (left-recursion·rounds-add-round t)
-    (left-recursion·rounds-loop-less t)
-    (left-recursion·rounds-loop-again t)
-    (left-recursion·rounds-without-failure-requires t)
-    (left-recursion·rounds-same-length-3 t)
-    (left-recursion·rounds-same-length-4 t)
-    (left-recursion·rounds-returns-2 t))
-    (λ t. left-recursion·run-call-lts.spec (left-recursion·run-call-callees t)
-    (left-recursion·run-call-at t)
-    left-recursion·run-call.Post
-    (left-recursion·run-call-open-call-requires t)
-    (left-recursion·run-call-one-run-requires t)
-    (left-recursion·run-call-after-first-requires t)
-    (left-recursion·run-call-same-length t)
-    (left-recursion·run-call-same-length-2 t)
-    (left-recursion·run-call-returns t)
-    (left-recursion·run-call-rounds-requires t)
-    (left-recursion·run-call-same-length-3 t)
-    (left-recursion·run-call-same-length-4 t)
-    (left-recursion·run-call-returns-2 t))
-    (λ t. parser·choice-lts.spec (parser·choice-callees t)
-    (parser·choice-at t)
-    parser·choice.Post
-    (parser·choice-first-side-requires t)
-    (parser·choice-steps-requires t)
-    (parser·choice-same-length t)
-    (parser·choice-same-length-2 t)
-    (parser·choice-returns t)
-    (parser·choice-descend-requires t)
-    (parser·choice-both-requires t)
-    (parser·choice-same-length-3 t)
-    (parser·choice-same-length-4 t)
-    (parser·choice-returns-2 t))
-    (λ t. parser·descend-lts.spec (parser·descend-callees t)
-    (parser·descend-at t)
-    parser·descend.Post
-    (parser·descend-begin-child-requires t)
-    (parser·descend-enter-requires t)
-    (parser·descend-follow-requires t)
-    (parser·descend-same-length t)
-    (parser·descend-same-length-2 t)
-    (parser·descend-returns t))
-    (λ t. parser·follow-lts.spec (parser·follow-callees t)
-    (parser·follow-at t)
-    parser·follow.Post
-    parser·follow-Inv-loop
-    parser·follow-μ-loop
-    (λ c κs. search needs)
-    (parser·follow-returns t)
-    (parser·follow-parse-count-requires t)
-    (parser·follow-loop-holds t)
-    (λ c κs. search needs)
-    (parser·follow-same-length t)
-    (parser·follow-same-length-2 t)
-    (parser·follow-returns-2 t)
-    (parser·follow-nth-parse-requires t)
-    (parser·follow-next-of-requires t)
-    (parser·follow-sub-inner t)
-    (parser·follow-steps-requires t)
-    (λ c κs. search needs)
-    (parser·follow-same-length-3 t)
-    (parser·follow-same-length-4 t)
-    (parser·follow-returns-3 t)
-    (parser·follow-add-i t)
-    (parser·follow-loop-less t)
-    (parser·follow-loop-again t)
-    (parser·follow-same-length-5 t)
-    (parser·follow-same-length-6 t)
-    (parser·follow-returns-4 t))
-    (λ t. parser·one-run-lts.spec (parser·one-run-callees t)
-    (parser·one-run-at t)
-    parser·one-run.Post
-    parser·one-run-Inv-loop
-    parser·one-run-μ-loop
-    (parser·one-run-nonterminal-of-requires t)
-    (parser·one-run-clear-run-requires t)
-    (λ c. search needs)
-    (λ c κs. search needs)
-    (λ c κs. search needs)
-    (parser·one-run-loop-holds t)
-    (parser·one-run-add-j t)
-    (parser·one-run-cast-j t)
-    (parser·one-run-variant-requires t)
-    (parser·one-run-same-length t)
-    (parser·one-run-same-length-2 t)
-    (parser·one-run-returns t)
-    (parser·one-run-add-k t)
-    (parser·one-run-loop-less t)
-    (parser·one-run-loop-again t)
-    (parser·one-run-same-length-3 t)
-    (parser·one-run-same-length-4 t)
-    (parser·one-run-returns-2 t))
-    (λ t. parser·steps-lts.spec (parser·steps-callees t)
-    (parser·steps-at t)
-    parser·steps.Post
-    parser·steps-Inv-loop
-    parser·steps-μ-loop
-    (parser·steps-loop-holds t)
-    (λ c κs. search needs)
-    (λ c. search needs)
-    (parser·steps-finish-requires t)
-    (parser·steps-same-length t)
-    (parser·steps-same-length-2 t)
-    (parser·steps-returns t)
-    (parser·steps-take-step-requires t)
-    (parser·steps-add-step t)
-    (parser·steps-sub-remaining t)
-    (parser·steps-loop-less t)
-    (parser·steps-loop-again t)
-    (λ c. search needs)
-    (parser·steps-descend-requires t)
-    (parser·steps-same-length-3 t)
-    (parser·steps-same-length-4 t)
-    (parser·steps-returns-2 t)
-    (λ c. search needs)
-    (parser·steps-choice-requires t)
-    (parser·steps-same-length-5 t)
-    (parser·steps-same-length-6 t)
-    (parser·steps-returns-3 t)
-    (λ c. search needs)
-    (parser·steps-choice-requires-2 t)
-    (parser·steps-same-length-7 t)
-    (parser·steps-same-length-8 t)
-    (parser·steps-returns-4 t)
-    (parser·steps-same-length-9 t)
-    (parser·steps-same-length-10 t)
-    (parser·steps-returns-5 t))
-    λ t. parser·variant-lts.spec (parser·variant-callees t)
-    (parser·variant-at t)
-    parser·variant.Post
-    (λ c κs. search needs)
-    (parser·variant-returns t)
-    (parser·variant-begin-variant-requires t)
-    (parser·variant-cast-first t)
-    (parser·variant-cast-count t)
-    (parser·variant-sub-steps t)
-    (parser·variant-steps-requires t)
-    (λ c κs. search needs)
-    (parser·variant-same-length t)
-    (parser·variant-same-length-2 t)
-    (parser·variant-returns-2 t)
+    (left-recursion·enter-at t) left-recursion·enter.Post (left-recursion·enter-begin-use-requires t)
+    (left-recursion·enter-same-length t) (left-recursion·enter-same-length-2 t) (left-recursion·enter-returns t)
+    (left-recursion·enter-run-call-requires t) (left-recursion·enter-same-length-3 t)
+    (left-recursion·enter-same-length-4 t) (left-recursion·enter-returns-2 t))
+    (λ t. left-recursion·rounds-lts.spec (left-recursion·rounds-callees t) (left-recursion·rounds-at t)
+    left-recursion·rounds.Post left-recursion·rounds-Inv-loop left-recursion·rounds-μ-loop
+    (left-recursion·rounds-loop-holds t) (left-recursion·rounds-one-run-requires t)
+    (left-recursion·rounds-after-round-requires t) (left-recursion·rounds-same-length t)
+    (left-recursion·rounds-same-length-2 t) (left-recursion·rounds-returns t) (left-recursion·rounds-add-round t)
+    (left-recursion·rounds-loop-less t) (left-recursion·rounds-loop-again t)
+    (left-recursion·rounds-without-failure-requires t) (left-recursion·rounds-same-length-3 t)
+    (left-recursion·rounds-same-length-4 t) (left-recursion·rounds-returns-2 t))
+    (λ t. left-recursion·run-call-lts.spec (left-recursion·run-call-callees t) (left-recursion·run-call-at t)
+    left-recursion·run-call.Post (left-recursion·run-call-open-call-requires t)
+    (left-recursion·run-call-one-run-requires t) (left-recursion·run-call-after-first-requires t)
+    (left-recursion·run-call-same-length t) (left-recursion·run-call-same-length-2 t)
+    (left-recursion·run-call-returns t) (left-recursion·run-call-rounds-requires t)
+    (left-recursion·run-call-same-length-3 t) (left-recursion·run-call-same-length-4 t)
+    (left-recursion·run-call-returns-2 t)) (λ t. parser·choice-lts.spec (parser·choice-callees t) (parser·choice-at t)
+    parser·choice.Post (parser·choice-first-side-requires t) (parser·choice-steps-requires t)
+    (parser·choice-same-length t) (parser·choice-same-length-2 t) (parser·choice-returns t)
+    (parser·choice-descend-requires t) (parser·choice-both-requires t) (parser·choice-same-length-3 t)
+    (parser·choice-same-length-4 t) (parser·choice-returns-2 t))
+    (λ t. parser·descend-lts.spec (parser·descend-callees t) (parser·descend-at t) parser·descend.Post
+    (parser·descend-begin-child-requires t) (parser·descend-enter-requires t) (parser·descend-follow-requires t)
+    (parser·descend-same-length t) (parser·descend-same-length-2 t) (parser·descend-returns t))
+    (λ t. parser·follow-lts.spec (parser·follow-callees t) (parser·follow-at t) parser·follow.Post
+    parser·follow-Inv-loop parser·follow-μ-loop (λ c κs. search needs) (parser·follow-returns t)
+    (parser·follow-parse-count-requires t) (parser·follow-loop-holds t) (λ c κs. search needs)
+    (parser·follow-same-length t) (parser·follow-same-length-2 t) (parser·follow-returns-2 t)
+    (parser·follow-nth-parse-requires t) (parser·follow-next-of-requires t) (parser·follow-sub-inner t)
+    (parser·follow-steps-requires t) (λ c κs. search needs) (parser·follow-same-length-3 t)
+    (parser·follow-same-length-4 t) (parser·follow-returns-3 t) (parser·follow-add-i t) (parser·follow-loop-less t)
+    (parser·follow-loop-again t) (parser·follow-same-length-5 t) (parser·follow-same-length-6 t)
+    (parser·follow-returns-4 t)) (λ t. parser·one-run-lts.spec (parser·one-run-callees t) (parser·one-run-at t)
+    parser·one-run.Post parser·one-run-Inv-loop parser·one-run-μ-loop (parser·one-run-nonterminal-of-requires t)
+    (parser·one-run-clear-run-requires t) (λ c. search needs) (λ c κs. search needs) (λ c κs. search needs)
+    (parser·one-run-loop-holds t) (parser·one-run-add-j t) (parser·one-run-cast-j t) (parser·one-run-variant-requires t)
+    (parser·one-run-same-length t) (parser·one-run-same-length-2 t) (parser·one-run-returns t) (parser·one-run-add-k t)
+    (parser·one-run-loop-less t) (parser·one-run-loop-again t) (parser·one-run-same-length-3 t)
+    (parser·one-run-same-length-4 t) (parser·one-run-returns-2 t)) (λ t. parser·steps-lts.spec (parser·steps-callees t)
+    (parser·steps-at t) parser·steps.Post parser·steps-Inv-loop parser·steps-μ-loop (parser·steps-loop-holds t)
+    (λ c κs. search needs) (λ c. search needs) (parser·steps-finish-requires t) (parser·steps-same-length t)
+    (parser·steps-same-length-2 t) (parser·steps-returns t) (parser·steps-take-step-requires t)
+    (parser·steps-add-step t) (parser·steps-sub-remaining t) (parser·steps-loop-less t) (parser·steps-loop-again t)
+    (λ c. search needs) (parser·steps-descend-requires t) (parser·steps-same-length-3 t) (parser·steps-same-length-4 t)
+    (parser·steps-returns-2 t) (λ c. search needs) (parser·steps-choice-requires t) (parser·steps-same-length-5 t)
+    (parser·steps-same-length-6 t) (parser·steps-returns-3 t) (λ c. search needs) (parser·steps-choice-requires-2 t)
+    (parser·steps-same-length-7 t) (parser·steps-same-length-8 t) (parser·steps-returns-4 t)
+    (parser·steps-same-length-9 t) (parser·steps-same-length-10 t) (parser·steps-returns-5 t))
+    λ t. parser·variant-lts.spec (parser·variant-callees t) (parser·variant-at t) parser·variant.Post
+    (λ c κs. search needs) (parser·variant-returns t) (parser·variant-begin-variant-requires t)
+    (parser·variant-cast-first t) (parser·variant-cast-count t) (parser·variant-sub-steps t)
+    (parser·variant-steps-requires t) (λ c κs. search needs) (parser·variant-same-length t)
+    (parser·variant-same-length-2 t) (parser·variant-returns-2 t)

@@ -43,14 +43,5 @@ pub replayed-spec : {M : Type 1} → statement M
 replayed-spec =
     tie.close
     (tie.spec
-    Inv-loop
-    μ-loop
-    loop-holds
-    record-at-requires
-    same-requires
-    counted-requires
-    counted-requires-2
-    returns
-    loop-less
-    loop-again
-    returns-2)
+    Inv-loop μ-loop loop-holds record-at-requires same-requires counted-requires counted-requires-2 returns loop-less
+    loop-again returns-2)

@@ -21,7 +21,8 @@ pub both-same : {place : ℕ} (o : Option Error) → Both place o o
 both-same none = neither
 both-same (some e) = both (record { at = refl; beyond-it = λ far. refl })
 
-pub both-either : (place : ℕ) {a b c d : Option Error} → Both place a b → Both place c d → Both place (eitherError a c) (eitherError b d)
+pub both-either : (place : ℕ) {a b c d : Option Error} → Both place a b → Both place c d →
+    Both place (eitherError a c) (eitherError b d)
 unfolding eitherError
 both-either place neither k = neither
 both-either place (both h) neither = neither
@@ -36,7 +37,8 @@ module _ (text : List ℕ) where
   -- the same but for failures
   pub data Like (u : ℕ) : Result Parsed → Result Parsed → Type 0 where
     like-limit : {number units : ℕ} → Like u (met number units) (met number units)
-    like-result : {set : List (Parse ℕ)} {s : State} {d e : Option Error} → Behind text u set → Both u d e → Like u (ok (parsed set d s)) (ok (parsed set e s))
+    like-result : {set : List (Parse ℕ)} {s : State} {d e : Option Error} → Behind text u set → Both u d e →
+        Like u (ok (parsed set d s)) (ok (parsed set e s))
 
   pub same-is : {u : ℕ} {x y : Result Parsed} → Same u x y → x ≡ y
   same-is same-limit = refl
@@ -48,40 +50,43 @@ module _ (text : List ℕ) where
   same-like l (same-result {r} b) = like-result (λ p m. let k = b p m in omega arith) (both-same (r .failure))
 
   -- a part that is the same on both sides, and then others
-  pub same-next : {u : ℕ} {A : Type 0} (m : Result A) (f g : A → Result Parsed) → ((a : A) → m ≡ ok a → Same u (f a) (g a)) → Same u (m >>= f) (m >>= g)
+  pub same-next : {u : ℕ} {A : Type 0} (m : Result A) (f g : A → Result Parsed) →
+      ((a : A) → m ≡ ok a → Same u (f a) (g a)) → Same u (m >>= f) (m >>= g)
   unfolding _>>=_
   same-next (met number units) f g k = same-limit
   same-next (ok a) f g k = k a refl
 
-  pub like-next : {u : ℕ} {A : Type 0} (m : Result A) (f g : A → Result Parsed) → ((a : A) → m ≡ ok a → Like u (f a) (g a)) → Like u (m >>= f) (m >>= g)
+  pub like-next : {u : ℕ} {A : Type 0} (m : Result A) (f g : A → Result Parsed) →
+      ((a : A) → m ≡ ok a → Like u (f a) (g a)) → Like u (m >>= f) (m >>= g)
   unfolding _>>=_
   like-next (met number units) f g k = like-limit
   like-next (ok a) f g k = k a refl
 
-  pub same-bind : {v u : ℕ} {x y : Result Parsed} (f g : Parsed → Result Parsed) → Same v x y → ((r : Parsed) → Behind text v (r .set) → Same u (f r) (g r)) →
-      Same u (x >>= f) (y >>= g)
+  pub same-bind : {v u : ℕ} {x y : Result Parsed} (f g : Parsed → Result Parsed) → Same v x y →
+      ((r : Parsed) → Behind text v (r .set) → Same u (f r) (g r)) → Same u (x >>= f) (y >>= g)
   unfolding _>>=_
   same-bind f g same-limit k = same-limit
   same-bind f g (same-result {r} b) k = k r b
 
   pub like-bind : {v u : ℕ} {x y : Result Parsed} (f g : Parsed → Result Parsed) → Like v x y →
-      ((set : List (Parse ℕ)) (s : State) (d e : Option Error) → Behind text v set → Both v d e → Like u (f (parsed set d s)) (g (parsed set e s))) →
-      Like u (x >>= f) (y >>= g)
+      ((set : List (Parse ℕ)) (s : State) (d e : Option Error) → Behind text v set → Both v d e →
+      Like u (f (parsed set d s)) (g (parsed set e s))) → Like u (x >>= f) (y >>= g)
   unfolding _>>=_
   like-bind f g like-limit k = like-limit
   like-bind f g (like-result {set} {s} {d} {e} b h) k = k set s d e b h
 
   pub like-same : {v u : ℕ} {x y : Result Parsed} (f g : Parsed → Result Parsed) → Like v x y →
-      ((set : List (Parse ℕ)) (s : State) (d e : Option Error) → Behind text v set → Both v d e → Same u (f (parsed set d s)) (g (parsed set e s))) →
-      Same u (x >>= f) (y >>= g)
+      ((set : List (Parse ℕ)) (s : State) (d e : Option Error) → Behind text v set → Both v d e →
+      Same u (f (parsed set d s)) (g (parsed set e s))) → Same u (x >>= f) (y >>= g)
   unfolding _>>=_
   like-same f g like-limit k = same-limit
   like-same f g (like-result {set} {s} {d} {e} b h) k = k set s d e b h
 
   -- ---- What a part is given to run
   abbrev pub LikeRunner : Runner → Runner → Type 0
-  LikeRunner f g = (c : Call) (j : ℕ) (todo : List (Todo ℕ)) (x items : ℕ) (set : List (Parse ℕ)) (s : State) → Ready text c → c .start ≤ x →
-      Behind text (c .start) set → Like (c .start) (f c j todo x items set s) (g c j todo x items set s)
+  LikeRunner f g =
+      (c : Call) (j : ℕ) (todo : List (Todo ℕ)) (x items : ℕ) (set : List (Parse ℕ)) (s : State) → Ready text c →
+      c .start ≤ x → Behind text (c .start) set → Like (c .start) (f c j todo x items set s) (g c j todo x items set s)
 
   pub data LikeInner : Option Runner → Option Runner → Type 0 where
     deepest : LikeInner none none
@@ -92,5 +97,6 @@ module _ (text : List ℕ) where
       Like (c .start) (go x items set s) (go′ x items set s)
 
   abbrev pub LikeNext : Call → Next → Type 0
-  LikeNext c next = (q : Parse ℕ) (s : State) (f g : Runner) (set : List (Parse ℕ)) → LikeRunner f g → c .start ≤ q .rest → Behind text (c .start) set →
-      Like (c .start) (next q s f set) (next q s g set)
+  LikeNext c next =
+      (q : Parse ℕ) (s : State) (f g : Runner) (set : List (Parse ℕ)) → LikeRunner f g → c .start ≤ q .rest →
+      Behind text (c .start) set → Like (c .start) (next q s f set) (next q s g set)

@@ -19,8 +19,10 @@ use Rattle.characters.specs.declared.lexemes.Number.{Number}
 use Rattle.book.specs.Book.{Book, nthEntry, lookupName}
 use Rattle.book.specs.declared.names.Found.{Found}
 use Rattle.book.specs.declared.records.Step.{Step}
-use Rattle.semantics.specs.Uses.{Use, Path, base, hasMark, Governor, minimum, same-start, outwards, govern, governor}
-use Rattle.semantics.specs.Tokens.{Variable, isSome, characterEnd, identifierEnd, spelled, reservedAt, freeEnd, variableAt, hasClaimant}
+use Rattle.semantics.specs.Uses.{Use, Path, base, hasMark, Governor, minimum, same-start, outwards, govern}
+use Rattle.semantics.specs.Uses.{governor}
+use Rattle.semantics.specs.Tokens.{Variable, isSome, characterEnd, identifierEnd, spelled, reservedAt, freeEnd}
+use Rattle.semantics.specs.Tokens.{variableAt, hasClaimant}
 use Rattle.semantics.specs.Steps.{Taken, stepAt, After, goes, halts, afterElement, closed}
 use Rattle.semantics.specs.Errors.{Error, identifierError, stepError}
 use Rattle.semantics.specs.Theorem.Lists.{_∈_}
@@ -43,7 +45,8 @@ unfolding outwards
 outwards-begins u (minimum m) h = tt
 outwards-begins u (same-start i f Q) h = h
 
-govern-begins : (u : ℕ) (a b : Bool) (f : Use) (P : Path) (g : Governor) → (b ≡ true → f .start ≡ u) → Begins u g → Begins u (govern a b f P g)
+govern-begins : (u : ℕ) (a b : Bool) (f : Use) (P : Path) (g : Governor) → (b ≡ true → f .start ≡ u) → Begins u g →
+    Begins u (govern a b f P g)
 unfolding govern
 govern-begins u true true f P g k h = k refl
 govern-begins u true false f P g k h = tt
@@ -52,9 +55,11 @@ govern-begins u false b f P g k h = outwards-begins u g h
 governor-begins : (P : Path) (scope N u : ℕ) → Begins u (governor P scope N u)
 unfolding governor
 governor-begins [] scope N u = tt
-governor-begins (f ∷ P) scope N u = govern-begins u _ (eqb (f .start) u) f P _ (λ t. eqb-true (f .start) u t) (governor-begins P scope N u)
+governor-begins (f ∷ P) scope N u =
+    govern-begins u _ (eqb (f .start) u) f P _ (λ t. eqb-true (f .start) u t) (governor-begins P scope N u)
 
-pub gov-start : (P : Path) (N u : ℕ) {i : ℕ} {f : Use} {Q : Path} → governor P base N u ≡ same-start i f Q → f .start ≡ u
+pub gov-start : (P : Path) (N u : ℕ) {i : ℕ} {f : Use} {Q : Path} →
+    governor P base N u ≡ same-start i f Q → f .start ≡ u
 gov-start P N u e = subst (Begins u) e (governor-begins P base N u)
 
 -- a use that claims a name begins where the name does
@@ -96,10 +101,15 @@ module _ (book : Book) (text : List ℕ) where
   variable-forward at v q =
       option-cases (freeEnd book text at)
       (λ e. absurd (none-some (rw (e, variableAt) at q)))
-      (λ end e. named-forward end (free-end-within book text at end e .0) (lookupName (book .names) (spelled text at end)) (rw (e, variableAt) at q))
+      (λ end e.
+      named-forward end (free-end-within book text at end e .0) (lookupName (book .names) (spelled text at end))
+      (rw (e, variableAt) at q))
     where
-      named-forward : (end : ℕ) → at < end → (f : Found) → elim f [ Found.Name i kind ↦ some (record { end = end; number = i; kind = kind }) | Found.Nothing ↦ none ] ≡ some v → at ≤ v .end
-      named-forward end l (Found.Name i kind) p = let is : end ≡ v .end = ap (λ (w : Variable). w .end) (some-inj p) in omega arith
+      named-forward : (end : ℕ) → at < end → (f : Found) →
+          elim f [ Found.Name i kind ↦ some (record { end = end; number = i; kind = kind }) | Found.Nothing ↦ none ]
+          ≡ some v → at ≤ v .end
+      named-forward end l (Found.Name i kind) p =
+          let is : end ≡ v .end = ap (λ (w : Variable). w .end) (some-inj p) in omega arith
       named-forward end l Found.Nothing p = absurd (none-some p)
 
   -- what a step takes, it takes at its place or further on
@@ -117,13 +127,16 @@ module _ (book : Book) (text : List ℕ) where
 
     number-on : (n : Number) → numberAt text (skipFrom text x) ≡ n → TakenOn x (stepAt book text Step.Number x)
     unfolding stepAt
-    number-on (Number.Value value end) e = rw (e, stepAt) (omega (arith, skip-on, number-bounds text (skipFrom text x) value end e .0))
+    number-on (Number.Value value end) e =
+        rw (e, stepAt) (omega (arith, skip-on, number-bounds text (skipFrom text x) value end e .0))
     number-on Number.TooLarge e = rw (e, stepAt) tt
     number-on Number.Nothing e = rw (e, stepAt) tt
 
     step-on : (step : Step) → TakenOn x (stepAt book text step x)
     unfolding stepAt
-    step-on (Step.Character a) = option-cases (characterEnd text a x) (λ e. rw (e, stepAt) tt) (λ end e. rw (e, stepAt) (character-forward text a x end e))
+    step-on (Step.Character a) =
+        option-cases (characterEnd text a x) (λ e. rw (e, stepAt) tt)
+        (λ end e. rw (e, stepAt) (character-forward text a x end e))
     step-on (Step.Word a) =
         option-cases (identifierEnd text (skipFrom text x))
         (λ e. rw (e, stepAt) tt)
@@ -146,15 +159,21 @@ module _ (book : Book) (text : List ℕ) where
         (λ v e. by-test (eqb (v .kind) a)
         (λ t. rw (e, t, stepAt) (omega (arith, skip-on, variable-forward (skipFrom text x) v e)))
         (λ t. rw (e, t, stepAt) tt))
-    step-on Step.RejectVariable = option-cases (variableAt book text (skipFrom text x)) (λ e. rw (e, stepAt) (omega arith)) (λ v e. rw (e, stepAt) tt)
-    step-on Step.RejectReserved = by-test (reservedAt book text (skipFrom text x)) (λ t. rw (t, stepAt) tt) (λ t. rw (t, stepAt) (omega arith))
+    step-on Step.RejectVariable =
+        option-cases (variableAt book text (skipFrom text x)) (λ e. rw (e, stepAt) (omega arith))
+        (λ v e. rw (e, stepAt) tt)
+    step-on Step.RejectReserved =
+        by-test (reservedAt book text (skipFrom text x)) (λ t. rw (t, stepAt) tt) (λ t. rw (t, stepAt) (omega arith))
     step-on (Step.Nonterminal M) = tt
     step-on (Step.Optional M) = tt
     step-on (Step.Many M) = omega arith
     step-on (Step.CommaList M) = omega arith
-    step-on (Step.Delimited M b c) = option-cases (characterEnd text b x) (λ e. rw (e, stepAt) tt) (λ y e. rw (e, stepAt) (character-forward text b x y e))
+    step-on (Step.Delimited M b c) =
+        option-cases (characterEnd text b x) (λ e. rw (e, stepAt) tt)
+        (λ y e. rw (e, stepAt) (character-forward text b x y e))
     step-on (Step.OptionalDelimited M b c) =
-        option-cases (characterEnd text b x) (λ e. rw (e, stepAt) skip-on) (λ y e. rw (e, stepAt) (character-forward text b x y e))
+        option-cases (characterEnd text b x) (λ e. rw (e, stepAt) skip-on)
+        (λ y e. rw (e, stepAt) (character-forward text b x y e))
 
     pub step-forward : (step : Step) {k : Taken} → stepAt book text step x ≡ k → TakenOn x k
     step-forward step e = subst (TakenOn x) e (step-on step)
@@ -167,13 +186,15 @@ module _ (book : Book) (text : List ℕ) where
       (λ t. rw (t, identifierError))
       (λ t. by-test (reservedAt book text at)
       (λ u. rw (t, u, identifierError))
-      (λ u. option-cases (identifierEnd text at) (λ e. rw (t, u, e, identifierError)) (λ end e. rw (t, u, e, identifierError) h)))
+      (λ u. option-cases (identifierEnd text at) (λ e. rw (t, u, e, identifierError)) (λ end e.
+      rw (t, u, e, identifierError) h)))
 
   number-error-place : (at : ℕ) (n : Number) → numberAt text at ≡ n → stepError book text Step.Number at .place ≡ at
   unfolding stepError
   number-error-place at n e = by-test (eqb at (length text)) (λ t. rw (t, stepError)) (λ t. by n e t)
     where
-      by : (n : Number) → numberAt text at ≡ n → eqb at (length text) ≡ false → stepError book text Step.Number at .place ≡ at
+      by : (n : Number) → numberAt text at ≡ n → eqb at (length text) ≡ false →
+          stepError book text Step.Number at .place ≡ at
       by Number.Nothing e t = rw (t, e, stepError)
       by Number.TooLarge e t = rw (t, e, stepError)
       by (Number.Value value end) e t = rw (t, e, stepError)
@@ -202,7 +223,10 @@ module _ (book : Book) (text : List ℕ) where
   claimant [] scope u e = absurd (false≢true e)
   claimant (f ∷ P) scope u e =
       by-test (hasMark book 1 (f .nonterminal) && (eqb (f .scope) scope && eqb (f .start) u))
-      (λ t. let k = and-eq-true-iff (hasMark book 1 (f .nonterminal)) (eqb (f .scope) scope && eqb (f .start) u) .0 t .1 in
+      (λ t.
+      let k = and-eq-true-iff (hasMark book 1 (f .nonterminal)) (eqb (f .scope) scope && eqb (f .start) u) .0 t .1 in
       let l = and-eq-true-iff (eqb (f .scope) scope) (eqb (f .start) u) .0 k .1 in
       record { by = f; member = List·Memᴰ·head refl; start = eqb-true (f .start) u l })
-      (λ t. let c = claimant P scope u (rw t at e) in record { by = c .by; member = List·Memᴰ·tail (c .member); start = c .start })
+      (λ t.
+      let c = claimant P scope u (rw t at e) in
+      record { by = c .by; member = List·Memᴰ·tail (c .member); start = c .start })

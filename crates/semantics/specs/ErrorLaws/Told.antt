@@ -14,7 +14,8 @@ use Rattle.semantics.specs.Tokens.{when, freeEnd, claimed}
 use Rattle.semantics.specs.Steps.{Taken, stepAt, Todo, taking, elements, ending}
 use Rattle.semantics.specs.Cells.{Cell}
 use Rattle.semantics.specs.Errors.{Error, stepError}
-use Rattle.semantics.specs.Run.{Result, ok, _>>=_, State, Parsed, parsed, Call, call, Runner, Go, kept, ask, others, withAsked}
+use Rattle.semantics.specs.Run.{Result, ok, _>>=_, State, Parsed, parsed, Call, call, Runner, Go, kept, ask}
+use Rattle.semantics.specs.Run.{others, withAsked}
 use Rattle.semantics.specs.Run.{spend, make, chosen, withCell, withToken, complete}
 use Rattle.semantics.specs.Run.{runCall, named, plainNext, listNext, stops, nested, reentry, followed}
 use Rattle.semantics.specs.Run.{stepUnit, run}
@@ -30,7 +31,8 @@ module _ (told : ℕ → ℕ → Error) (book : Book) (text : List ℕ) (inner :
   enterWith path sets N u s₀ = do
     s ← spend s₀
     elim (governor path base N u) [
-      | same-start i f around ↦ ok (reentry book text inner (kept f (getD sets i [])) (told u N) (withAsked s (ask i (s .asked))))
+      | same-start i f around ↦
+          ok (reentry book text inner (kept f (getD sets i [])) (told u N) (withAsked s (ask i (s .asked))))
       | minimum m ↦ nested book text inner s (λ run.
           let c = call path sets N u [] in
           when (hasMark book 2 N) (λ _. identifierWith c s)
@@ -63,18 +65,24 @@ module _ (told : ℕ → ℕ → Error) (book : Book) (text : List ℕ) (inner :
 
   unfoldable pub stepsWith : Runner
   stepsWith c j [] x items set s = complete book text j x items set s
-  stepsWith c j (elements comma M values close ∷ rest) x items set s = choiceWith c j comma M values close rest (stepsWith c j rest) x items set s
-  stepsWith c j (ending values close ∷ rest) x items set s = stops book text j values close (stepsWith c j rest) x items set s
+  stepsWith c j (elements comma M values close ∷ rest) x items set s =
+      choiceWith c j comma M values close rest (stepsWith c j rest) x items set s
+  stepsWith c j (ending values close ∷ rest) x items set s =
+      stops book text j values close (stepsWith c j rest) x items set s
   stepsWith c j (taking step ∷ rest) x items set s₀ = do
     s ← stepUnit book text inner step s₀
     elim (stepAt book text step x) [
       | Taken.nothing ↦ ok (parsed set (some (stepError book text step (skipFrom text x))) s)
-      | Taken.token t ↦ withToken book text j items (t .item) s >>= (λ m. stepsWith c j rest (t .next) (m .cell) set (m .state))
-      | Taken.child M ↦ enterChildWith c j M x s >>= (λ r. followed book text inner (plainNext book text c j rest items) set r)
+      | Taken.token t ↦
+          withToken book text j items (t .item) s >>= (λ m. stepsWith c j rest (t .next) (m .cell) set (m .state))
+      | Taken.child M ↦
+          enterChildWith c j M x s >>= (λ r. followed book text inner (plainNext book text c j rest items) set r)
       | Taken.optional M ↦ orAbsentWith c j M rest (stepsWith c j rest) x items set s
       | Taken.list comma M close y ↦
-          make text Cell.empty s >>= (λ e. choiceWith c j comma M (e .cell) close rest (stepsWith c j rest) y items set (e .state))
-      | Taken.unopened y ↦ make text Cell.empty s >>= (λ e. stops book text j (e .cell) none (stepsWith c j rest) y items set (e .state))
+          make text Cell.empty s
+          >>= (λ e. choiceWith c j comma M (e .cell) close rest (stepsWith c j rest) y items set (e .state))
+      | Taken.unopened y ↦
+          make text Cell.empty s >>= (λ e. stops book text j (e .cell) none (stepsWith c j rest) y items set (e .state))
     ]
 
 module _ (told : ℕ → ℕ → Error) (book : Book) (text : List ℕ) where
@@ -84,4 +92,5 @@ module _ (told : ℕ → ℕ → Error) (book : Book) (text : List ℕ) where
 
   unfoldable pub runWith : ℕ → ℕ → Result Parsed
   runWith units start =
-      enterWith told book text (runnerWith mostNesting) [] [] start (skipFrom text 0) (record { units = units; cells = []; asked = [] })
+      enterWith told book text (runnerWith mostNesting) [] [] start (skipFrom text 0)
+      (record { units = units; cells = []; asked = [] })

@@ -23,9 +23,12 @@ use Rattle.semantics.specs.Tokens.{isSome, freeEnd, variableAt, hasClaim
 use Rattle.semantics.specs.Steps.{stepAt, afterElement, closed, Todo, taking, elements, ending, todoOf}
 use Rattle.semantics.specs.Cells.{Cell}
 use Rattle.semantics.specs.Errors.{Error, joinWith}
-use Rattle.semantics.specs.Run.{Result, met, ok, _>>=_, State, Parsed, parsed, Call, call, withMine, Runner, Go, Next, allIn, kept, newest, others, withAsked}
-use Rattle.semantics.specs.Run.{add, addAll, spend, make, failedCall, either as eitherError, chosen, begin, withCell, withToken, complete, counted, variants, oneRun}
-use Rattle.semantics.specs.Run.{rounds, runCall, named, runIdentifier, plainNext, listNext, stops, nested, reentry, enter, enterChild, followMore, follow, followed}
+use Rattle.semantics.specs.Run.{Result, met, ok, _>>=_, State, Parsed, parsed, Call, call, withMine, Runner, Go}
+use Rattle.semantics.specs.Run.{Next, allIn, kept, newest, others, withAsked}
+use Rattle.semantics.specs.Run.{add, addAll, spend, make, failedCall, either as eitherError, chosen, begin}
+use Rattle.semantics.specs.Run.{withCell, withToken, complete, counted, variants, oneRun}
+use Rattle.semantics.specs.Run.{rounds, runCall, named, runIdentifier, plainNext, listNext, stops, nested}
+use Rattle.semantics.specs.Run.{reentry, enter, enterChild, followMore, follow, followed}
 use Rattle.semantics.specs.Run.{stepUnit, orAbsent, choice, listing, steps, runner, run}
 use Rattle.semantics.specs.Answer.{atEnd}
 use Rattle.semantics.specs.Theorem.Lists.{_∈_, sift-out, nth}
@@ -34,20 +37,27 @@ use Rattle.semantics.specs.Theorem.Sets.{kept-sift}
 use Rattle.semantics.specs.Theorem.Sound.{At, gov-at}
 use Rattle.semantics.specs.Theorem.Tokens.{free-end-within}
 use Rattle.semantics.specs.ErrorLaws.{Alike, alike-choice, alike-counted}
-use Rattle.semantics.specs.ErrorLaws.Places.{at-in, gov-start, claimant, closed-forward, Onward, after-onward, step-forward}
-use Rattle.semantics.specs.ErrorLaws.Skipped.{Behind, nothing-behind, behind-add, behind-all, Around, Ready, around-child, child-at-start}
-use Rattle.semantics.specs.ErrorLaws.Told.{identifierWith, enterWith, enterChildWith, orAbsentWith, choiceWith, stepsWith, runnerWith, runWith}
-use Rattle.semantics.specs.ErrorLaws.Like.{Both, neither, both, both-same, both-either, Same, same-limit, same-result, Like, like-limit, like-result}
-use Rattle.semantics.specs.ErrorLaws.Like.{same-is, same-like, same-next, like-next, same-bind, like-bind, like-same, LikeRunner, LikeInner, deepest, deeper}
+use Rattle.semantics.specs.ErrorLaws.Places.{at-in, gov-start, claimant, closed-forward, Onward, after-onward}
+use Rattle.semantics.specs.ErrorLaws.Places.{step-forward}
+use Rattle.semantics.specs.ErrorLaws.Skipped.{Behind, nothing-behind, behind-add, behind-all, Around, Ready}
+use Rattle.semantics.specs.ErrorLaws.Skipped.{around-child, child-at-start}
+use Rattle.semantics.specs.ErrorLaws.Told.{identifierWith, enterWith, enterChildWith, orAbsentWith, choiceWith}
+use Rattle.semantics.specs.ErrorLaws.Told.{stepsWith, runnerWith, runWith}
+use Rattle.semantics.specs.ErrorLaws.Like.{Both, neither, both, both-same, both-either, Same, same-limit}
+use Rattle.semantics.specs.ErrorLaws.Like.{same-result, Like, like-limit, like-result}
+use Rattle.semantics.specs.ErrorLaws.Like.{same-is, same-like, same-next, like-next, same-bind, like-bind}
+use Rattle.semantics.specs.ErrorLaws.Like.{like-same, LikeRunner, LikeInner, deepest, deeper}
 use Rattle.semantics.specs.ErrorLaws.Like.{LikeGo, LikeNext}
 
 module _ (book : Book) (text : List ℕ) where
   -- a call counts the same of failures that are alike to it
-  both-counted : (c : Call) (j : ℕ) {d e : Option Error} → Both (c .start) d e → counted book text c j d ≡ counted book text c j e
+  both-counted : (c : Call) (j : ℕ) {d e : Option Error} → Both (c .start) d e →
+      counted book text c j d ≡ counted book text c j e
   both-counted c j neither = refl
   both-counted c j (both {a} {b} h) = alike-counted book text c j a b h
 
-  chosen-like : {u : ℕ} (c : Call) (at : ℕ) {d e d′ e′ : Option Error} (set : List (Parse ℕ)) (s : State) → u ≤ at → Both u d e → Behind text u set → Both u d′ e′ →
+  chosen-like : {u : ℕ} (c : Call) (at : ℕ) {d e d′ e′ : Option Error} (set : List (Parse ℕ)) (s : State) → u ≤ at →
+      Both u d e → Behind text u set → Both u d′ e′ →
       Like text u (ok (chosen c at d (parsed set d′ s))) (ok (chosen c at e (parsed set e′ s)))
   unfolding chosen
   chosen-like c at set s l neither b k = like-result b neither
@@ -59,27 +69,34 @@ module _ (book : Book) (text : List ℕ) where
       Like text u (complete book text j x items set s) (complete book text j x items set s)
   unfolding complete
   complete-like {u} j x items set s l b =
-      like-next text _ _ _ (λ m valued. like-next text (add (m .state) set _) _ _ (λ more joined. like-result (behind-add text (m .state) set _ joined b l) neither))
+      like-next text _ _ _ (λ m valued. like-next text (add (m .state) set _) _ _ (λ more joined.
+      like-result (behind-add text (m .state) set _ joined b l) neither))
 
   -- ---- A call
   module _ (f g : Runner) (like : LikeRunner text f g) where
-    variants-same : (c : Call) (m n j : ℕ) (set : List (Parse ℕ)) (o : Option Error) (s : State) → Ready text c → Behind text (c .start) set →
+    variants-same : (c : Call) (m n j : ℕ) (set : List (Parse ℕ)) (o : Option Error) (s : State) → Ready text c →
+        Behind text (c .start) set →
         Same text (c .start) (variants book text f c m n j set o s) (variants book text g c m n j set o s)
     unfolding variants
     variants-same c m zero j set o s h b = same-result b
     variants-same c m (suc n) j set o s h b =
         by-test (leb m (nthVariant book j .level))
         (λ t. rw t (same-next text (begin book text j s) _ _ (λ a begun.
-        like-same text _ _ (like c j (todoOf book (nthVariant book j)) (c .start) (a .cell) set (a .state) h (omega arith) b) (λ more s′ d e b′ k.
+        like-same text _ _
+        (like c j (todoOf book (nthVariant book j)) (c .start) (a .cell) set (a .state) h (omega arith) b)
+        (λ more s′ d e b′ k.
         rw (both-counted c j k) (variants-same c m n (suc j) more (joinWith o (counted book text c j e)) s′ h b′)))))
         (λ t. rw t (variants-same c m n (suc j) set o s h b))
 
-    one-run-same : (c : Call) (m : ℕ) (s : State) → Ready text c → Same text (c .start) (oneRun book text f c m s) (oneRun book text g c m s)
+    one-run-same : (c : Call) (m : ℕ) (s : State) → Ready text c →
+        Same text (c .start) (oneRun book text f c m s) (oneRun book text g c m s)
     unfolding oneRun
     one-run-same c m s h =
-        variants-same c m (nthNonterminal book (c .nonterminal) .count) (nthNonterminal book (c .nonterminal) .first) [] none s h (nothing-behind text)
+        variants-same c m (nthNonterminal book (c .nonterminal) .count) (nthNonterminal book (c .nonterminal) .first) []
+        none s h (nothing-behind text)
 
-    rounds-same : (n : ℕ) (c : Call) (m : ℕ) (s : State) → Ready text c → Same text (c .start) (rounds book text n f c m s) (rounds book text n g c m s)
+    rounds-same : (n : ℕ) (c : Call) (m : ℕ) (s : State) → Ready text c →
+        Same text (c .start) (rounds book text n f c m s) (rounds book text n g c m s)
     unfolding rounds
     rounds-same zero c m s h = same-limit
     rounds-same (suc n) c m s h =
@@ -87,20 +104,25 @@ module _ (book : Book) (text : List ℕ) where
         by-test (allIn (c .mine) (r .set))
         (λ t. rw t (same-result (h .mine)))
         (λ t. rw t (same-next text (addAll (r .state) (c .mine) (r .set)) _ _ (λ all joined.
-        rounds-same n (withMine c all) m (r .state) (record { around = h .around; mine = behind-all text (r .state) (c .mine) (r .set) joined (h .mine) b })))))
+        rounds-same n (withMine c all) m (r .state)
+        (record { around = h .around; mine = behind-all text (r .state) (c .mine) (r .set) joined (h .mine) b })))))
 
-    run-call-same : (c : Call) (m : ℕ) (s : State) → Ready text c → Same text (c .start) (runCall book text f c m s) (runCall book text g c m s)
+    run-call-same : (c : Call) (m : ℕ) (s : State) → Ready text c →
+        Same text (c .start) (runCall book text f c m s) (runCall book text g c m s)
     unfolding runCall
     run-call-same c m s h =
         same-bind text _ _ (one-run-same c m s h) (λ r b.
         list-cases (r .set)
         (λ empty. rw empty (same-result (nothing-behind text)))
         (λ p ps found. by-test (newest (r .state .asked))
-        (λ t. rw (found, t) (rounds-same mostRounds (withMine c (r .set)) m (r .state) (record { around = h .around; mine = b })))
+        (λ t. rw (found, t)
+        (rounds-same mostRounds (withMine c (r .set)) m (r .state) (record { around = h .around; mine = b })))
         (λ t. rw (found, t) (same-result b))))
 
   -- a name that is read
-  named-same : (c : Call) (s : State) → Same text (c .start) (named book text c s (freeEnd book text (c .start))) (named book text c s (freeEnd book text (c .start)))
+  named-same : (c : Call) (s : State) →
+      Same text (c .start) (named book text c s (freeEnd book text (c .start)))
+      (named book text c s (freeEnd book text (c .start)))
   unfolding named
   named-same c s =
       option-cases (freeEnd book text (c .start))
@@ -115,7 +137,8 @@ module _ (book : Book) (text : List ℕ) where
     plain-next-like : (j : ℕ) (rest : List (Todo ℕ)) (items : ℕ) → LikeNext text c (plainNext book text c j rest items)
     unfolding plainNext
     plain-next-like j rest items q s f g set like l b =
-        like-next text (withCell book text j items (q .value) s) _ _ (λ m linked. like c j rest (q .rest) (m .cell) set (m .state) h l b)
+        like-next text (withCell book text j items (q .value) s) _ _
+        (λ m linked. like c j rest (q .rest) (m .cell) set (m .state) h l b)
 
     list-next-like : (j : ℕ) (comma : Bool) (M values : ℕ) (close : Option ℕ) (rest : List (Todo ℕ)) (items : ℕ) →
         LikeNext text c (listNext book text c j comma M values close rest items)
@@ -136,25 +159,33 @@ module _ (book : Book) (text : List ℕ) where
         option-cases (closed text close x)
         (λ unclosed. rw unclosed (like-result b (both-same _)))
         (λ y there. let on = closed-forward text close x y there in
-        rw there (like-next text (withCell book text j items (a .cell) (a .state)) _ _ (λ m linked. like y (m .cell) set (m .state) (omega arith) b))))
+        rw there (like-next text (withCell book text j items (a .cell) (a .state)) _ _ (λ m linked.
+        like y (m .cell) set (m .state) (omega arith) b))))
 
   -- ---- One level of nesting
-  module _ (told : ℕ → ℕ → Error) (there : (u N : ℕ) → told u N .place ≡ u) (inner inner′ : Option Runner) (likes : LikeInner text inner inner′) where
-    nested-same : {u : ℕ} (s : State) (k k′ : Runner → Result Parsed) → ((f g : Runner) → LikeRunner text f g → Same text u (k f) (k′ g)) →
+  module _ (told : ℕ → ℕ → Error) (there : (u N : ℕ) → told u N .place ≡ u) (inner inner′ : Option Runner)
+      (likes : LikeInner text inner inner′) where
+    nested-same : {u : ℕ} (s : State) (k k′ : Runner → Result Parsed) →
+        ((f g : Runner) → LikeRunner text f g → Same text u (k f) (k′ g)) →
         Same text u (nested book text inner s k) (nested book text inner′ s k′)
     unfolding nested
     nested-same {u} s k k′ h = by likes
       where
-        by : {o o′ : Option Runner} → LikeInner text o o′ → Same text u (elim o [ some run ↦ k run | none ↦ met tooDeep (s .units) ]) (elim o′ [ some run ↦ k′ run | none ↦ met tooDeep (s .units) ])
+        by : {o o′ : Option Runner} → LikeInner text o o′ →
+            Same text u (elim o [ some run ↦ k run | none ↦ met tooDeep (s .units) ])
+            (elim o′ [ some run ↦ k′ run | none ↦ met tooDeep (s .units) ])
         by deepest = same-limit
         by (deeper {f} {g} like) = h f g like
 
-    nested-like : {u : ℕ} (s : State) (k k′ : Runner → Result Parsed) → ((f g : Runner) → LikeRunner text f g → Like text u (k f) (k′ g)) →
+    nested-like : {u : ℕ} (s : State) (k k′ : Runner → Result Parsed) →
+        ((f g : Runner) → LikeRunner text f g → Like text u (k f) (k′ g)) →
         Like text u (nested book text inner s k) (nested book text inner′ s k′)
     unfolding nested
     nested-like {u} s k k′ h = by likes
       where
-        by : {o o′ : Option Runner} → LikeInner text o o′ → Like text u (elim o [ some run ↦ k run | none ↦ met tooDeep (s .units) ]) (elim o′ [ some run ↦ k′ run | none ↦ met tooDeep (s .units) ])
+        by : {o o′ : Option Runner} → LikeInner text o o′ →
+            Like text u (elim o [ some run ↦ k run | none ↦ met tooDeep (s .units) ])
+            (elim o′ [ some run ↦ k′ run | none ↦ met tooDeep (s .units) ])
         by deepest = like-limit
         by (deeper {f} {g} like) = h f g like
 
@@ -166,13 +197,17 @@ module _ (book : Book) (text : List ℕ) where
       -- the runs of a call
       called-same : (s : State) (m : ℕ) (f g : Runner) → LikeRunner text f g →
           Same text u
-          (runCall book text f (call P S N u []) m (withAsked s (false ∷ s .asked)) >>= (λ r. ok (parsed (r .set) (r .failure) (withAsked (r .state) (others (r .state .asked))))))
-          (runCall book text g (call P S N u []) m (withAsked s (false ∷ s .asked)) >>= (λ r. ok (parsed (r .set) (r .failure) (withAsked (r .state) (others (r .state .asked))))))
+          (runCall book text f (call P S N u []) m (withAsked s (false ∷ s .asked))
+          >>= (λ r. ok (parsed (r .set) (r .failure) (withAsked (r .state) (others (r .state .asked))))))
+          (runCall book text g (call P S N u []) m (withAsked s (false ∷ s .asked))
+          >>= (λ r. ok (parsed (r .set) (r .failure) (withAsked (r .state) (others (r .state .asked))))))
       called-same s m f g like =
-          same-bind text _ _ (run-call-same f g like (call P S N u []) m (withAsked s (false ∷ s .asked)) opened) (λ r b. same-result b)
+          same-bind text _ _
+          (run-call-same f g like (call P S N u []) m (withAsked s (false ∷ s .asked)) opened) (λ r b. same-result b)
 
       unclaimed-same : (s : State) → claimed book text P base u ≡ false →
-          Same text u (identifierWith told book text inner (call P S N u []) s) (runIdentifier book text (call P S N u []) s)
+          Same text u (identifierWith told book text inner (call P S N u []) s)
+          (runIdentifier book text (call P S N u []) s)
       unfolding identifierWith runIdentifier
       unclaimed-same s free = rw free (named-same (call P S N u []) s)
 
@@ -183,7 +218,8 @@ module _ (book : Book) (text : List ℕ) where
       reentry-like (p ∷ ps) a b s k alike = like-result k neither
 
       -- a call that no use around it can answer or claim
-      enter-same : ((f : Use) → f ∈ P → f .start ≡ u → ⊥) → (s : State) → Same text u (enterWith told book text inner P S N u s) (enter book text inner′ P S N u s)
+      enter-same : ((f : Use) → f ∈ P → f .start ≡ u → ⊥) → (s : State) →
+          Same text u (enterWith told book text inner P S N u s) (enter book text inner′ P S N u s)
       unfolding enterWith enter
       enter-same alone s₀ =
           same-next text (spend s₀) _ _ (λ s spent.
@@ -199,7 +235,9 @@ module _ (book : Book) (text : List ℕ) where
             where
               claims : claimed book text P base u ≡ true → ⊥
               claims t =
-                  let k = claimant book text P base u (and-eq-true-iff (isSome (variableAt book text u)) (hasClaimant book text P base u) .0 t .1) in
+                  let k =
+                  claimant book text P base u
+                  (and-eq-true-iff (isSome (variableAt book text u)) (hasClaimant book text P base u) .0 t .1) in
                   alone (k .by) (k .member) (k .start)
 
       -- a child's call, of a call that begins at v, where every use around it that begins there makes the call begin
@@ -208,7 +246,9 @@ module _ (book : Book) (text : List ℕ) where
         alike-there : (a b : Error) → u ≡ v → a .place ≡ u → b .place ≡ u → Alike v a b
         alike-there a b s h k = record { at = h ∙ sym k; beyond-it = λ far. absurd (omega arith) }
 
-        claimed-like : (s : State) → Like text v (identifierWith told book text inner (call P S N u []) s) (runIdentifier book text (call P S N u []) s)
+        claimed-like : (s : State) →
+            Like text v (identifierWith told book text inner (call P S N u []) s)
+            (runIdentifier book text (call P S N u []) s)
         unfolding identifierWith runIdentifier named failedCall
         claimed-like s =
             by-test (claimed book text P base u)
@@ -217,17 +257,21 @@ module _ (book : Book) (text : List ℕ) where
           where
             claims : claimed book text P base u ≡ true → u ≡ v
             claims t =
-                let k = claimant book text P base u (and-eq-true-iff (isSome (variableAt book text u)) (hasClaimant book text P base u) .0 t .1) in
+                let k =
+                claimant book text P base u
+                (and-eq-true-iff (isSome (variableAt book text u)) (hasClaimant book text P base u) .0 t .1) in
                 starts (k .by) (k .member) (k .start)
 
-        stored : (i : ℕ) (f : Use) (Q : Path) → governor P base N u ≡ same-start i f Q → Behind text v (kept f (nth S i))
+        stored : (i : ℕ) (f : Use) (Q : Path) → governor P base N u ≡ same-start i f Q →
+            Behind text v (kept f (nth S i))
         stored i f Q gov p m =
             let k = sift-out (keeps f) (nth S i) (subst (λ z. p ∈ z) (kept-sift f (nth S i)) m) .0 in
             let least = h .stored i f Q (gov-at P N u gov) p k in
             let start = gov-start P N u gov in
             omega arith
 
-        enter-like : (s : State) → Like text v (enterWith told book text inner P S N u s) (enter book text inner′ P S N u s)
+        enter-like : (s : State) →
+            Like text v (enterWith told book text inner P S N u s) (enter book text inner′ P S N u s)
         unfolding enterWith enter
         enter-like s₀ =
             like-next text (spend s₀) _ _ (λ s spent.
@@ -246,39 +290,51 @@ module _ (book : Book) (text : List ℕ) where
       unfolding enterChildWith enterChild
       child-like j M x s l =
           let on = skip-forward text x in
-          enter-like _ (c .mine ∷ c .stored) M (skipFrom text x) (around-child book text c h j x l) (c .start) (omega arith)
+          enter-like _ (c .mine ∷ c .stored) M (skipFrom text x)
+          (around-child book text c h j x l) (c .start) (omega arith)
           (λ f m e. child-at-start book text c h j x l f m e) s
 
-      follow-more-like : (next : Next) → LikeNext text c next → (qs set : List (Parse ℕ)) (d e : Option Error) (s : State) → Behind text (c .start) qs →
+      follow-more-like : (next : Next) → LikeNext text c next →
+          (qs set : List (Parse ℕ)) (d e : Option Error) (s : State) → Behind text (c .start) qs →
           Behind text (c .start) set → Both (c .start) d e →
-          Like text (c .start) (followMore book text inner next qs set d s) (followMore book text inner′ next qs set e s)
+          Like text (c .start) (followMore book text inner next qs set d s)
+          (followMore book text inner′ next qs set e s)
       unfolding followMore
       follow-more-like next like [] set d e s q b k = like-result b k
       follow-more-like next like (p ∷ qs) set d e s q b k =
-          like-bind text _ _ (nested-like s _ _ (λ f g runs. like p s f g set runs (q p (List·Memᴰ·head refl)) b)) (λ more s′ d′ e′ b′ k′.
-          follow-more-like next like qs more (eitherError d d′) (eitherError e e′) s′ (λ o m. q o (List·Memᴰ·tail m)) b′ (both-either (c .start) k k′))
+          like-bind text _ _
+          (nested-like s _ _ (λ f g runs. like p s f g set runs (q p (List·Memᴰ·head refl)) b)) (λ more s′ d′ e′ b′ k′.
+          follow-more-like next like qs more (eitherError d d′) (eitherError e e′) s′ (λ o m. q o (List·Memᴰ·tail m)) b′
+          (both-either (c .start) k k′))
 
-      follow-like : (next : Next) → LikeNext text c next → (qs set : List (Parse ℕ)) (s : State) → Behind text (c .start) qs → Behind text (c .start) set →
+      follow-like : (next : Next) → LikeNext text c next → (qs set : List (Parse ℕ)) (s : State) →
+          Behind text (c .start) qs → Behind text (c .start) set →
           Like text (c .start) (follow book text inner next qs set s) (follow book text inner′ next qs set s)
       unfolding follow
       follow-like next like [] set s q b = like-result b neither
       follow-like next like (p ∷ qs) set s q b =
-          like-bind text _ _ (nested-like s _ _ (λ f g runs. like p s f g set runs (q p (List·Memᴰ·head refl)) b)) (λ more s′ d′ e′ b′ k′.
+          like-bind text _ _
+          (nested-like s _ _ (λ f g runs. like p s f g set runs (q p (List·Memᴰ·head refl)) b)) (λ more s′ d′ e′ b′ k′.
           follow-more-like next like qs more d′ e′ s′ (λ o m. q o (List·Memᴰ·tail m)) b′ k′)
 
-      followed-like : (next : Next) → LikeNext text c next → (set qs : List (Parse ℕ)) (s : State) {d e : Option Error} → Behind text (c .start) set →
+      followed-like : (next : Next) → LikeNext text c next →
+          (set qs : List (Parse ℕ)) (s : State) {d e : Option Error} → Behind text (c .start) set →
           Behind text (c .start) qs → Both (c .start) d e →
-          Like text (c .start) (followed book text inner next set (parsed qs d s)) (followed book text inner′ next set (parsed qs e s))
+          Like text (c .start) (followed book text inner next set (parsed qs d s))
+          (followed book text inner′ next set (parsed qs e s))
       unfolding followed
       followed-like next like set qs s b q neither = follow-like next like qs set s q b
       followed-like next like set qs s b q (both k) = like-result b (both k)
 
       -- both sides of a choice, after the first
-      sides-like : (j M x : ℕ) (next : Next) → LikeNext text c next → (set : List (Parse ℕ)) (s : State) {d e : Option Error} → c .start ≤ x → Behind text (c .start) set →
+      sides-like : (j M x : ℕ) (next : Next) → LikeNext text c next →
+          (set : List (Parse ℕ)) (s : State) {d e : Option Error} → c .start ≤ x → Behind text (c .start) set →
           Both (c .start) d e →
           Like text (c .start)
-          (enterChildWith told book text inner c j M x s >>= (λ r. followed book text inner next set r >>= (λ b. ok (chosen c (skipFrom text x) d b))))
-          (enterChild book text inner′ c j M x s >>= (λ r. followed book text inner′ next set r >>= (λ b. ok (chosen c (skipFrom text x) e b))))
+          (enterChildWith told book text inner c j M x s
+          >>= (λ r. followed book text inner next set r >>= (λ b. ok (chosen c (skipFrom text x) d b))))
+          (enterChild book text inner′ c j M x s
+          >>= (λ r. followed book text inner′ next set r >>= (λ b. ok (chosen c (skipFrom text x) e b))))
       sides-like j M x next like set s l b k =
           let on = skip-forward text x in
           like-bind text _ _ (child-like j M x s l) (λ qs s′ d′ e′ q k′.
@@ -287,7 +343,8 @@ module _ (book : Book) (text : List ℕ) where
 
       -- ---- Steps
       module _ (j : ℕ) (rest : List (Todo ℕ)) (go go′ : Go) (like : LikeGo text c go go′) where
-        or-absent-like : (M : ℕ) → LikeGo text c (orAbsentWith told book text inner c j M rest go) (orAbsent book text inner′ c j M rest go′)
+        or-absent-like : (M : ℕ) →
+            LikeGo text c (orAbsentWith told book text inner c j M rest go) (orAbsent book text inner′ c j M rest go′)
         unfolding orAbsentWith orAbsent
         or-absent-like M x items set s l b =
             like-next text (make text Cell.absent s) _ _ (λ absent missing.
@@ -296,45 +353,55 @@ module _ (book : Book) (text : List ℕ) where
             sides-like j M x (plainNext book text c j rest items) (plain-next-like c h j rest items) more s′ l b′ k)))
 
         choice-like : (comma : Bool) (M values : ℕ) (close : Option ℕ) →
-            LikeGo text c (choiceWith told book text inner c j comma M values close rest go) (choice book text inner′ c j comma M values close rest go′)
+            LikeGo text c (choiceWith told book text inner c j comma M values close rest go)
+            (choice book text inner′ c j comma M values close rest go′)
         unfolding choiceWith choice
         choice-like comma M values close x items set s₀ l b =
             like-next text (spend s₀) _ _ (λ s spent.
             like-bind text _ _ (stops-like c h j values close go go′ like x items set s l b) (λ more s′ d e b′ k.
-            sides-like j M x (listNext book text c j comma M values close rest items) (list-next-like c h j comma M values close rest items) more s′ l b′ k))
+            sides-like j M x (listNext book text c j comma M values close rest items)
+            (list-next-like c h j comma M values close rest items) more s′ l b′ k))
 
-      take-like : (j : ℕ) (step : Step) (rest : List (Todo ℕ)) → LikeGo text c (stepsWith told book text inner c j rest) (steps book text inner′ c j rest) →
-          LikeGo text c (stepsWith told book text inner c j (taking step ∷ rest)) (steps book text inner′ c j (taking step ∷ rest))
+      take-like : (j : ℕ) (step : Step) (rest : List (Todo ℕ)) →
+          LikeGo text c (stepsWith told book text inner c j rest) (steps book text inner′ c j rest) →
+          LikeGo text c (stepsWith told book text inner c j (taking step ∷ rest))
+          (steps book text inner′ c j (taking step ∷ rest))
       unfolding stepsWith steps stepUnit listing
       take-like j step rest like x items set s₀ l b =
           like-next text (stepUnit book text inner step s₀) _ _ (λ s unit.
           taken-cases (stepAt book text step x)
           (λ takes. rw takes (like-result b (both-same _)))
           (λ t takes. let on : x ≤ t .next = step-forward book text x step takes in
-          rw takes (like-next text (withToken book text j items (t .item) s) _ _ (λ m linked. like (t .next) (m .cell) set (m .state) (omega arith) b)))
+          rw takes (like-next text (withToken book text j items (t .item) s) _ _ (λ m linked.
+          like (t .next) (m .cell) set (m .state) (omega arith) b)))
           (λ M takes. rw takes (like-bind text _ _ (child-like j M x s l) (λ qs s′ d e q k.
           followed-like (plainNext book text c j rest items) (plain-next-like c h j rest items) set qs s′ b q k)))
           (λ M takes. rw takes (or-absent-like j rest _ _ like M x items set s l b))
           (λ comma M close y takes. let on : x ≤ y = step-forward book text x step takes in
-          rw takes (like-next text (make text Cell.empty s) _ _ (λ e begun. choice-like j rest _ _ like comma M (e .cell) close y items set (e .state) (omega arith) b)))
+          rw takes (like-next text (make text Cell.empty s) _ _ (λ e begun.
+          choice-like j rest _ _ like comma M (e .cell) close y items set (e .state) (omega arith) b)))
           (λ y takes. let on : x ≤ y = step-forward book text x step takes in
-          rw takes (like-next text (make text Cell.empty s) _ _ (λ e begun. stops-like c h j (e .cell) none _ _ like y items set (e .state) (omega arith) b))))
+          rw takes (like-next text (make text Cell.empty s) _ _ (λ e begun.
+          stops-like c h j (e .cell) none _ _ like y items set (e .state) (omega arith) b))))
 
     steps-like : LikeRunner text (stepsWith told book text inner) (steps book text inner′)
     unfolding stepsWith steps
     steps-like c j [] x items set s h l b = complete-like j x items set s l b
     steps-like c j (elements comma M values close ∷ rest) x items set s h l b =
-        choice-like c h j rest _ _ (λ y is u t k m. steps-like c j rest y is u t h k m) comma M values close x items set s l b
+        choice-like c h j rest _ _ (λ y is u t k m. steps-like c j rest y is u t h k m) comma M
+        values close x items set s l b
     steps-like c j (ending values close ∷ rest) x items set s h l b =
         stops-like c h j values close _ _ (λ y is u t k m. steps-like c j rest y is u t h k m) x items set s l b
-    steps-like c j (taking step ∷ rest) x items set s h l b = take-like c h j step rest (λ y is u t k m. steps-like c j rest y is u t h k m) x items set s l b
+    steps-like c j (taking step ∷ rest) x items set s h l b =
+        take-like c h j step rest (λ y is u t k m. steps-like c j rest y is u t h k m) x items set s l b
 
   -- ---- The whole run
   module _ (told : ℕ → ℕ → Error) (there : (u N : ℕ) → told u N .place ≡ u) where
     runner-like : (n : ℕ) → LikeInner text (runnerWith told book text n) (runner book text n)
     unfolding runnerWith runner
     runner-like zero = deepest
-    runner-like (suc n) = deeper (steps-like told there (runnerWith told book text n) (runner book text n) (runner-like n))
+    runner-like (suc n) =
+        deeper (steps-like told there (runnerWith told book text n) (runner book text n) (runner-like n))
 
     none-around : {i : ℕ} {f : Use} {Q : Path} → At [] i f Q → ⊥
     none-around a = elim a [ ]
@@ -344,11 +411,16 @@ module _ (book : Book) (text : List ℕ) where
     unfolding runWith run
     run-with units start =
         same-is text
-        (enter-same told there (runnerWith told book text mostNesting) (runner book text mostNesting) (runner-like mostNesting) [] [] start (skipFrom text 0)
-        (record { skipped = skip-twice text 0; starts = λ f m. absurd (List·Memᴰ·not-nil m); stored = λ i f Q a. absurd (none-around a) })
+        (enter-same told there (runnerWith told book text mostNesting) (runner book text mostNesting)
+        (runner-like mostNesting) [] [] start (skipFrom text 0) (record {
+          skipped = skip-twice text 0;
+          starts = λ f m. absurd (List·Memᴰ·not-nil m);
+          stored = λ i f Q a. absurd (none-around a);
+        })
         (λ f m e. List·Memᴰ·not-nil m) _)
 
     -- and so is the answer
     pub answer-with : (cells parses : List ℕ) (start allowance : ℕ) →
-        atEnd cells parses text allowance (runWith told book text allowance start) ≡ atEnd cells parses text allowance (run book text allowance start)
+        atEnd cells parses text allowance (runWith told book text allowance start)
+        ≡ atEnd cells parses text allowance (run book text allowance start)
     answer-with cells parses start allowance = ap (atEnd cells parses text allowance) (run-with allowance start)

@@ -29,20 +29,23 @@ pub accepted-inj : {A : Type 0} {x y : A} {p q : ℕ} → accepted x p ≡ accep
 accepted-inj e = cc
 
 -- two parts were read, the second from where the first ended
-pub by-then : {A B P : Type 0} (c : Checked A) (f : A → ℕ → Checked B) {y : B} {end : ℕ} → andThen c f ≡ accepted y end →
-    ((x : A) (at : ℕ) → c ≡ accepted x at → f x at ≡ accepted y end → P) → P
+pub by-then : {A B P : Type 0} (c : Checked A) (f : A → ℕ → Checked B) {y : B} {end : ℕ} →
+    andThen c f ≡ accepted y end → ((x : A) (at : ℕ) → c ≡ accepted x at → f x at ≡ accepted y end → P) → P
 by-then (refused number place) f e k = absurd (refused-accepted e)
 by-then (accepted x at) f e k = k x at refl e
 
 -- a field was read, and then what follows it
 pub by-field : {B P : Type 0} (fits : ℕ → Bool) (bytes : List ℕ) (place : ℕ) (f : ℕ → ℕ → Checked B) {y : B} {end : ℕ} →
     andThen (field fits bytes place) f ≡ accepted y end → ((v at : ℕ) → fits v ≡ true → f v at ≡ accepted y end → P) → P
-by-field fits bytes place f e k = by-then (field fits bytes place) f e (λ v at told next. k v at (checked-told fits 6 place bytes place v at told .fitted) next)
+by-field fits bytes place f e k =
+    by-then (field fits bytes place) f e
+    (λ v at told next. k v at (checked-told fits 6 place bytes place v at told .fitted) next)
 
 -- a section was read, whose count passed the test, and then what follows it
-pub by-section : {A B P : Type 0} (fits : ℕ → Bool) (size : A → ℕ) (one : ℕ → Reader A) (bytes : List ℕ) (place : ℕ) (f : List A → ℕ → Checked B)
-    {y : B} {end : ℕ} → andThen (section fits size one bytes place) f ≡ accepted y end →
-    ((n start : ℕ) (xs : List A) (at : ℕ) → fits n ≡ true → row size one n 0 bytes start ≡ accepted xs at → f xs at ≡ accepted y end → P) → P
+pub by-section : {A B P : Type 0} (fits : ℕ → Bool) (size : A → ℕ) (one : ℕ → Reader A) (bytes : List ℕ) (place : ℕ)
+    (f : List A → ℕ → Checked B) {y : B} {end : ℕ} → andThen (section fits size one bytes place) f ≡ accepted y end →
+    ((n start : ℕ) (xs : List A) (at : ℕ) → fits n ≡ true → row size one n 0 bytes start ≡ accepted xs at →
+    f xs at ≡ accepted y end → P) → P
 by-section fits size one bytes place f e k =
     by-then (section fits size one bytes place) f e (λ xs at told next.
     by-then (count fits bytes place) (λ n start. row size one n 0 bytes start) told (λ n start counted read.
@@ -55,7 +58,8 @@ module _ {A : Type 0} (size : A → ℕ) (one : ℕ → Reader A) (P : A → Typ
   at-number zero x xs here others = here
   at-number (suc i) x xs here others = others i
 
-  row-each : (n sum place : ℕ) {xs : List A} {end : ℕ} → row size one n sum bytes place ≡ accepted xs end → (i : ℕ) → P (getD xs i d)
+  row-each : (n sum place : ℕ) {xs : List A} {end : ℕ} → row size one n sum bytes place ≡ accepted xs end →
+      (i : ℕ) → P (getD xs i d)
   unfolding row
   row-each zero sum place e i = subst (λ (l : List A). P (getD l i d)) (accepted-inj e) beyond
   row-each (suc n) sum place e i =
@@ -72,16 +76,19 @@ Fits x = eqb (markNumber (x .mark)) 2 ≡ true → x .count ≡ 0
 marked : (n : ℕ) → eqb (markNumber (markOf n)) 2 ≡ true → eqb n 2 ≡ true
 marked n e = of (eqb n 1) (eqb n 2) e
   where
-    of : (one two : Bool) → eqb (markNumber (cond one Mark.Variable (cond two Mark.Identifier Mark.Plain))) 2 ≡ true → two ≡ true
+    of : (one two : Bool) →
+        eqb (markNumber (cond one Mark.Variable (cond two Mark.Identifier Mark.Plain))) 2 ≡ true → two ≡ true
     of true true e = refl
     of true false e = absurd (false≢true e)
     of false true e = refl
     of false false e = absurd (false≢true e)
 
-fitting : (mark first number : ℕ) → between 0 (cond (eqb mark 2) 0 16) number ≡ true → Fits (record { mark = markOf mark; first = first; count = number })
+fitting : (mark first number : ℕ) → between 0 (cond (eqb mark 2) 0 16) number ≡ true →
+    Fits (record { mark = markOf mark; first = first; count = number })
 fitting mark first number e two = let none = between-high 0 0 number (rw (marked mark two) at e) in omega arith
 
-nonterminal-fits : (bytes : List ℕ) (first place : ℕ) (x : Nonterminal) (end : ℕ) → nonterminal first bytes place ≡ accepted x end → Fits x
+nonterminal-fits : (bytes : List ℕ) (first place : ℕ) (x : Nonterminal) (end : ℕ) →
+    nonterminal first bytes place ≡ accepted x end → Fits x
 unfolding nonterminal
 nonterminal-fits bytes first place x end e =
     by-field _ bytes place _ e (λ mark at _ next.
@@ -89,7 +96,8 @@ nonterminal-fits bytes first place x end e =
 
 -- ---- Variants
 -- the check asks of every variant that it passes; d stands for one that the book doesn't have
-all-pass : (steps : List Step) (d : Variant) → passes steps d ≡ true → (vs : List (ℕ × Variant)) (bytes : List ℕ) (place : ℕ) {u : Unit {0}} {end : ℕ} →
+all-pass : (steps : List Step) (d : Variant) → passes steps d ≡ true →
+    (vs : List (ℕ × Variant)) (bytes : List ℕ) (place : ℕ) {u : Unit {0}} {end : ℕ} →
     allPass steps vs bytes place ≡ accepted u end → (j : ℕ) → passes steps (getD (map (λ v. v .1) vs) j d) ≡ true
 unfolding allPass
 all-pass steps d h [] bytes place e j = h
@@ -132,8 +140,8 @@ book-facts bytes book e = of (entireBook bytes 0) refl e
     of (accepted b end) told e = let same : b ≡ book = cc in subst Facts same (whole-facts bytes b end told)
 
 -- a nonterminal of mark 2 has no variants
-pub no-variants : (bytes : List ℕ) (book : Book) → checkBook bytes ≡ Outcome.book book → (N : ℕ) → hasMark book 2 N ≡ true →
-    nthNonterminal book N .count ≡ 0
+pub no-variants : (bytes : List ℕ) (book : Book) → checkBook bytes ≡ Outcome.book book → (N : ℕ) →
+    hasMark book 2 N ≡ true → nthNonterminal book N .count ≡ 0
 no-variants bytes book e N two = book-facts bytes book e .fits N two
 
 -- ---- Passing variants
@@ -154,14 +162,15 @@ kind-8 (Step.Delimited a b c) e = absurd (omega arith)
 kind-8 (Step.OptionalDelimited a b c) e = absurd (omega arith)
 
 -- a step that the list doesn't have reads as a character, so that one of kind 8 is there
-step-there : (steps : List Step) (k : ℕ) → stepNumber (nthStep steps k) ≡ 8 → (M : ℕ) × (take 1 (drop k steps) ≡ Step.Nonterminal M ∷ [])
+step-there : (steps : List Step) (k : ℕ) → stepNumber (nthStep steps k) ≡ 8 →
+    (M : ℕ) × (take 1 (drop k steps) ≡ Step.Nonterminal M ∷ [])
 step-there [] k e = absurd (omega arith)
 step-there (s ∷ steps) zero e = let r = kind-8 s e in (r .0, ap (λ (t : Step). t ∷ []) (r .1))
 step-there (s ∷ steps) (suc k) e = step-there steps k e
 
 -- a passing variant has one step, of kind 8
-pub passing-step : (bytes : List ℕ) (book : Book) → checkBook bytes ≡ Outcome.book book → (j : ℕ) → nthVariant book j .passing ≡ true →
-    (M : ℕ) × (stepsOf book (nthVariant book j) ≡ Step.Nonterminal M ∷ [])
+pub passing-step : (bytes : List ℕ) (book : Book) → checkBook bytes ≡ Outcome.book book → (j : ℕ) →
+    nthVariant book j .passing ≡ true → (M : ℕ) × (stepsOf book (nthVariant book j) ≡ Step.Nonterminal M ∷ [])
 passing-step bytes book e j passing =
     let v = nthVariant book j in
     let b = and-eq-true-iff (eqb (v .count) 1) _ .0 (rw passing at (book-facts bytes book e .pass j)) in

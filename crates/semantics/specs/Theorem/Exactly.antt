@@ -18,15 +18,17 @@ none-at : {i : ℕ} {f : Use} {Q : Path} → At [] i f Q → ⊥
 none-at a = elim a [ ]
 
 module _ (book : Book) (text : List ℕ) where
-  pub sound : (N u : ℕ) (R : List (Parse Tree)) (A : List Bool) → Enters book text [] [] [] N u R A → (p : Parse Tree) → p ∈ R → Derives book text [] N u p
+  pub sound : (N u : ℕ) (R : List (Parse Tree)) (A : List Bool) → Enters book text [] [] [] N u R A → (p : Parse Tree) →
+      p ∈ R → Derives book text [] N u p
   sound N u R A c p m = s-enters book text c (λ i f Q a. absurd (none-at a)) p m
 
-  pub found : PlainBook book → (N u : ℕ) (R : List (Parse Tree)) (A : List Bool) → Enters book text [] [] [] N u R A → (p : Parse Tree) →
-      Derives book text [] N u p → p ∈ R
+  pub found : PlainBook book → (N u : ℕ) (R : List (Parse Tree)) (A : List Bool) → Enters book text [] [] [] N u R A →
+      (p : Parse Tree) → Derives book text [] N u p → p ∈ R
   found plain-book N u R A c p d =
       let r = height book text d in
-      complete book text plain-book (r .0) [] [] [] N u R A c (record { holds = λ i f Q a. absurd (none-at a) }) p (r .1)
+      complete book text plain-book (r .0) [] [] [] N u R A c
+      (record { holds = λ i f Q a. absurd (none-at a) }) p (r .1)
 
-  pub exact : PlainBook book → (N u : ℕ) (R : List (Parse Tree)) (A : List Bool) → Enters book text [] [] [] N u R A → (p : Parse Tree) →
-      (p ∈ R) ↔ Derives book text [] N u p
+  pub exact : PlainBook book → (N u : ℕ) (R : List (Parse Tree)) (A : List Bool) → Enters book text [] [] [] N u R A →
+      (p : Parse Tree) → (p ∈ R) ↔ Derives book text [] N u p
   exact plain-book N u R A c p = (sound N u R A c p, found plain-book N u R A c p)

@@ -9,8 +9,10 @@ use Rattle.semantics.specs.Values.{Parse}
 use Rattle.semantics.specs.Uses.{Path, base, hasMark, governor}
 use Rattle.semantics.specs.Tokens.{freeEnd, claimed}
 use Rattle.semantics.specs.Errors.{Error}
-use Rattle.semantics.specs.Run.{ok, State, Parsed, Call, withMine, Runner, allIn, newest, rounds, runCall, named, runIdentifier, nested, reentry, enter}
-use Rattle.semantics.specs.Theorem.Results.{met-ok, ok-inj, none-some, after, option-cases, list-cases, governor-cases}
+use Rattle.semantics.specs.Run.{ok, State, Parsed, Call, withMine, Runner, allIn, newest, rounds, runCall, named}
+use Rattle.semantics.specs.Run.{runIdentifier, nested, reentry, enter}
+use Rattle.semantics.specs.Theorem.Results.{met-ok, ok-inj, none-some, after, option-cases, list-cases}
+use Rattle.semantics.specs.Theorem.Results.{governor-cases}
 use Rattle.semantics.specs.Theorem.Sets.{add-all-some}
 
 pub record Fails (r : Parsed) : Type 0 where
@@ -25,14 +27,16 @@ found r f n = record { fails = λ d t. absurd (none-some (sym f ∙ t)); finds =
 
 module _ (book : Book) (text : List ℕ) where
   module _ (f : Runner) where
-    rounds-fails : (n : ℕ) (c : Call) (m : ℕ) (s : State) (r : Parsed) → rounds book text n f c m s ≡ ok r → (c .mine ≡ [] → ⊥) → Fails r
+    rounds-fails : (n : ℕ) (c : Call) (m : ℕ) (s : State) (r : Parsed) → rounds book text n f c m s ≡ ok r →
+        (c .mine ≡ [] → ⊥) → Fails r
     unfolding rounds
     rounds-fails zero c m s r e some-mine = absurd (met-ok e)
     rounds-fails (suc n) c m s r e some-mine =
         after _ _ e (λ a ran next.
         by-test (allIn (c .mine) (a .set))
         (λ t. subst Fails (ok-inj (rw t at next)) (found _ refl some-mine))
-        (λ t. after _ _ (rw t at next) (λ all added again. rounds-fails n (withMine c all) m (a .state) r again (add-all-some (a .state) (c .mine) (a .set) added some-mine))))
+        (λ t. after _ _ (rw t at next) (λ all added again. rounds-fails n (withMine c all) m (a .state) r again
+        (add-all-some (a .state) (c .mine) (a .set) added some-mine))))
 
     run-call-fails : (c : Call) (m : ℕ) (s : State) (r : Parsed) → runCall book text f c m s ≡ ok r → Fails r
     unfolding runCall
@@ -52,7 +56,8 @@ module _ (book : Book) (text : List ℕ) where
       (λ t. subst Fails (ok-inj (rw t at e)) (failed _ _ refl refl))
       (λ t. option-cases (freeEnd book text (c .start))
       (λ none-there. subst Fails (ok-inj (rw none-there at (rw t at e))) (failed _ _ refl refl))
-      (λ end there. after _ _ (rw there at (rw t at e)) (λ m ran is. subst Fails (ok-inj is) (found _ refl (λ h. cons≢nil h)))))
+      (λ end there.
+      after _ _ (rw there at (rw t at e)) (λ m ran is. subst Fails (ok-inj is) (found _ refl (λ h. cons≢nil h)))))
 
   module _ (inner : Option Runner) where
     reentry-fails : (l : List (Parse ℕ)) (e : Error) (s : State) → Fails (reentry book text inner l e s)
@@ -60,7 +65,8 @@ module _ (book : Book) (text : List ℕ) where
     reentry-fails [] e s = failed _ e refl refl
     reentry-fails (p ∷ ps) e s = found _ refl (λ h. cons≢nil h)
 
-    pub enter-fails : (P : Path) (S : List (List (Parse ℕ))) (N u : ℕ) (s : State) (r : Parsed) → enter book text inner P S N u s ≡ ok r → Fails r
+    pub enter-fails : (P : Path) (S : List (List (Parse ℕ))) (N u : ℕ) (s : State) (r : Parsed) →
+        enter book text inner P S N u s ≡ ok r → Fails r
     unfolding enter nested
     enter-fails P S N u s₀ r e =
         after _ _ e (λ s ran next.
@@ -70,5 +76,6 @@ module _ (book : Book) (text : List ℕ) where
         (λ f there. by-test (hasMark book 2 N)
         (λ mark. identifier-fails _ s r (rw mark at (rw there at (rw gov at next))))
         (λ mark. after _ _ (rw mark at (rw there at (rw gov at next))) (λ a called is.
-        let h = run-call-fails f _ m _ a called in subst Fails (ok-inj is) (record { fails = h .fails; finds = h .finds })))))
+        let h = run-call-fails f _ m _ a called in
+        subst Fails (ok-inj is) (record { fails = h .fails; finds = h .finds })))))
         (λ i f Q gov. subst Fails (ok-inj (rw gov at next)) (reentry-fails _ _ _)))

@@ -20,20 +20,30 @@ use Rattle.book.specs.declared.records.Step.{Step}
 use Rattle.semantics.specs.Values.{Parse}
 use Rattle.semantics.specs.Uses.{Path, base, hasMark, governor}
 use Rattle.semantics.specs.Tokens.{freeEnd, claimed}
-use Rattle.semantics.specs.Steps.{Token, Taken, stepAt, afterElement, closed, Todo, taking, elements, ending, stepsOf, todoOf}
+use Rattle.semantics.specs.Steps.{Token, Taken, stepAt, afterElement, closed, Todo, taking, elements, ending}
+use Rattle.semantics.specs.Steps.{stepsOf, todoOf}
 use Rattle.semantics.specs.Cells.{Cell}
 use Rattle.semantics.specs.Errors.{Error}
-use Rattle.semantics.specs.Run.{Result, ok, _>>=_, State, Parsed, Call, call, withMine, Runner, Go, Next, allIn, kept, newest, spend, make, chosen}
-use Rattle.semantics.specs.Run.{withToken, variants, oneRun, rounds, runCall, named, runIdentifier, plainNext, listNext, stops}
-use Rattle.semantics.specs.Run.{nested, reentry, enter, enterChild, followMore, follow, followed, stepUnit, orAbsent, choice, listing, steps, runner, run}
+use Rattle.semantics.specs.Run.{Result, ok, _>>=_, State, Parsed, Call, call, withMine, Runner, Go, Next, allIn}
+use Rattle.semantics.specs.Run.{kept, newest, spend, make, chosen}
+use Rattle.semantics.specs.Run.{withToken, variants, oneRun, rounds, runCall, named, runIdentifier, plainNext}
+use Rattle.semantics.specs.Run.{listNext, stops}
+use Rattle.semantics.specs.Run.{nested, reentry, enter, enterChild, followMore, follow, followed, stepUnit}
+use Rattle.semantics.specs.Run.{orAbsent, choice, listing, steps, runner, run}
 use Rattle.semantics.specs.Theorem.Lists.{_∈_, nth}
-use Rattle.semantics.specs.Theorem.Results.{met-ok, ok-inj, none-some, after, option-cases, list-cases, governor-cases, after-cases, some-inj, taken-cases, nested-run, chosen-same}
+use Rattle.semantics.specs.Theorem.Results.{met-ok, ok-inj, none-some, after, option-cases, list-cases}
+use Rattle.semantics.specs.Theorem.Results.{governor-cases, after-cases, some-inj, taken-cases, nested-run}
+use Rattle.semantics.specs.Theorem.Results.{chosen-same}
 use Rattle.semantics.specs.Theorem.Tokens.{AddsFit, free-end-within, token-fits}
 use Rattle.semantics.specs.Theorem.Sets.{Distinct}
-use Rattle.semantics.specs.Theorem.Table.{Table, no-cells, Item, Prefix, prefix-refl, prefix-then, item-still, chain-still}
-use Rattle.semantics.specs.Theorem.Holding.{Tabled, Grown, Held, Gives, Ready, Left, Wants, List-left, grown-refl, grown-then, gives-from, gives-ok}
-use Rattle.semantics.specs.Theorem.Holding.{holds-still, ready-still, ready-after, gives-set, left-still, wants-still, wants-take, list-still}
-use Rattle.semantics.specs.Theorem.Holding.{elements-left, ending-left, left-elements, left-ending, holds-none, holds-one, holds-kept, holds-all}
+use Rattle.semantics.specs.Theorem.Table.{Table, no-cells, Item, Prefix, prefix-refl, prefix-then, item-still}
+use Rattle.semantics.specs.Theorem.Table.{chain-still}
+use Rattle.semantics.specs.Theorem.Holding.{Tabled, Grown, Held, Gives, Ready, Left, Wants, List-left, grown-refl}
+use Rattle.semantics.specs.Theorem.Holding.{grown-then, gives-from, gives-ok}
+use Rattle.semantics.specs.Theorem.Holding.{holds-still, ready-still, ready-after, gives-set, left-still}
+use Rattle.semantics.specs.Theorem.Holding.{wants-still, wants-take, list-still}
+use Rattle.semantics.specs.Theorem.Holding.{elements-left, ending-left, left-elements, left-ending, holds-none}
+use Rattle.semantics.specs.Theorem.Holding.{holds-one, holds-kept, holds-all}
 use Rattle.semantics.specs.Theorem.Holding.{new-empty, new-link, new-list, new-absent, new-name}
 use Rattle.semantics.specs.Theorem.Holding.{begin-onward, with-cell-onward, with-token-onward, complete-gives}
 
@@ -56,21 +66,26 @@ spend-grown {text} s t h e =
     (λ p. subst (λ (z : State). Grown text (s .cells) (z .cells)) (ok-inj (rw p at e)) (grown-refl h))
     (λ p. absurd (met-ok (rw p at e)))
 
-chosen-gives : {text : List ℕ} {C : List Cell} (c : Call) (at : ℕ) (a : Option Error) (b : Parsed) → Gives text C b → Gives text C (chosen c at a b)
+chosen-gives : {text : List ℕ} {C : List Cell} (c : Call) (at : ℕ) (a : Option Error) (b : Parsed) → Gives text C b →
+    Gives text C (chosen c at a b)
 chosen-gives {text} {C} c at a b g =
-    let k = chosen-same c at a b (λ out t. Grown text C (t .cells) × Held text (t .cells) out) (g .grown, g .set) in record { grown = k .0; set = k .1 }
+    let k = chosen-same c at a b (λ out t. Grown text C (t .cells) × Held text (t .cells) out) (g .grown, g .set) in
+    record { grown = k .0; set = k .1 }
 
 module _ (book : Book) (text : List ℕ)
-    (passing-ok : (j : ℕ) → nthVariant book j .passing ≡ true → (M : ℕ) × (stepsOf book (nthVariant book j) ≡ Step.Nonterminal M ∷ [])) where
+    (passing-ok : (j : ℕ) → nthVariant book j .passing ≡ true →
+    (M : ℕ) × (stepsOf book (nthVariant book j) ≡ Step.Nonterminal M ∷ [])) where
   -- the law of what is left of a variant
   abbrev Good : Runner → Type 0
-  Good f = (c : Call) (j : ℕ) (todo : List (Todo ℕ)) (x items : ℕ) (set : List (Parse ℕ)) (s : State) (r : Parsed) → Ready text (s .cells) c set →
+  Good f =
+      (c : Call) (j : ℕ) (todo : List (Todo ℕ)) (x items : ℕ) (set : List (Parse ℕ)) (s : State) (r : Parsed) →
+      Ready text (s .cells) c set →
       Left book text (s .cells) j todo items → f c j todo x items set s ≡ ok r → Gives text (s .cells) r
 
   -- ---- A call
   module _ (f : Runner) (good : Good f) where
-    variants-give : (c : Call) (m n j : ℕ) (set : List (Parse ℕ)) (d : Option Error) (s : State) (r : Parsed) → Ready text (s .cells) c set →
-        variants book text f c m n j set d s ≡ ok r → Gives text (s .cells) r
+    variants-give : (c : Call) (m n j : ℕ) (set : List (Parse ℕ)) (d : Option Error) (s : State) (r : Parsed) →
+        Ready text (s .cells) c set → variants book text f c m n j set d s ≡ ok r → Gives text (s .cells) r
     unfolding variants
     variants-give c m zero j set d s r h e = gives-ok e (gives-set h)
     variants-give c m (suc n) j set d s r h e =
@@ -78,23 +93,28 @@ module _ (book : Book) (text : List ℕ)
         (λ t. after _ _ (rw t at e) (λ b begun next.
         after _ _ next (λ a ran others.
         let o = begin-onward book text j (passing-ok j) s b (h .tabled) begun in
-        let ran-it = good c j (todoOf book (nthVariant book j)) (c .start) (b .cell) set (b .state) a (ready-still (o .grown) h) (o .left) ran in
+        let ran-it =
+        good c j (todoOf book (nthVariant book j)) (c .start) (b .cell) set (b .state) a
+        (ready-still (o .grown) h) (o .left) ran in
         let g = gives-from (o .grown) ran-it in
         gives-from (g .grown) (variants-give c m n (suc j) (a .set) _ (a .state) r (ready-after h g) others))))
         (λ t. variants-give c m n (suc j) set d s r h (rw t at e))
 
-    one-run-gives : (c : Call) (m : ℕ) (s : State) (r : Parsed) → Ready text (s .cells) c [] → oneRun book text f c m s ≡ ok r → Gives text (s .cells) r
+    one-run-gives : (c : Call) (m : ℕ) (s : State) (r : Parsed) → Ready text (s .cells) c [] →
+        oneRun book text f c m s ≡ ok r → Gives text (s .cells) r
     unfolding oneRun
     one-run-gives c m s r h e =
-        variants-give c m (nthNonterminal book (c .nonterminal) .count) (nthNonterminal book (c .nonterminal) .first) [] none s r h e
+        variants-give c m (nthNonterminal book (c .nonterminal) .count)
+        (nthNonterminal book (c .nonterminal) .first) [] none s r h e
 
     -- the call is run again with this set as its own
-    again : {C : List Cell} {a : Parsed} (c : Call) (all : List (Parse ℕ)) → Ready text C c [] → Gives text C a → Held text (a .state .cells) all →
-        Ready text (a .state .cells) (withMine c all) []
-    again c all h g mine = let k = ready-still (g .grown) h in record { tabled = k .tabled; stored = k .stored; mine = mine; set = k .set }
+    again : {C : List Cell} {a : Parsed} (c : Call) (all : List (Parse ℕ)) → Ready text C c [] → Gives text C a →
+        Held text (a .state .cells) all → Ready text (a .state .cells) (withMine c all) []
+    again c all h g mine =
+        let k = ready-still (g .grown) h in record { tabled = k .tabled; stored = k .stored; mine = mine; set = k .set }
 
-    rounds-give : (n : ℕ) (c : Call) (m : ℕ) (s : State) (r : Parsed) → Ready text (s .cells) c [] → rounds book text n f c m s ≡ ok r →
-        Gives text (s .cells) r
+    rounds-give : (n : ℕ) (c : Call) (m : ℕ) (s : State) (r : Parsed) → Ready text (s .cells) c [] →
+        rounds book text n f c m s ≡ ok r → Gives text (s .cells) r
     unfolding rounds
     rounds-give zero c m s r h e = absurd (met-ok e)
     rounds-give (suc n) c m s r h e =
@@ -105,9 +125,11 @@ module _ (book : Book) (text : List ℕ)
         (λ t. gives-ok (rw t at next) (record { grown = g .grown; set = mine }))
         (λ t. after _ _ (rw t at next) (λ all joined more.
         gives-from (g .grown)
-        (rounds-give n (withMine c all) m (a .state) r (again c all h g (holds-all (a .state) (c .mine) (a .set) joined mine (g .set))) more))))
+        (rounds-give n (withMine c all) m (a .state) r
+        (again c all h g (holds-all (a .state) (c .mine) (a .set) joined mine (g .set))) more))))
 
-    run-call-gives : (c : Call) (m : ℕ) (s : State) (r : Parsed) → Ready text (s .cells) c [] → runCall book text f c m s ≡ ok r → Gives text (s .cells) r
+    run-call-gives : (c : Call) (m : ℕ) (s : State) (r : Parsed) → Ready text (s .cells) c [] →
+        runCall book text f c m s ≡ ok r → Gives text (s .cells) r
     unfolding runCall
     run-call-gives c m s r h e =
         after _ _ e (λ a ran next.
@@ -115,10 +137,12 @@ module _ (book : Book) (text : List ℕ)
         list-cases (a .set)
         (λ empty. gives-ok (rw empty at next) (record { grown = g .grown; set = holds-none }))
         (λ p ps found. by-test (newest (a .state .asked))
-        (λ t. gives-from (g .grown) (rounds-give 65 (withMine c (a .set)) m (a .state) r (again c (a .set) h g (g .set)) (rw t at (rw found at next))))
+        (λ t. gives-from (g .grown) (rounds-give 65 (withMine c (a .set)) m (a .state) r (again c (a .set) h g (g .set))
+        (rw t at (rw found at next))))
         (λ t. gives-ok (rw t at (rw found at next)) (record { grown = g .grown; set = g .set }))))
 
-  identifier-gives : (c : Call) (s : State) (r : Parsed) → Tabled text (s .cells) → runIdentifier book text c s ≡ ok r → Gives text (s .cells) r
+  identifier-gives : (c : Call) (s : State) (r : Parsed) → Tabled text (s .cells) →
+      runIdentifier book text c s ≡ ok r → Gives text (s .cells) r
   unfolding runIdentifier named
   identifier-gives c s r h e =
       by-test (claimed book text (c .path) base (c .start))
@@ -131,8 +155,8 @@ module _ (book : Book) (text : List ℕ)
       gives-ok is (record { grown = new .grown; set = holds-one (new .item) }))))
 
   -- ---- One level of nesting
-  reentry-gives : (inner : Option Runner) (l : List (Parse ℕ)) (d : Error) (s : State) → Tabled text (s .cells) → Held text (s .cells) l →
-      Gives text (s .cells) (reentry book text inner l d s)
+  reentry-gives : (inner : Option Runner) (l : List (Parse ℕ)) (d : Error) (s : State) → Tabled text (s .cells) →
+      Held text (s .cells) l → Gives text (s .cells) (reentry book text inner l d s)
   unfolding reentry
   reentry-gives inner [] d s h l = record { grown = grown-refl h; set = l }
   reentry-gives inner (p ∷ ps) d s h l = record { grown = grown-refl h; set = l }
@@ -144,18 +168,22 @@ module _ (book : Book) (text : List ℕ)
 
   -- the law of what follows a child's parse, where C are the cells with which the step began
   abbrev GoodNext : List Cell → Call → Next → Type 0
-  GoodNext C c next = (q : Parse ℕ) (s : State) (f : Runner) (set : List (Parse ℕ)) (r : Parsed) → Good f → Prefix C (s .cells) → Ready text (s .cells) c set →
-      Item text (s .cells) (q .value) → next q s f set ≡ ok r → Gives text (s .cells) r
+  GoodNext C c next =
+      (q : Parse ℕ) (s : State) (f : Runner) (set : List (Parse ℕ)) (r : Parsed) → Good f → Prefix C (s .cells) →
+      Ready text (s .cells) c set → Item text (s .cells) (q .value) → next q s f set ≡ ok r → Gives text (s .cells) r
 
-  plain-next-good : (C : List Cell) (c : Call) (j : ℕ) (rest : List (Todo ℕ)) (items : ℕ) → Wants book text C j rest items →
-      GoodNext C c (plainNext book text c j rest items)
+  plain-next-good : (C : List Cell) (c : Call) (j : ℕ) (rest : List (Todo ℕ)) (items : ℕ) →
+      Wants book text C j rest items → GoodNext C c (plainNext book text c j rest items)
   unfolding plainNext
   plain-next-good C c j rest items w q s f set r good p h i e =
       after _ _ e (λ m linked ran.
-      let o = with-cell-onward book text j rest items (q .value) s m (h .tabled) (wants-still rest items p w) i linked in
-      gives-from (o .grown) (good c j rest (q .rest) (m .cell) set (m .state) r (ready-still (o .grown) h) (o .left) ran))
+      let o =
+      with-cell-onward book text j rest items (q .value) s m (h .tabled) (wants-still rest items p w) i linked in
+      gives-from (o .grown)
+      (good c j rest (q .rest) (m .cell) set (m .state) r (ready-still (o .grown) h) (o .left) ran))
 
-  list-next-good : (C : List Cell) (c : Call) (j : ℕ) (comma : Bool) (M values : ℕ) (close : Option ℕ) (rest : List (Todo ℕ)) (items : ℕ) →
+  list-next-good : (C : List Cell) (c : Call) (j : ℕ) (comma : Bool) (M values : ℕ) (close : Option ℕ)
+      (rest : List (Todo ℕ)) (items : ℕ) →
       List-left book text C j values rest items → GoodNext C c (listNext book text c j comma M values close rest items)
   unfolding listNext
   list-next-good C c j comma M values close rest items l q s f set r good p h i e =
@@ -163,14 +191,19 @@ module _ (book : Book) (text : List ℕ)
       let new = new-link s m (h .tabled) values (q .value) (chain-still text p values (l .chain)) i linked in
       let h′ = ready-still (new .grown) h in
       let w = wants-still rest items (prefix-then p (new .grown .prefix)) (l .wants) in
-      let l′ : List-left book text (m .state .cells) j (m .cell) rest items = record { chain = new .chain; wants = w } in
+      let l′ : List-left book text (m .state .cells) j (m .cell) rest items =
+      record { chain = new .chain; wants = w } in
       gives-from (new .grown)
       (after-cases (afterElement text comma (q .rest))
-      (λ y there. good c j (elements comma M (m .cell) close ∷ rest) y items set (m .state) r h′ (left-elements l′) (rw there at ran))
-      (λ y there. good c j (ending (m .cell) close ∷ rest) y items set (m .state) r h′ (left-ending l′) (rw there at ran))))
+      (λ y there.
+      good c j (elements comma M (m .cell) close ∷ rest) y items set (m .state) r h′
+      (left-elements l′) (rw there at ran))
+      (λ y there.
+      good c j (ending (m .cell) close ∷ rest) y items set (m .state) r h′ (left-ending l′) (rw there at ran))))
 
   stops-give : (c : Call) (j values : ℕ) (close : Option ℕ) (rest : List (Todo ℕ)) (go : Go) → GoodGo c j rest go →
-      (x items : ℕ) (set : List (Parse ℕ)) (s : State) (r : Parsed) → Ready text (s .cells) c set → List-left book text (s .cells) j values rest items →
+      (x items : ℕ) (set : List (Parse ℕ)) (s : State) (r : Parsed) → Ready text (s .cells) c set →
+      List-left book text (s .cells) j values rest items →
       stops book text j values close go x items set s ≡ ok r → Gives text (s .cells) r
   unfolding stops
   stops-give c j values close rest go good x items set s r h l e =
@@ -186,8 +219,8 @@ module _ (book : Book) (text : List ℕ)
       gives-from (o .grown) (good y (m .cell) set (m .state) r (ready-still (o .grown) h′) (o .left) ran)))))
 
   module _ (inner : Option Runner) (goods : (f : Runner) → inner ≡ some f → Good f) where
-    opened : {C : List Cell} (P : Path) (S : List (List (Parse ℕ))) (N u : ℕ) → Tabled text C → ((i : ℕ) → Held text C (nth S i)) →
-        Ready text C (call P S N u []) []
+    opened : {C : List Cell} (P : Path) (S : List (List (Parse ℕ))) (N u : ℕ) → Tabled text C →
+        ((i : ℕ) → Held text C (nth S i)) → Ready text C (call P S N u []) []
     opened P S N u h k = record { tabled = h; stored = k; mine = holds-none; set = holds-none }
 
     enter-gives : (P : Path) (S : List (List (Parse ℕ))) (N u : ℕ) (s : State) (r : Parsed) → Tabled text (s .cells) →
@@ -208,43 +241,52 @@ module _ (book : Book) (text : List ℕ)
         (reentry-gives inner (kept f (nth S i)) _ _ (g .tabled) (holds-kept f (nth S i) (stored i))))))
 
     -- ---- A child and what follows its parses
-    around : {C : List Cell} {set : List (Parse ℕ)} (c : Call) → Ready text C c set → (i : ℕ) → Held text C (nth (c .mine ∷ c .stored) i)
+    around : {C : List Cell} {set : List (Parse ℕ)} (c : Call) → Ready text C c set → (i : ℕ) →
+        Held text C (nth (c .mine ∷ c .stored) i)
     around c h zero = h .mine
     around c h (suc i) = h .stored i
 
     -- one parse is followed, and then the others
     one-gives : (C : List Cell) (c : Call) (next : Next) → GoodNext C c next →
         (q : Parse ℕ) (qs set : List (Parse ℕ)) (s : State) (r : Parsed) (k : Parsed → Result Parsed) →
-        Prefix C (s .cells) → Ready text (s .cells) c set → ((o : Parse ℕ) → o ∈ (q ∷ qs) → Item text (s .cells) (o .value)) →
+        Prefix C (s .cells) → Ready text (s .cells) c set →
+        ((o : Parse ℕ) → o ∈ (q ∷ qs) → Item text (s .cells) (o .value)) →
         (nested book text inner s (λ f. next q s f set) >>= k) ≡ ok r →
-        ((a : Parsed) → Prefix C (a .state .cells) → Ready text (a .state .cells) c (a .set) → ((o : Parse ℕ) → o ∈ qs → Item text (a .state .cells) (o .value)) → k a ≡ ok r →
+        ((a : Parsed) → Prefix C (a .state .cells) → Ready text (a .state .cells) c (a .set) →
+        ((o : Parse ℕ) → o ∈ qs → Item text (a .state .cells) (o .value)) → k a ≡ ok r →
         Gives text (a .state .cells) r) → Gives text (s .cells) r
     one-gives C c next good q qs set s r k p h i e others =
         after _ _ e (λ a first-ran then-ran.
         nested-run book text inner s _ first-ran (λ f there ran.
         let g = good q s f set a (goods f there) p h (i q (List·Memᴰ·head refl)) ran in
         let p′ = g .grown .prefix in
-        gives-from (g .grown) (others a (prefix-then p p′) (ready-after h g) (λ o m. item-still text p′ (o .value) (i o (List·Memᴰ·tail m))) then-ran)))
+        gives-from (g .grown)
+        (others a (prefix-then p p′) (ready-after h g)
+        (λ o m. item-still text p′ (o .value) (i o (List·Memᴰ·tail m))) then-ran)))
 
     follow-more-gives : (C : List Cell) (c : Call) (next : Next) → GoodNext C c next →
         (qs set : List (Parse ℕ)) (d : Option Error) (s : State) (r : Parsed) → Prefix C (s .cells) →
-        Ready text (s .cells) c set → ((q : Parse ℕ) → q ∈ qs → Item text (s .cells) (q .value)) → followMore book text inner next qs set d s ≡ ok r →
-        Gives text (s .cells) r
+        Ready text (s .cells) c set → ((q : Parse ℕ) → q ∈ qs → Item text (s .cells) (q .value)) →
+        followMore book text inner next qs set d s ≡ ok r → Gives text (s .cells) r
     unfolding followMore
     follow-more-gives C c next good [] set d s r p h i e = gives-ok e (gives-set h)
     follow-more-gives C c next good (q ∷ qs) set d s r p h i e =
-        one-gives C c next good q qs set s r _ p h i e (λ a p′ h′ i′ ran. follow-more-gives C c next good qs (a .set) _ (a .state) r p′ h′ i′ ran)
+        one-gives C c next good q qs set s r _ p h i e
+        (λ a p′ h′ i′ ran. follow-more-gives C c next good qs (a .set) _ (a .state) r p′ h′ i′ ran)
 
-    follow-gives : (C : List Cell) (c : Call) (next : Next) → GoodNext C c next → (qs set : List (Parse ℕ)) (s : State) (r : Parsed) → Prefix C (s .cells) →
+    follow-gives : (C : List Cell) (c : Call) (next : Next) → GoodNext C c next →
+        (qs set : List (Parse ℕ)) (s : State) (r : Parsed) → Prefix C (s .cells) →
         Ready text (s .cells) c set → ((q : Parse ℕ) → q ∈ qs → Item text (s .cells) (q .value)) →
         follow book text inner next qs set s ≡ ok r → Gives text (s .cells) r
     unfolding follow
     follow-gives C c next good [] set s r p h i e = gives-ok e (gives-set h)
     follow-gives C c next good (q ∷ qs) set s r p h i e =
-        one-gives C c next good q qs set s r _ p h i e (λ a p′ h′ i′ ran. follow-more-gives C c next good qs (a .set) _ (a .state) r p′ h′ i′ ran)
+        one-gives C c next good q qs set s r _ p h i e
+        (λ a p′ h′ i′ ran. follow-more-gives C c next good qs (a .set) _ (a .state) r p′ h′ i′ ran)
 
-    followed-gives : (C : List Cell) (c : Call) (next : Next) → GoodNext C c next → (set : List (Parse ℕ)) (a r : Parsed) → Prefix C (a .state .cells) →
-        Ready text (a .state .cells) c set → Held text (a .state .cells) (a .set) → followed book text inner next set a ≡ ok r →
+    followed-gives : (C : List Cell) (c : Call) (next : Next) → GoodNext C c next →
+        (set : List (Parse ℕ)) (a r : Parsed) → Prefix C (a .state .cells) → Ready text (a .state .cells) c set →
+        Held text (a .state .cells) (a .set) → followed book text inner next set a ≡ ok r →
         Gives text (a .state .cells) r
     unfolding followed
     followed-gives C c next good set a r p h k e =
@@ -252,43 +294,55 @@ module _ (book : Book) (text : List ℕ)
         (λ fine. follow-gives C c next good (a .set) set (a .state) r p h (k .values) (rw fine at e))
         (λ d failed. gives-ok (rw failed at e) (gives-set h))
 
-    child-gives : (C : List Cell) (c : Call) (j M x : ℕ) (next : Next) → GoodNext C c next → (set : List (Parse ℕ)) (s : State) (a r : Parsed) →
+    child-gives : (C : List Cell) (c : Call) (j M x : ℕ) (next : Next) → GoodNext C c next →
+        (set : List (Parse ℕ)) (s : State) (a r : Parsed) →
         Prefix C (s .cells) → Ready text (s .cells) c set → enterChild book text inner c j M x s ≡ ok a →
         followed book text inner next set a ≡ ok r → Gives text (s .cells) r
     unfolding enterChild
     child-gives C c j M x next good set s a r p h entered e =
         let g = enter-gives _ (c .mine ∷ c .stored) M (skipFrom text x) s a (h .tabled) (around c h) entered in
-        gives-from (g .grown) (followed-gives C c next good set a r (prefix-then p (g .grown .prefix)) (ready-still (g .grown) h) (g .set) e)
+        gives-from (g .grown)
+        (followed-gives C c next good set a r (prefix-then p (g .grown .prefix)) (ready-still (g .grown) h) (g .set) e)
 
     -- both sides of a choice: one side has the result a, and then a child is tried
-    sides-give : (c : Call) (j M x : ℕ) (next : Next) (set : List (Parse ℕ)) (s : State) (a b d : Parsed) → GoodNext (s .cells) c next →
+    sides-give : (c : Call) (j M x : ℕ) (next : Next) (set : List (Parse ℕ)) (s : State) (a b d : Parsed) →
+        GoodNext (s .cells) c next →
         Ready text (s .cells) c set → Gives text (s .cells) a → enterChild book text inner c j M x (a .state) ≡ ok b →
-        followed book text inner next (a .set) b ≡ ok d → Gives text (s .cells) (chosen c (skipFrom text x) (a .failure) d)
+        followed book text inner next (a .set) b ≡ ok d →
+        Gives text (s .cells) (chosen c (skipFrom text x) (a .failure) d)
     sides-give c j M x next set s a b d good h g entered e =
         chosen-gives c (skipFrom text x) (a .failure) d
-        (gives-from (g .grown) (child-gives (s .cells) c j M x next good (a .set) (a .state) b d (g .grown .prefix) (ready-after h g) entered e))
+        (gives-from (g .grown)
+        (child-gives (s .cells) c j M x next good (a .set) (a .state) b d (g .grown .prefix)
+        (ready-after h g) entered e))
 
     -- ---- Steps
     module _ (c : Call) (j : ℕ) (rest : List (Todo ℕ)) (go : Go) (good : GoodGo c j rest go) where
       or-absent-gives : (M x items : ℕ) (set : List (Parse ℕ)) (s : State) (r : Parsed) → Ready text (s .cells) c set →
-          Wants book text (s .cells) j rest items → orAbsent book text inner c j M rest go x items set s ≡ ok r → Gives text (s .cells) r
+          Wants book text (s .cells) j rest items →
+          orAbsent book text inner c j M rest go x items set s ≡ ok r → Gives text (s .cells) r
       unfolding orAbsent
       or-absent-gives M x items set s r h w e =
-          after _ _ e (λ absent missing e₁. after _ _ e₁ (λ m linked e₂. after _ _ e₂ (λ a ran e₃. after _ _ e₃ (λ b entered e₄. after _ _ e₄ (λ d tried is.
+          after _ _ e (λ absent missing e₁. after _ _ e₁ (λ m linked e₂.
+          after _ _ e₂ (λ a ran e₃. after _ _ e₃ (λ b entered e₄. after _ _ e₄ (λ d tried is.
           let new = new-absent s absent (h .tabled) missing in
           let w′ = wants-still rest items (new .grown .prefix) w in
-          let o = with-cell-onward book text j rest items (absent .cell) (absent .state) m (new .grown .tabled) w′ (new .item) linked in
+          let o =
+          with-cell-onward book text j rest items (absent .cell) (absent .state) m
+          (new .grown .tabled) w′ (new .item) linked in
           let way = grown-then (new .grown) (o .grown) in
           let g = gives-from way (good x (m .cell) set (m .state) a (ready-still way h) (o .left) ran) in
           gives-ok is
-          (sides-give c j M x (plainNext book text c j rest items) set s a b d (plain-next-good (s .cells) c j rest items w) h g entered tried))))))
+          (sides-give c j M x (plainNext book text c j rest items) set s a b d
+          (plain-next-good (s .cells) c j rest items w) h g entered tried))))))
 
-      choice-gives : (comma : Bool) (M values : ℕ) (close : Option ℕ) (x items : ℕ) (set : List (Parse ℕ)) (s : State) (r : Parsed) →
-          Ready text (s .cells) c set → List-left book text (s .cells) j values rest items →
+      choice-gives : (comma : Bool) (M values : ℕ) (close : Option ℕ) (x items : ℕ) (set : List (Parse ℕ)) (s : State)
+          (r : Parsed) → Ready text (s .cells) c set → List-left book text (s .cells) j values rest items →
           choice book text inner c j comma M values close rest go x items set s ≡ ok r → Gives text (s .cells) r
       unfolding choice
       choice-gives comma M values close x items set s₀ r h₀ l₀ e =
-          after _ _ e (λ s spent e₁. after _ _ e₁ (λ a stopped e₂. after _ _ e₂ (λ b entered e₃. after _ _ e₃ (λ d tried is.
+          after _ _ e
+          (λ s spent e₁. after _ _ e₁ (λ a stopped e₂. after _ _ e₂ (λ b entered e₃. after _ _ e₃ (λ d tried is.
           let way = spend-grown s₀ s (h₀ .tabled) spent in
           let h = ready-still way h₀ in
           let l = list-still rest items (way .prefix) l₀ in
@@ -298,7 +352,8 @@ module _ (book : Book) (text : List ℕ)
           (sides-give c j M x (listNext book text c j comma M values close rest items) set s a b d
           (list-next-good (s .cells) c j comma M values close rest items l) h g entered tried))))))
 
-      listing-gives : (comma : Bool) (M : ℕ) (close : Option ℕ) (x items : ℕ) (set : List (Parse ℕ)) (s : State) (r : Parsed) →
+      listing-gives :
+          (comma : Bool) (M : ℕ) (close : Option ℕ) (x items : ℕ) (set : List (Parse ℕ)) (s : State) (r : Parsed) →
           Ready text (s .cells) c set → Wants book text (s .cells) j rest items →
           listing book text inner c j comma M close rest go x items set s ≡ ok r → Gives text (s .cells) r
       unfolding listing
@@ -309,8 +364,10 @@ module _ (book : Book) (text : List ℕ)
           (choice-gives comma M (m .cell) close x items set (m .state) r (ready-still (new .grown) h)
           (record { chain = new .chain; wants = wants-still rest items (new .grown .prefix) w }) next))
 
-      unopened-gives : (x items : ℕ) (set : List (Parse ℕ)) (s : State) (r : Parsed) → Ready text (s .cells) c set → Wants book text (s .cells) j rest items →
-          (make text Cell.empty s >>= (λ m. stops book text j (m .cell) none go x items set (m .state))) ≡ ok r → Gives text (s .cells) r
+      unopened-gives : (x items : ℕ) (set : List (Parse ℕ)) (s : State) (r : Parsed) → Ready text (s .cells) c set →
+          Wants book text (s .cells) j rest items →
+          (make text Cell.empty s >>= (λ m. stops book text j (m .cell) none go x items set (m .state))) ≡ ok r →
+          Gives text (s .cells) r
       unopened-gives x items set s r h w e =
           after _ _ e (λ m begun next.
           let new = new-empty s m (h .tabled) begun in
@@ -318,29 +375,34 @@ module _ (book : Book) (text : List ℕ)
           (stops-give c j (m .cell) none rest go good x items set (m .state) r (ready-still (new .grown) h)
           (record { chain = new .chain; wants = wants-still rest items (new .grown .prefix) w }) next))
 
-      token-gives : (t : Token) (items : ℕ) (set : List (Parse ℕ)) (s : State) (r : Parsed) → Ready text (s .cells) c set →
+      token-gives : (t : Token) (items : ℕ) (set : List (Parse ℕ)) (s : State) (r : Parsed) →
+          Ready text (s .cells) c set →
           Wants book text (s .cells) j rest items → (nthVariant book j .passing ≡ true → ⊥) → AddsFit text (t .item) →
-          (withToken book text j items (t .item) s >>= (λ m. go (t .next) (m .cell) set (m .state))) ≡ ok r → Gives text (s .cells) r
+          (withToken book text j items (t .item) s >>= (λ m. go (t .next) (m .cell) set (m .state))) ≡ ok r →
+          Gives text (s .cells) r
       token-gives t items set s r h w not-passing fits e =
           after _ _ e (λ m linked ran.
           let o = with-token-onward book text j rest items (t .item) s m (h .tabled) w not-passing fits linked in
           gives-from (o .grown) (good (t .next) (m .cell) set (m .state) r (ready-still (o .grown) h) (o .left) ran))
 
     -- the one step of a passing variant takes no token
-    not-passing : {C : List Cell} (j : ℕ) (step : Step) (rest : List (Todo ℕ)) (x items : ℕ) (t : Token) → Left book text C j (taking step ∷ rest) items →
+    not-passing : {C : List Cell} (j : ℕ) (step : Step) (rest : List (Todo ℕ)) (x items : ℕ) (t : Token) →
+        Left book text C j (taking step ∷ rest) items →
         stepAt book text step x ≡ Taken.token t → nthVariant book j .passing ≡ true → ⊥
     unfolding stepAt
     not-passing j step rest x items t l e passing =
         let k = l .passing passing .0 in child-token (sym (ap (λ (z : Step). stepAt book text z x) (k .1)) ∙ e)
 
-    unit-grown : (step : Step) (s t : State) → Tabled text (s .cells) → stepUnit book text inner step s ≡ ok t → Grown text (s .cells) (t .cells)
+    unit-grown : (step : Step) (s t : State) → Tabled text (s .cells) → stepUnit book text inner step s ≡ ok t →
+        Grown text (s .cells) (t .cells)
     unfolding stepUnit
     unit-grown step s t h e =
         by-test (between 10 11 (stepNumber step))
         (λ p. subst (λ (z : State). Grown text (s .cells) (z .cells)) (ok-inj (rw p at e)) (grown-refl h))
         (λ p. spend-grown s t h (rw p at e))
 
-    take-gives : (c : Call) (j : ℕ) (step : Step) (rest : List (Todo ℕ)) → GoodGo c j rest (steps book text inner c j rest) →
+    take-gives : (c : Call) (j : ℕ) (step : Step) (rest : List (Todo ℕ)) →
+        GoodGo c j rest (steps book text inner c j rest) →
         GoodGo c j (taking step ∷ rest) (steps book text inner c j (taking step ∷ rest))
     unfolding steps
     take-gives c j step rest good x items set s₀ r h₀ l₀ e =
@@ -352,9 +414,12 @@ module _ (book : Book) (text : List ℕ)
         gives-from way
         (taken-cases (stepAt book text step x)
         (λ takes. gives-ok (rw takes at ran) (gives-set h))
-        (λ t takes. token-gives c j rest _ good t items set s r h w (not-passing j step rest x items t l takes) (token-fits book text x step t takes) (rw takes at ran))
+        (λ t takes.
+        token-gives c j rest _ good t items set s r h w (not-passing j step rest x items t l takes)
+        (token-fits book text x step t takes) (rw takes at ran))
         (λ M takes. after _ _ (rw takes at ran) (λ a entered next.
-        child-gives (s .cells) c j M x _ (plain-next-good (s .cells) c j rest items w) set s a r (prefix-refl (s .cells)) h entered next))
+        child-gives (s .cells) c j M x _ (plain-next-good (s .cells) c j rest items w) set s a r
+        (prefix-refl (s .cells)) h entered next))
         (λ M takes. or-absent-gives c j rest _ good M x items set s r h w (rw takes at ran))
         (λ comma M close y takes. listing-gives c j rest _ good comma M close y items set s r h w (rw takes at ran))
         (λ y takes. unopened-gives c j rest _ good y items set s r h w (rw takes at ran))))
@@ -363,10 +428,13 @@ module _ (book : Book) (text : List ℕ)
     unfolding steps
     steps-give c j [] x items set s r h l e = complete-gives book text j x items set s r h l e
     steps-give c j (elements comma M values close ∷ rest) x items set s r h l e =
-        choice-gives c j rest (steps book text inner c j rest) (steps-give c j rest) comma M values close x items set s r h (elements-left l) e
+        choice-gives c j rest (steps book text inner c j rest) (steps-give c j rest) comma M values close x items set
+        s r h (elements-left l) e
     steps-give c j (ending values close ∷ rest) x items set s r h l e =
-        stops-give c j values close rest (steps book text inner c j rest) (steps-give c j rest) x items set s r h (ending-left l) e
-    steps-give c j (taking step ∷ rest) x items set s r h l e = take-gives c j step rest (steps-give c j rest) x items set s r h l e
+        stops-give c j values close rest (steps book text inner c j rest) (steps-give c j rest) x items
+        set s r h (ending-left l) e
+    steps-give c j (taking step ∷ rest) x items set s r h l e =
+        take-gives c j step rest (steps-give c j rest) x items set s r h l e
 
   -- ---- The whole run
   runner-good : (n : ℕ) (f : Runner) → runner book text n ≡ some f → Good f
@@ -379,5 +447,13 @@ module _ (book : Book) (text : List ℕ)
   unfolding run
   run-keeps allowance start r e =
       let tabled : Tabled text [] = record { table = no-cells; cells = omega arith } in
-      let g = enter-gives (runner book text 200) (runner-good 200) [] [] start (skipFrom text 0) _ r tabled (λ i. holds-none) e in
-      record { table = g .grown .tabled .table; cells = g .grown .tabled .cells; values = g .set .values; distinct = g .set .distinct; size = g .set .size }
+      let g =
+      enter-gives (runner book text 200) (runner-good 200) [] [] start (skipFrom text 0) _ r
+      tabled (λ i. holds-none) e in
+      record {
+        table = g .grown .tabled .table;
+        cells = g .grown .tabled .cells;
+        values = g .set .values;
+        distinct = g .set .distinct;
+        size = g .set .size;
+      }

@@ -18,7 +18,8 @@ use Rattle.semantics.specs.Values.{Tree, Parse, whole}
 use Rattle.semantics.specs.Errors.{Error}
 use Rattle.semantics.specs.Derivations.{DerivesText}
 use Rattle.semantics.specs.Run.{Result, met, ok, Parsed, runner, run}
-use Rattle.semantics.specs.Answer.{Answer, Answered, answer, cleared, filled, wholeValues, allAre, firstHigh, byValues, atEnd, onBook, answerOf}
+use Rattle.semantics.specs.Answer.{Answer, Answered, answer, cleared, filled, wholeValues, allAre, firstHigh}
+use Rattle.semantics.specs.Answer.{byValues, atEnd, onBook, answerOf}
 use Rattle.semantics.specs.Theorem.Lists.{_∈_}
 use Rattle.semantics.specs.Theorem.Exactly.{exact}
 use Rattle.semantics.specs.Theorem.Results.{option-cases, list-cases}
@@ -31,11 +32,13 @@ use Rattle.semantics.specs.Theorem.Made.{treeFor}
 use Rattle.semantics.specs.Theorem.LinkSteps.{run-ok}
 use Rattle.semantics.specs.Exact.{StandsFor, ReachesEnd, Exact, FoundIsExactlyDerivable}
 use Rattle.semantics.specs.Theorem.Outcomes.{Says, says-value, says-no-parse, says-none-whole, says-differ}
-use Rattle.semantics.specs.Theorem.Listing.{treeNow, parseFor, stands-for, entry-there, entry-only, entry-once, listed, unlisted, value-once}
+use Rattle.semantics.specs.Theorem.Listing.{treeNow, parseFor, stands-for, entry-there, entry-only, entry-once}
+use Rattle.semantics.specs.Theorem.Listing.{listed, unlisted, value-once}
 
 -- ---- The values of the whole parses
 module _ (text : List ℕ) where
-  whole-in : (set : List (Parse ℕ)) {v : ℕ} → v ∈ wholeValues text set → (p : Parse ℕ) × (p ∈ set) × (whole text p ≡ true) × (v ≡ p .value)
+  whole-in : (set : List (Parse ℕ)) {v : ℕ} → v ∈ wholeValues text set →
+      (p : Parse ℕ) × (p ∈ set) × (whole text p ≡ true) × (v ≡ p .value)
   unfolding wholeValues
   whole-in [] m = absurd (List·Memᴰ·not-nil m)
   whole-in (p ∷ set) {v} m =
@@ -43,7 +46,8 @@ module _ (text : List ℕ) where
       (λ t. first-or-later t (rw t at m) (λ n. whole-in set n))
       (λ t. later (whole-in set (rw t at m)))
     where
-      later : (q : Parse ℕ) × (q ∈ set) × (whole text q ≡ true) × (v ≡ q .value) → (q : Parse ℕ) × (q ∈ (p ∷ set)) × (whole text q ≡ true) × (v ≡ q .value)
+      later : (q : Parse ℕ) × (q ∈ set) × (whole text q ≡ true) × (v ≡ q .value) →
+          (q : Parse ℕ) × (q ∈ (p ∷ set)) × (whole text q ≡ true) × (v ≡ q .value)
       later q = (q .0, List·Memᴰ·tail (q .1), q .2, q .3)
 
       first-or-later : whole text p ≡ true → v ∈ (p .value ∷ wholeValues text set) →
@@ -54,8 +58,10 @@ module _ (text : List ℕ) where
 
   in-whole : {set : List (Parse ℕ)} {p : Parse ℕ} → p ∈ set → whole text p ≡ true → p .value ∈ wholeValues text set
   unfolding wholeValues
-  in-whole {p = p} (List·Memᴰ·head {x = q} {xs = set} e) t = rw (ap (whole text) (sym e) ∙ t) (List·Memᴰ·head (ap (λ (z : Parse ℕ). z .value) e))
-  in-whole (List·Memᴰ·tail {x = q} {xs = set} m) t = by-test (whole text q) (λ u. rw u (List·Memᴰ·tail (in-whole m t))) (λ u. rw u (in-whole m t))
+  in-whole {p = p} (List·Memᴰ·head {x = q} {xs = set} e) t =
+      rw (ap (whole text) (sym e) ∙ t) (List·Memᴰ·head (ap (λ (z : Parse ℕ). z .value) e))
+  in-whole (List·Memᴰ·tail {x = q} {xs = set} m) t =
+      by-test (whole text q) (λ u. rw u (List·Memᴰ·tail (in-whole m t))) (λ u. rw u (in-whole m t))
 
 all-are : (v : ℕ) (vs : List ℕ) → allAre v vs ≡ true → (w : ℕ) → w ∈ vs → v ≡ w
 unfolding allAre
@@ -78,12 +84,14 @@ not-all v (u ∷ vs) e =
     (λ t. (u, List·Memᴰ·head refl, eqb-false v u t))
 
 -- ---- A run that has a result
-module _ (bytes : List ℕ) (book : Book) (accepted : checkBook bytes ≡ Outcome.book book) (text : List ℕ) (start allowance : ℕ) (r : Parsed) (ran : run book text allowance start ≡ ok r)
+module _ (bytes : List ℕ) (book : Book) (accepted : checkBook bytes ≡ Outcome.book book) (text : List ℕ)
+    (start allowance : ℕ) (r : Parsed) (ran : run book text allowance start ≡ ok r)
     (h : Kept text r) (lentCells lentParses : List ℕ) where
   -- the trees of the set are the derivable parses
   found : (p : Parse Tree) → (p ∈ map (treeNow text r) (r .set)) ↔ DerivesText book text start p
   found p =
-      exact book text (no-variants bytes book accepted) start (skipFrom text 0) _ _ (run-ok book text (r .state .cells) (h .table) allowance start r ran (prefix-refl (r .state .cells))) p
+      exact book text (no-variants bytes book accepted) start (skipFrom text 0) _ _
+      (run-ok book text (r .state .cells) (h .table) allowance start r ran (prefix-refl (r .state .cells))) p
 
   -- a parse of the set, of a derivable one
   pub record Source (p : Parse Tree) : Type 0 where
@@ -92,17 +100,21 @@ module _ (bytes : List ℕ) (book : Book) (accepted : checkBook bytes ≡ Outcom
     pub is : treeNow text r parse ≡ p
 
   source : (p : Parse Tree) → DerivesText book text start p → Source p
-  source p d = let q = Memᴰ·of-map (treeNow text r) (r .set) (found p .1 d) in record { parse = q .0; member = q .1; is = q .2 }
+  source p d =
+      let q = Memᴰ·of-map (treeNow text r) (r .set) (found p .1 d) in record { parse = q .0; member = q .1; is = q .2 }
 
   derives : (p : Parse ℕ) → p ∈ r .set → DerivesText book text start (treeNow text r p)
   derives p m = found _ .0 (Memᴰ·map (treeNow text r) m)
 
   -- the value of a parse that reaches the end is among the whole values
-  reached : (p : Parse Tree) → ReachesEnd book text start p → (s : Source p) × (s .parse .value ∈ wholeValues text (r .set))
+  reached : (p : Parse Tree) → ReachesEnd book text start p →
+      (s : Source p) × (s .parse .value ∈ wholeValues text (r .set))
   reached p d = let s = source p (d .derived) in (s, in-whole text (s .member) (ap (whole text) (s .is) ∙ d .ends))
 
-  reaches : {v : ℕ} → v ∈ wholeValues text (r .set) → (p : Parse ℕ) × (p ∈ r .set) × ReachesEnd book text start (treeNow text r p) × (v ≡ p .value)
-  reaches m = let w = whole-in text (r .set) m in (w .0, w .1, record { derived = derives (w .0) (w .1); ends = w .2 }, w .3)
+  reaches : {v : ℕ} → v ∈ wholeValues text (r .set) →
+      (p : Parse ℕ) × (p ∈ r .set) × ReachesEnd book text start (treeNow text r p) × (v ≡ p .value)
+  reaches m =
+      let w = whole-in text (r .set) m in (w .0, w .1, record { derived = derives (w .0) (w .1); ends = w .2 }, w .3)
 
   -- ---- With lists filled
   module _ (a : Answer) (number : a .parses ≡ length (r .set)) where
@@ -110,13 +122,16 @@ module _ (bytes : List ℕ) (book : Book) (accepted : checkBook bytes ≡ Outcom
     exit = filled lentCells lentParses a r
 
     exact-filled : Says book text start (a .refusal) →
-        (a .refusal ≡ 0 → (p : Parse Tree) → ReachesEnd book text start p → StandsFor text (exit .cells) (a .value) (p .value)) → Exact book text start exit
+        (a .refusal ≡ 0 → (p : Parse Tree) → ReachesEnd book text start p →
+        StandsFor text (exit .cells) (a .value) (p .value)) → Exact book text start exit
     exact-filled says cell = record {
       derivable = λ p. (
-        λ d. let l = listed text r h lentCells lentParses a p (found p .1 d) in (l .0, omega (arith, l .1, number), l .2),
+        λ d. let l = listed text r h lentCells lentParses a p (found p .1 d) in
+            (l .0, omega (arith, l .1, number), l .2),
         λ l. found p .0 (unlisted text r h lentCells lentParses a p (l .0) (omega (arith, l .1, number)) (l .2)),
       );
-      once = λ p i k x y e f. entry-once text r h lentCells lentParses a p i k (omega (arith, x, number)) (omega (arith, y, number)) e f;
+      once = λ p i k x y e f.
+          entry-once text r h lentCells lentParses a p i k (omega (arith, x, number)) (omega (arith, y, number)) e f;
       each = λ i x. (
         treeNow text r (parseFor r i),
         entry-there text r h lentCells lentParses a i (omega (arith, x, number)),
@@ -135,16 +150,21 @@ module _ (bytes : List ℕ) (book : Book) (accepted : checkBook bytes ≡ Outcom
   -- the set isn't empty: 31, 32 or a value
   module _ (not-empty : r .set ≡ [] → ⊥) where
     first-parse : (p : Parse ℕ) × (p ∈ r .set)
-    first-parse = list-cases (r .set) (λ e. absurd (not-empty e)) (λ p ps e. (p, subst (λ l. p ∈ l) (sym e) (List·Memᴰ·head refl)))
+    first-parse =
+        list-cases (r .set) (λ e. absurd (not-empty e))
+        (λ p ps e. (p, subst (λ l. p ∈ l) (sym e) (List·Memᴰ·head refl)))
 
     exact-none-whole : wholeValues text (r .set) ≡ [] →
-        Exact book text start (filled lentCells lentParses (answer 31 0 0 0 (allowance - r .state .units) (length (r .set)) 0) r)
+        Exact book text start
+        (filled lentCells lentParses (answer 31 0 0 0 (allowance - r .state .units) (length (r .set)) 0) r)
     exact-none-whole none-whole =
         exact-filled (answer 31 0 0 0 (allowance - r .state .units) (length (r .set)) 0) refl
         (says-none-whole book text start (record {
           exists = (treeNow text r (first-parse .0), derives (first-parse .0) (first-parse .1));
           all = λ p d. by-test (whole text p)
-              (λ t. let q = reached p (record { derived = d; ends = t }) in absurd (List·Memᴰ·not-nil (subst (λ l. q .0 .parse .value ∈ l) none-whole (q .1))))
+              (λ t.
+              let q = reached p (record { derived = d; ends = t }) in
+              absurd (List·Memᴰ·not-nil (subst (λ l. q .0 .parse .value ∈ l) none-whole (q .1))))
               (λ t. t);
         }))
         (λ e. no-value e)
@@ -158,23 +178,29 @@ module _ (bytes : List ℕ) (book : Book) (accepted : checkBook bytes ≡ Outcom
         value-is : (p : Parse Tree) → ReachesEnd book text start p → treeFor text (r .state .cells) v ≡ p .value
         value-is p d =
             let q = reached p d in
-            ap (treeFor text (r .state .cells)) (all-same (subst (λ l. q .0 .parse .value ∈ l) values (q .1))) ∙ ap (λ (z : Parse Tree). z .value) (q .0 .is)
+            ap (treeFor text (r .state .cells)) (all-same (subst (λ l. q .0 .parse .value ∈ l) values (q .1)))
+            ∙ ap (λ (z : Parse Tree). z .value) (q .0 .is)
           where
             all-same : {w : ℕ} → w ∈ (v ∷ vs) → v ≡ w
             all-same (List·Memᴰ·head e) = sym e
             all-same {w} (List·Memᴰ·tail m) = all-are v vs same w m
 
-        exact-value : Exact book text start (filled lentCells lentParses (answer 0 0 0 0 (allowance - r .state .units) (length (r .set)) v) r)
+        exact-value : Exact book text start
+            (filled lentCells lentParses (answer 0 0 0 0 (allowance - r .state .units) (length (r .set)) v) r)
         exact-value =
             let w = reaches v-in in
             exact-filled (answer 0 0 0 0 (allowance - r .state .units) (length (r .set)) v) refl
-            (says-value book text start (record { exists = (treeNow text r (w .0), w .2); all = λ p q d e. sym (value-is p d) ∙ value-is q e }))
-            (λ e p d. subst (λ t. StandsFor text (filled lentCells lentParses (answer 0 0 0 0 (allowance - r .state .units) (length (r .set)) v) r .cells) v t) (value-is p d)
-            (stands-for text r h lentCells lentParses (answer 0 0 0 0 (allowance - r .state .units) (length (r .set)) v) v (subst (λ n. Item text (r .state .cells) n) (sym (w .3)) (h .values (w .0) (w .1)))))
+            (says-value book text start
+            (record { exists = (treeNow text r (w .0), w .2); all = λ p q d e. sym (value-is p d) ∙ value-is q e }))
+            (λ e p d. subst (λ t. StandsFor text (filled lentCells lentParses
+            (answer 0 0 0 0 (allowance - r .state .units) (length (r .set)) v) r .cells) v t) (value-is p d)
+            (stands-for text r h lentCells lentParses (answer 0 0 0 0 (allowance - r .state .units) (length (r .set)) v)
+            v (subst (λ n. Item text (r .state .cells) n) (sym (w .3)) (h .values (w .0) (w .1)))))
 
       -- two differ
       exact-differ : allAre v vs ≡ false →
-          Exact book text start (filled lentCells lentParses (answer 32 0 0 0 (allowance - r .state .units) (length (r .set)) 0) r)
+          Exact book text start
+          (filled lentCells lentParses (answer 32 0 0 0 (allowance - r .state .units) (length (r .set)) 0) r)
       exact-differ apart =
           let u = not-all v vs apart in
           let w = reaches v-in in
@@ -184,11 +210,13 @@ module _ (bytes : List ℕ) (book : Book) (accepted : checkBook bytes ≡ Outcom
             first = treeNow text r (w .0);
             second = treeNow text r (z .0);
             reaches = (w .2, z .2);
-            apart = λ e. u .2 (w .3 ∙ value-once text r h lentCells lentParses (answer 32 0 0 0 (allowance - r .state .units) (length (r .set)) 0) (w .0) (z .0) (w .1) (z .1) e ∙ sym (z .3));
+            apart = λ e. u .2 (w .3 ∙ value-once text r h lentCells lentParses (answer 32 0 0 0
+                (allowance - r .state .units) (length (r .set)) 0) (w .0) (z .0) (w .1) (z .1) e ∙ sym (z .3));
           }))
           (λ e. no-value e)
 
-    exact-by-values : Exact book text start (byValues lentCells lentParses (wholeValues text (r .set)) (allowance - r .state .units) r)
+    exact-by-values : Exact book text start
+        (byValues lentCells lentParses (wholeValues text (r .set)) (allowance - r .state .units) r)
     unfolding byValues
     exact-by-values =
         list-cases (wholeValues text (r .set))
@@ -199,7 +227,8 @@ module _ (bytes : List ℕ) (book : Book) (accepted : checkBook bytes ≡ Outcom
 
   -- the set is empty: 30
   exact-no-parse : (e : Error) → r .set ≡ [] →
-      Exact book text start (cleared lentCells lentParses (answer 30 (e .place) (e .kind) (e .argument) (allowance - r .state .units) 0 0))
+      Exact book text start
+      (cleared lentCells lentParses (answer 30 (e .place) (e .kind) (e .argument) (allowance - r .state .units) 0 0))
   exact-no-parse e empty = record {
     derivable = λ p. (λ d. absurd (no-derivation p d), λ l. absurd (omega (arith, l .1)));
     once = λ p i k x y f g. absurd (omega (arith, x));
@@ -226,23 +255,28 @@ module _ (bytes : List ℕ) (book : Book) (accepted : checkBook bytes ≡ Outcom
       (λ e failed. rw failed (exact-no-parse e (f .fails e failed)))
 
 -- ---- The answer
-module _ (cells parses bytes text : List ℕ) (start allowance : ℕ) (book : Book) (accepted : checkBook bytes ≡ Outcome.book book) where
+module _ (cells parses bytes text : List ℕ) (start allowance : ℕ) (book : Book)
+    (accepted : checkBook bytes ≡ Outcome.book book) where
   -- the run's result, or its limit
-  result-cases : {P′ : Type 0} (x : Result Parsed) → ((r : Parsed) → x ≡ ok r → P′) → ((number units : ℕ) → x ≡ met number units → P′) → P′
+  result-cases : {P′ : Type 0} (x : Result Parsed) → ((r : Parsed) → x ≡ ok r → P′) →
+      ((number units : ℕ) → x ≡ met number units → P′) → P′
   result-cases (ok r) f g = f r refl
   result-cases (met number units) f g = g number units refl
 
-  after-run : between 20 23 (atEnd cells parses text allowance (run book text allowance start) .answer .refusal) ≡ false →
+  after-run :
+      between 20 23 (atEnd cells parses text allowance (run book text allowance start) .answer .refusal) ≡ false →
       Exact book text start (atEnd cells parses text allowance (run book text allowance start))
   unfolding atEnd
   after-run no-limit =
       result-cases (run book text allowance start)
-      (λ r ran. rw ran (exact-at-end bytes book accepted text start allowance r ran (run-keeps book text (passing-step bytes book accepted) allowance start r ran) cells parses))
+      (λ r ran. rw ran (exact-at-end bytes book accepted text start allowance r ran
+      (run-keeps book text (passing-step bytes book accepted) allowance start r ran) cells parses))
       (λ number units limit. clash (run-limits book text allowance start number units limit) (rw limit at no-limit))
 
   -- an answer that isn't refused before the run is the run's
   by-run : between 1 11 (answerOf cells parses bytes text start allowance .answer .refusal) ≡ false →
-      answerOf cells parses bytes text start allowance ≡ atEnd cells parses text allowance (run book text allowance start)
+      answerOf cells parses bytes text start allowance
+      ≡ atEnd cells parses text allowance (run book text allowance start)
   unfolding answerOf onBook
   by-run e =
       by-test (ltb (length cells) 12288 || ltb (length parses) 256)
@@ -261,4 +295,5 @@ pub found-is-exactly-derivable : FoundIsExactlyDerivable
 found-is-exactly-derivable cells parses bytes text start allowance book accepted not-refused no-limit =
     let same = by-run cells parses bytes text start allowance book accepted not-refused in
     subst (Exact book text start) (sym same)
-    (after-run cells parses bytes text start allowance book accepted (subst (λ (a : Answered). between 20 23 (a .answer .refusal) ≡ false) same no-limit))
+    (after-run cells parses bytes text start allowance book accepted
+    (subst (λ (a : Answered). between 20 23 (a .answer .refusal) ≡ false) same no-limit))

@@ -12,9 +12,12 @@ use Rattle.book.specs.Book.{Book, nthNonterminal, nthVariant}
 use Rattle.semantics.specs.Values.{Tree, Trees, no-trees, _▸_, absent, list, Parse}
 use Rattle.semantics.specs.Uses.{Path, base, hasMark, minimum, same-start, governor, keeps}
 use Rattle.semantics.specs.Tokens.{freeEnd, claimed}
-use Rattle.semantics.specs.Steps.{Taken, stepAt, goes, halts, afterElement, closed, Todo, taking, elements, ending, todoOf}
-use Rattle.semantics.specs.Derivations.{parseOf, identifierParse, withItem, Attempt, attempt, variantOf, inside, Derives, by-variant, by-governor, by-identifier}
-use Rattle.semantics.specs.Derivations.{Through, done, by-token, by-child, by-absent, by-one, by-list, by-unopened, by-stop, by-more, by-last, by-ending}
+use Rattle.semantics.specs.Steps.{Taken, stepAt, goes, halts, afterElement, closed, Todo, taking, elements}
+use Rattle.semantics.specs.Steps.{ending, todoOf}
+use Rattle.semantics.specs.Derivations.{parseOf, identifierParse, withItem, Attempt, attempt, variantOf, inside}
+use Rattle.semantics.specs.Derivations.{Derives, by-variant, by-governor, by-identifier}
+use Rattle.semantics.specs.Derivations.{Through, done, by-token, by-child, by-absent, by-one, by-list}
+use Rattle.semantics.specs.Derivations.{by-unopened, by-stop, by-more, by-last, by-ending}
 
 module _ (book : Book) (text : List ℕ) where
   -- the rules of derivations once more, with a height
@@ -22,8 +25,8 @@ module _ (book : Book) (text : List ℕ) where
     pub data Der : ℕ → Path → ℕ → ℕ → Parse Tree → Type 0 where
       h-variant : {h P N u p m i : _} → governor P base N u ≡ minimum m →
           i < nthNonterminal book N .count → leb m (nthVariant book (variantOf book N i) .level) ≡ true →
-          DThrough h (attempt P N u (variantOf book N i) p) (todoOf book (nthVariant book (variantOf book N i))) u no-trees →
-          Der (suc h) P N u p
+          DThrough h (attempt P N u (variantOf book N i) p) (todoOf book (nthVariant book (variantOf book N i))) u
+          no-trees → Der (suc h) P N u p
       h-governor : {h P N u p i f Q : _} → governor P base N u ≡ same-start i f Q →
           Der h Q (f .nonterminal) (f .start) p → keeps f p ≡ true → Der (suc h) P N u p
       h-identifier : {h P N u p m end : _} → governor P base N u ≡ minimum m → hasMark book 2 N ≡ true →
@@ -31,7 +34,8 @@ module _ (book : Book) (text : List ℕ) where
           p ≡ identifierParse text u end → Der (suc h) P N u p
 
     pub data DThrough : ℕ → Attempt → List (Todo Trees) → ℕ → Trees → Type 0 where
-      h-done : {h : ℕ} {a : Attempt} {x items : _} → a .parse ≡ parseOf book (a .variant) x items → DThrough h a [] x items
+      h-done : {h : ℕ} {a : Attempt} {x items : _} →
+          a .parse ≡ parseOf book (a .variant) x items → DThrough h a [] x items
       h-token : {h a s t rest x items : _} → stepAt book text s x ≡ Taken.token t →
           DThrough h a rest (t .next) (withItem text items (t .item)) → DThrough h a (taking s ∷ rest) x items
       h-child : {h a s M q rest x items : _} → stepAt book text s x ≡ Taken.child M →
@@ -47,7 +51,8 @@ module _ (book : Book) (text : List ℕ) where
       h-unopened : {h a s y rest x items : _} → stepAt book text s x ≡ Taken.unopened y →
           DThrough h a rest y (items ▸ list no-trees) → DThrough h a (taking s ∷ rest) x items
       h-stop : {h a comma M values close rest x items : _} →
-          DThrough h a (ending values close ∷ rest) x items → DThrough h a (elements comma M values close ∷ rest) x items
+          DThrough h a (ending values close ∷ rest) x items →
+          DThrough h a (elements comma M values close ∷ rest) x items
       h-more : {h a comma M values close q y rest x items : _} →
           Der h (inside book a (skipFrom text x)) M (skipFrom text x) q → afterElement text comma (q .rest) ≡ goes y →
           DThrough h a (elements comma M (values ▸ q .value) close ∷ rest) y items →
@@ -86,14 +91,19 @@ module _ (book : Book) (text : List ℕ) where
     raise-through (h-ending e t) k l = h-ending e (raise-through t k l)
 
   -- a child and what follows it, at one height
-  record Both (P : Path) (M v : ℕ) (q : Parse Tree) (a : Attempt) (todo : List (Todo Trees)) (x : ℕ) (items : Trees) : Type 0 where
+  record Both (P : Path) (M v : ℕ) (q : Parse Tree) (a : Attempt) (todo : List (Todo Trees)) (x : ℕ)
+      (items : Trees) : Type 0 where
     top : ℕ
     child : Der top P M v q
     way : DThrough top a todo x items
 
   both : {P : Path} {M v : ℕ} {q : Parse Tree} {a : Attempt} {todo : List (Todo Trees)} {x : ℕ} {items : Trees} →
       (h : ℕ) × Der h P M v q → (h : ℕ) × DThrough h a todo x items → Both P M v q a todo x items
-  both a b = record { top = a .0 + b .0; child = raise (a .1) (a .0 + b .0) (omega arith); way = raise-through (b .1) (a .0 + b .0) (omega arith) }
+  both a b = record {
+    top = a .0 + b .0;
+    child = raise (a .1) (a .0 + b .0) (omega arith);
+    way = raise-through (b .1) (a .0 + b .0) (omega arith);
+  }
 
   mutual
     pub height : {P : Path} {N u : ℕ} {p : Parse Tree} → Derives book text P N u p → (h : ℕ) × Der h P N u p
@@ -105,12 +115,15 @@ module _ (book : Book) (text : List ℕ) where
         Through book text a todo x items → (h : ℕ) × DThrough h a todo x items
     height-through (done e) = (zero, h-done e)
     height-through (by-token e t) = let r = height-through t in (r .0, h-token e (r .1))
-    height-through (by-child e d t) = let r = both (height d) (height-through t) in (r .top, h-child e (r .child) (r .way))
+    height-through (by-child e d t) =
+        let r = both (height d) (height-through t) in (r .top, h-child e (r .child) (r .way))
     height-through (by-absent e t) = let r = height-through t in (r .0, h-absent e (r .1))
     height-through (by-one e d t) = let r = both (height d) (height-through t) in (r .top, h-one e (r .child) (r .way))
     height-through (by-list e t) = let r = height-through t in (r .0, h-list e (r .1))
     height-through (by-unopened e t) = let r = height-through t in (r .0, h-unopened e (r .1))
     height-through (by-stop t) = let r = height-through t in (r .0, h-stop (r .1))
-    height-through (by-more d e t) = let r = both (height d) (height-through t) in (r .top, h-more (r .child) e (r .way))
-    height-through (by-last d e t) = let r = both (height d) (height-through t) in (r .top, h-last (r .child) e (r .way))
+    height-through (by-more d e t) =
+        let r = both (height d) (height-through t) in (r .top, h-more (r .child) e (r .way))
+    height-through (by-last d e t) =
+        let r = both (height d) (height-through t) in (r .top, h-last (r .child) e (r .way))
     height-through (by-ending e t) = let r = height-through t in (r .0, h-ending e (r .1))

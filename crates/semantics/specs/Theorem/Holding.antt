@@ -23,13 +23,16 @@ use Rattle.semantics.specs.Tokens.{when}
 use Rattle.semantics.specs.Steps.{Item as Read, Todo, taking, elements, ending, stepsOf, todoOf}
 use Rattle.semantics.specs.Cells.{Cell, one, several, meaningOf, meanings}
 use Rattle.semantics.specs.Errors.{Error}
-use Rattle.semantics.specs.Run.{ok, State, Parsed, parsed, Made, made, Call, kept, add, addAll, make, itemCell, begin, withCell, withToken, complete}
+use Rattle.semantics.specs.Run.{ok, State, Parsed, parsed, Made, made, Call, kept, add, addAll, make, itemCell}
+use Rattle.semantics.specs.Run.{begin, withCell, withToken, complete}
 use Rattle.semantics.specs.Theorem.Lists.{_∈_, sift, sift-out, nth, either}
 use Rattle.semantics.specs.Theorem.Results.{ok-inj, after}
 use Rattle.semantics.specs.Theorem.Tokens.{ReadFits, AddsFit}
 use Rattle.semantics.specs.Theorem.Sets.{Distinct, distinct-nil, distinct-cons, kept-sift}
-use Rattle.semantics.specs.Theorem.Sets.{add-joins, add-distinct, add-size, add-all-joins, add-all-distinct, add-all-size}
-use Rattle.semantics.specs.Theorem.Table.{Table, Item, Chain, Fits, Prefix, prefix-refl, prefix-then, item-still, chain-still, make-grows, make-most, make-ok}
+use Rattle.semantics.specs.Theorem.Sets.{add-joins, add-distinct, add-size, add-all-joins, add-all-distinct}
+use Rattle.semantics.specs.Theorem.Sets.{add-all-size}
+use Rattle.semantics.specs.Theorem.Table.{Table, Item, Chain, Fits, Prefix, prefix-refl, prefix-then, item-still}
+use Rattle.semantics.specs.Theorem.Table.{chain-still, make-grows, make-most, make-ok}
 
 -- the cells so far, "a 4,097th" among them never
 pub record Tabled (text : List ℕ) (C : List Cell) : Type 0 where
@@ -103,10 +106,13 @@ grown-then g h = record { tabled = h .tabled; prefix = prefix-then (g .prefix) (
 pub gives-from : {text : List ℕ} {C C′ : List Cell} {r : Parsed} → Grown text C C′ → Gives text C′ r → Gives text C r
 gives-from g h = record { grown = grown-then g (h .grown); set = h .set }
 
-pub holds-still : {text : List ℕ} {C C′ : List Cell} {set : List (Parse ℕ)} → Prefix C C′ → Held text C set → Held text C′ set
-holds-still {text} p h = record { values = λ q m. item-still text p (q .value) (h .values q m); distinct = h .distinct; size = h .size }
+pub holds-still : {text : List ℕ} {C C′ : List Cell} {set : List (Parse ℕ)} → Prefix C C′ →
+    Held text C set → Held text C′ set
+holds-still {text} p h =
+    record { values = λ q m. item-still text p (q .value) (h .values q m); distinct = h .distinct; size = h .size }
 
-pub ready-still : {text : List ℕ} {C C′ : List Cell} {c : Call} {set : List (Parse ℕ)} → Grown text C C′ → Ready text C c set → Ready text C′ c set
+pub ready-still : {text : List ℕ} {C C′ : List Cell} {c : Call} {set : List (Parse ℕ)} → Grown text C C′ →
+    Ready text C c set → Ready text C′ c set
 ready-still g h = record {
   tabled = g .tabled;
   stored = λ i. holds-still (g .prefix) (h .stored i);
@@ -115,30 +121,35 @@ ready-still g h = record {
 }
 
 -- a part of the run has added to the set
-pub ready-after : {text : List ℕ} {C : List Cell} {c : Call} {set : List (Parse ℕ)} {r : Parsed} → Ready text C c set → Gives text C r →
-    Ready text (r .state .cells) c (r .set)
-ready-after h g = let k = ready-still (g .grown) h in record { tabled = k .tabled; stored = k .stored; mine = k .mine; set = g .set }
+pub ready-after : {text : List ℕ} {C : List Cell} {c : Call} {set : List (Parse ℕ)} {r : Parsed} → Ready text C c set →
+    Gives text C r → Ready text (r .state .cells) c (r .set)
+ready-after h g =
+    let k = ready-still (g .grown) h in record { tabled = k .tabled; stored = k .stored; mine = k .mine; set = g .set }
 
 pub gives-ok : {text : List ℕ} {C : List Cell} {a r : Parsed} → ok a ≡ ok r → Gives text C a → Gives text C r
 gives-ok {text} {C} e g = subst (λ (z : Parsed). Gives text C z) (ok-inj e) g
 
 -- the set so far is the result
-pub gives-set : {text : List ℕ} {c : Call} {set : List (Parse ℕ)} {s : State} {d : Option Error} → Ready text (s .cells) c set →
-    Gives text (s .cells) (parsed set d s)
+pub gives-set : {text : List ℕ} {c : Call} {set : List (Parse ℕ)} {s : State} {d : Option Error} →
+    Ready text (s .cells) c set → Gives text (s .cells) (parsed set d s)
 gives-set h = record { grown = grown-refl (h .tabled); set = h .set }
 
-pub values-still : (text : List ℕ) {C C′ : List Cell} (todo : List (Todo ℕ)) → Prefix C C′ → Values text C todo → Values text C′ todo
+pub values-still : (text : List ℕ) {C C′ : List Cell} (todo : List (Todo ℕ)) → Prefix C C′ →
+    Values text C todo → Values text C′ todo
 unfolding Values
 values-still text [] p h = tt
 values-still text (taking step ∷ rest) p h = values-still text rest p h
-values-still text (elements comma M values close ∷ rest) p h = (chain-still text p values (h .0), values-still text rest p (h .1))
+values-still text (elements comma M values close ∷ rest) p h =
+    (chain-still text p values (h .0), values-still text rest p (h .1))
 values-still text (ending values close ∷ rest) p h = (chain-still text p values (h .0), values-still text rest p (h .1))
 
-passing-still : (text : List ℕ) {C C′ : List Cell} (todo : List (Todo ℕ)) (items : ℕ) → Prefix C C′ → Passing text C todo items → Passing text C′ todo items
+passing-still : (text : List ℕ) {C C′ : List Cell} (todo : List (Todo ℕ)) (items : ℕ) → Prefix C C′ →
+    Passing text C todo items → Passing text C′ todo items
 passing-still text [] items p h = item-still text p items h
 passing-still text (todo ∷ rest) items p h = h
 
-module _ {book : Book} {text : List ℕ} {C C′ : List Cell} {j : ℕ} (todo : List (Todo ℕ)) (items : ℕ) (p : Prefix C C′) where
+module _ {book : Book} {text : List ℕ} {C C′ : List Cell} {j : ℕ} (todo : List (Todo ℕ))
+    (items : ℕ) (p : Prefix C C′) where
   pub left-still : Left book text C j todo items → Left book text C′ j todo items
   left-still h = record {
     values = values-still text todo p (h .values);
@@ -147,41 +158,63 @@ module _ {book : Book} {text : List ℕ} {C C′ : List Cell} {j : ℕ} (todo : 
   }
 
   pub wants-still : Wants book text C j todo items → Wants book text C′ j todo items
-  wants-still h = record { values = values-still text todo p (h .values); plain = λ t. chain-still text p items (h .plain t); passing = h .passing }
+  wants-still h = record {
+    values = values-still text todo p (h .values);
+    plain = λ t. chain-still text p items (h .plain t);
+    passing = h .passing;
+  }
 
-pub wants-take : {book : Book} {text : List ℕ} {C : List Cell} {j : ℕ} {step : Step} {rest : List (Todo ℕ)} {items : ℕ} →
+pub wants-take :
+    {book : Book} {text : List ℕ} {C : List Cell} {j : ℕ} {step : Step} {rest : List (Todo ℕ)} {items : ℕ} →
     Left book text C j (taking step ∷ rest) items → Wants book text C j rest items
 unfolding Values
 wants-take h = record { values = h .values; plain = h .plain; passing = λ t. h .passing t .1 }
 
 -- a list under way, and what is behind it
-pub record List-left (book : Book) (text : List ℕ) (C : List Cell) (j values : ℕ) (rest : List (Todo ℕ)) (items : ℕ) : Type 0 where
+pub record List-left (book : Book) (text : List ℕ) (C : List Cell) (j values : ℕ) (rest : List (Todo ℕ))
+    (items : ℕ) : Type 0 where
   pub chain : Chain text C values
   pub wants : Wants book text C j rest items
 
-pub list-still : {book : Book} {text : List ℕ} {C C′ : List Cell} {j values : ℕ} (rest : List (Todo ℕ)) (items : ℕ) → Prefix C C′ →
-    List-left book text C j values rest items → List-left book text C′ j values rest items
+pub list-still : {book : Book} {text : List ℕ} {C C′ : List Cell} {j values : ℕ} (rest : List (Todo ℕ)) (items : ℕ) →
+    Prefix C C′ → List-left book text C j values rest items → List-left book text C′ j values rest items
 list-still {text = text} {values = values} rest items p h =
     record { chain = chain-still text p values (h .chain); wants = wants-still rest items p (h .wants) }
 
 module _ {book : Book} {text : List ℕ} {C : List Cell} {j values : ℕ} {rest : List (Todo ℕ)} {items : ℕ} where
-  pub elements-left : {comma : Bool} {M : ℕ} {close : Option ℕ} → Left book text C j (elements comma M values close ∷ rest) items →
+  pub elements-left : {comma : Bool} {M : ℕ} {close : Option ℕ} →
+      Left book text C j (elements comma M values close ∷ rest) items → List-left book text C j values rest items
+  unfolding Values
+  elements-left h = record {
+    chain = h .values .0;
+    wants = record { values = h .values .1; plain = h .plain; passing = λ t. h .passing t .1 };
+  }
+
+  pub ending-left : {close : Option ℕ} → Left book text C j (ending values close ∷ rest) items →
       List-left book text C j values rest items
   unfolding Values
-  elements-left h = record { chain = h .values .0; wants = record { values = h .values .1; plain = h .plain; passing = λ t. h .passing t .1 } }
-
-  pub ending-left : {close : Option ℕ} → Left book text C j (ending values close ∷ rest) items → List-left book text C j values rest items
-  unfolding Values
-  ending-left h = record { chain = h .values .0; wants = record { values = h .values .1; plain = h .plain; passing = λ t. h .passing t .1 } }
+  ending-left h = record {
+    chain = h .values .0;
+    wants = record { values = h .values .1; plain = h .plain; passing = λ t. h .passing t .1 };
+  }
 
   pub left-elements : {comma : Bool} {M : ℕ} {close : Option ℕ} → List-left book text C j values rest items →
       Left book text C j (elements comma M values close ∷ rest) items
   unfolding Values
-  left-elements h = record { values = (h .chain, h .wants .values); plain = h .wants .plain; passing = λ t. (tt, h .wants .passing t) }
+  left-elements h = record {
+    values = (h .chain, h .wants .values);
+    plain = h .wants .plain;
+    passing = λ t. (tt, h .wants .passing t);
+  }
 
-  pub left-ending : {close : Option ℕ} → List-left book text C j values rest items → Left book text C j (ending values close ∷ rest) items
+  pub left-ending : {close : Option ℕ} → List-left book text C j values rest items →
+      Left book text C j (ending values close ∷ rest) items
   unfolding Values
-  left-ending h = record { values = (h .chain, h .wants .values); plain = h .wants .plain; passing = λ t. (tt, h .wants .passing t) }
+  left-ending h = record {
+    values = (h .chain, h .wants .values);
+    plain = h .wants .plain;
+    passing = λ t. (tt, h .wants .passing t);
+  }
 
 -- ---- Sets
 pub holds-none : {text : List ℕ} {C : List Cell} → Held text C []
@@ -212,7 +245,8 @@ sift-size k (a ∷ l) = of (k a) (sift-size k l)
     of true h = omega arith
     of false h = omega arith
 
-pub holds-kept : {text : List ℕ} {C : List Cell} (f : Use) (set : List (Parse ℕ)) → Held text C set → Held text C (kept f set)
+pub holds-kept : {text : List ℕ} {C : List Cell} (f : Use) (set : List (Parse ℕ)) →
+    Held text C set → Held text C (kept f set)
 holds-kept {text} {C} f set h =
     let few = sift-size (keeps f) set in
     let size = h .size in
@@ -223,16 +257,17 @@ holds-kept {text} {C} f set h =
       size = omega arith;
     })
 
-pub holds-add : {text : List ℕ} {C : List Cell} (s : State) (set : List (Parse ℕ)) (p : Parse ℕ) {more : List (Parse ℕ)} → add s set p ≡ ok more →
-    Held text C set → Item text C (p .value) → Held text C more
+pub holds-add :
+    {text : List ℕ} {C : List Cell} (s : State) (set : List (Parse ℕ)) (p : Parse ℕ) {more : List (Parse ℕ)} →
+    add s set p ≡ ok more → Held text C set → Item text C (p .value) → Held text C more
 holds-add s set p e h new = record {
   values = λ q m. either (add-joins s set p e .out q m) (λ n. h .values q n) (λ n. holds-one {p = p} new .values q n);
   distinct = add-distinct s set p e (h .distinct);
   size = add-size s set p e (h .size);
 }
 
-pub holds-all : {text : List ℕ} {C : List Cell} (s : State) (set ps : List (Parse ℕ)) {all : List (Parse ℕ)} → addAll s set ps ≡ ok all →
-    Held text C set → Held text C ps → Held text C all
+pub holds-all : {text : List ℕ} {C : List Cell} (s : State) (set ps : List (Parse ℕ)) {all : List (Parse ℕ)} →
+    addAll s set ps ≡ ok all → Held text C set → Held text C ps → Held text C all
 holds-all s set ps e h new = record {
   values = λ q m. either (add-all-joins s set ps e .out q m) (λ n. h .values q n) (λ n. new .values q n);
   distinct = add-all-distinct s set ps e (h .distinct);
@@ -252,18 +287,21 @@ pub record NewChain (text : List ℕ) (C : List Cell) (m : Made) : Type 0 where
 module _ {text : List ℕ} (s : State) (m : Made) (tabled : Tabled text (s .cells)) where
   make-grown : (c : Cell) → Fits text (s .cells) c → make text c s ≡ ok m → Grown text (s .cells) (m .state .cells)
   make-grown c f e = record {
-    tabled = record { table = make-ok text c s m (tabled .table) f e .table; cells = make-most text c s m e (tabled .cells) };
+    tabled = record {
+      table = make-ok text c s m (tabled .table) f e .table;
+      cells = make-most text c s m e (tabled .cells);
+    };
     prefix = make-grows text c s m e .prefix;
   }
 
-  make-item : (c : Cell) (t : Tree) → meaningOf text (meanings text [] (s .cells)) c ≡ one t → Fits text (s .cells) c → make text c s ≡ ok m →
-      NewItem text (s .cells) m
+  make-item : (c : Cell) (t : Tree) → meaningOf text (meanings text [] (s .cells)) c ≡ one t → Fits text (s .cells) c →
+      make text c s ≡ ok m → NewItem text (s .cells) m
   make-item c t is f e =
       let h = make-ok text c s m (tabled .table) f e in
       record { grown = make-grown c f e; item = record { placed = h .placed; tree = t; is = h .means ∙ is } }
 
-  make-chain : (c : Cell) (ts : Trees) → meaningOf text (meanings text [] (s .cells)) c ≡ several ts → Fits text (s .cells) c → make text c s ≡ ok m →
-      NewChain text (s .cells) m
+  make-chain : (c : Cell) (ts : Trees) → meaningOf text (meanings text [] (s .cells)) c ≡ several ts →
+      Fits text (s .cells) c → make text c s ≡ ok m → NewChain text (s .cells) m
   make-chain c ts is f e =
       let h = make-ok text c s m (tabled .table) f e in
       record { grown = make-grown c f e; chain = record { placed = h .placed; trees = ts; is = h .means ∙ is } }
@@ -272,11 +310,13 @@ module _ {text : List ℕ} (s : State) (m : Made) (tabled : Tabled text (s .cell
   unfolding meaningOf Fits
   new-empty e = make-chain Cell.empty _ refl tt e
 
-  pub new-link : (c item : ℕ) → Chain text (s .cells) c → Item text (s .cells) item → make text (Cell.chain c item) s ≡ ok m → NewChain text (s .cells) m
+  pub new-link : (c item : ℕ) → Chain text (s .cells) c → Item text (s .cells) item →
+      make text (Cell.chain c item) s ≡ ok m → NewChain text (s .cells) m
   unfolding meaningOf Fits
   new-link c item h i e = make-chain (Cell.chain c item) _ refl (h, i) e
 
-  pub new-variant : (j c : ℕ) → Chain text (s .cells) c → make text (Cell.variant j c) s ≡ ok m → NewItem text (s .cells) m
+  pub new-variant : (j c : ℕ) → Chain text (s .cells) c → make text (Cell.variant j c) s ≡ ok m →
+      NewItem text (s .cells) m
   unfolding meaningOf Fits
   new-variant j c h e = make-item (Cell.variant j c) _ refl h e
 
@@ -288,14 +328,16 @@ module _ {text : List ℕ} (s : State) (m : Made) (tabled : Tabled text (s .cell
   unfolding meaningOf Fits
   new-absent e = make-item Cell.absent _ refl tt e
 
-  pub new-name : (place size : ℕ) → place + size ≤ length text → make text (Cell.name place size) s ≡ ok m → NewItem text (s .cells) m
+  pub new-name : (place size : ℕ) → place + size ≤ length text → make text (Cell.name place size) s ≡ ok m →
+      NewItem text (s .cells) m
   unfolding meaningOf Fits
   new-name place size inside e = make-item (Cell.name place size) _ refl inside e
 
   pub new-read : (item : Read) → ReadFits text item → make text (itemCell item) s ≡ ok m → NewItem text (s .cells) m
   unfolding itemCell meaningOf Fits
   new-read (Read.name place size) fits e = new-name place size fits e
-  new-read (Read.number n) fits e = make-item (Cell.number (n / 2 ^ 32) (n % 2 ^ 32)) _ refl (omega arith, mod-lt n (pow-pos 32)) e
+  new-read (Read.number n) fits e =
+      make-item (Cell.number (n / 2 ^ 32) (n % 2 ^ 32)) _ refl (omega arith, mod-lt n (pow-pos 32)) e
   new-read (Read.variable i kind) fits e = make-item (Cell.variable i kind) _ refl tt e
 
 -- ---- The cells of a variant
@@ -311,67 +353,95 @@ module _ (book : Book) (text : List ℕ) (j : ℕ) where
     pub left : Left book text (m .state .cells) j todo (m .cell)
 
   -- the variant begins; a passing one has one step, which is a child
-  pub begin-onward : (nthVariant book j .passing ≡ true → (M : ℕ) × (stepsOf book (nthVariant book j) ≡ Step.Nonterminal M ∷ [])) →
-      (s : State) (m : Made) → Tabled text (s .cells) → begin book text j s ≡ ok m → Onward (todoOf book (nthVariant book j)) (s .cells) m
+  pub begin-onward :
+      (nthVariant book j .passing ≡ true → (M : ℕ) × (stepsOf book (nthVariant book j) ≡ Step.Nonterminal M ∷ [])) →
+      (s : State) (m : Made) → Tabled text (s .cells) → begin book text j s ≡ ok m →
+      Onward (todoOf book (nthVariant book j)) (s .cells) m
   unfolding begin
   begin-onward passing-ok s m tabled e =
       by-test (nthVariant book j .passing)
       (λ t. subst (λ (z : Made). Onward (todoOf book (nthVariant book j)) (s .cells) z) (ok-inj (rw t at e))
       (record {
         grown = grown-refl tabled;
-        left = record { values = steps-values text _ the-steps; plain = λ f. clash t f; passing = λ u. one-step _ (passing-ok u) };
+        left = record {
+          values = steps-values text _ the-steps;
+          plain = λ f. clash t f;
+          passing = λ u. one-step _ (passing-ok u);
+        };
       }))
       (λ t. let new = new-empty s m tabled (rw t at e) in
-      record { grown = new .grown; left = record { values = steps-values text _ the-steps; plain = λ f. new .chain; passing = λ u. clash u t } })
+      record {
+        grown = new .grown;
+        left = record { values = steps-values text _ the-steps; plain = λ f. new .chain; passing = λ u. clash u t };
+      })
     where
       the-steps : List Step
       the-steps = stepsOf book (nthVariant book j)
 
-      one-step : (C : List Cell) → (M : ℕ) × (the-steps ≡ Step.Nonterminal M ∷ []) → Passing text C (map taking the-steps) 0
+      one-step : (C : List Cell) → (M : ℕ) × (the-steps ≡ Step.Nonterminal M ∷ []) →
+          Passing text C (map taking the-steps) 0
       one-step C h = subst (λ (l : List Step). Passing text C (map taking l) 0) (sym (h .1)) ((h .0, refl), refl)
 
   -- an item is added
-  pub with-cell-onward : (rest : List (Todo ℕ)) (items item : ℕ) (s : State) (m : Made) → Tabled text (s .cells) → Wants book text (s .cells) j rest items →
+  pub with-cell-onward : (rest : List (Todo ℕ)) (items item : ℕ) (s : State) (m : Made) → Tabled text (s .cells) →
+      Wants book text (s .cells) j rest items →
       Item text (s .cells) item → withCell book text j items item s ≡ ok m → Onward rest (s .cells) m
   unfolding withCell
   with-cell-onward rest items item s m tabled h i e =
       by-test (nthVariant book j .passing)
       (λ t. subst (λ (z : Made). Onward rest (s .cells) z) (ok-inj (rw t at e))
-      (record { grown = grown-refl tabled; left = record { values = h .values; plain = λ f. clash t f; passing = λ u. its-value (h .passing u) } }))
+      (record {
+        grown = grown-refl tabled;
+        left = record { values = h .values; plain = λ f. clash t f; passing = λ u. its-value (h .passing u) };
+      }))
       (λ t. let new = new-link s m tabled items item (h .plain t) i (rw t at e) in
       record {
         grown = new .grown;
-        left = record { values = values-still text rest (new .grown .prefix) (h .values); plain = λ f. new .chain; passing = λ u. clash u t };
+        left = record {
+          values = values-still text rest (new .grown .prefix) (h .values);
+          plain = λ f. new .chain;
+          passing = λ u. clash u t;
+        };
       })
     where
       its-value : rest ≡ [] → Passing text (s .cells) rest item
       its-value none-left = subst (λ (l : List (Todo ℕ)). Passing text (s .cells) l item) (sym none-left) i
 
   -- a token adds an item or none. A passing variant has no tokens
-  pub with-token-onward : (rest : List (Todo ℕ)) (items : ℕ) (item : Option Read) (s : State) (m : Made) → Tabled text (s .cells) →
-      Wants book text (s .cells) j rest items → (nthVariant book j .passing ≡ true → ⊥) → AddsFit text item → withToken book text j items item s ≡ ok m →
-      Onward rest (s .cells) m
+  pub with-token-onward : (rest : List (Todo ℕ)) (items : ℕ) (item : Option Read) (s : State) (m : Made) →
+      Tabled text (s .cells) → Wants book text (s .cells) j rest items → (nthVariant book j .passing ≡ true → ⊥) →
+      AddsFit text item → withToken book text j items item s ≡ ok m → Onward rest (s .cells) m
   unfolding withToken
   with-token-onward rest items none s m tabled h not-passing fits e =
       subst (λ (z : Made). Onward rest (s .cells) z) (ok-inj e)
-      (record { grown = grown-refl tabled; left = record { values = h .values; plain = h .plain; passing = λ u. absurd (not-passing u) } })
+      (record {
+        grown = grown-refl tabled;
+        left = record { values = h .values; plain = h .plain; passing = λ u. absurd (not-passing u) };
+      })
   with-token-onward rest items (some item) s m tabled h not-passing fits e =
       after _ _ e (λ a read next. both a (new-read s a tabled item fits read) next)
     where
-      both : (a : Made) → NewItem text (s .cells) a → withCell book text j items (a .cell) (a .state) ≡ ok m → Onward rest (s .cells) m
+      both : (a : Made) → NewItem text (s .cells) a →
+          withCell book text j items (a .cell) (a .state) ≡ ok m → Onward rest (s .cells) m
       both a new next =
-          let o = with-cell-onward rest items (a .cell) (a .state) m (new .grown .tabled) (wants-still rest items (new .grown .prefix) h) (new .item) next in
+          let o =
+          with-cell-onward rest items (a .cell) (a .state) m (new .grown .tabled)
+          (wants-still rest items (new .grown .prefix) h) (new .item) next in
           record { grown = grown-then (new .grown) (o .grown); left = o .left }
 
   -- the variant's value
   new-value : (items : ℕ) (s : State) (m : Made) → Tabled text (s .cells) → Left book text (s .cells) j [] items →
-      when (nthVariant book j .passing) (λ _. ok (made items s)) (λ _. make text (Cell.variant j items) s) ≡ ok m → NewItem text (s .cells) m
+      when (nthVariant book j .passing) (λ _. ok (made items s)) (λ _. make text (Cell.variant j items) s) ≡ ok m →
+      NewItem text (s .cells) m
   new-value items s m tabled h e =
       by-test (nthVariant book j .passing)
-      (λ t. subst (λ (z : Made). NewItem text (s .cells) z) (ok-inj (rw t at e)) (record { grown = grown-refl tabled; item = h .passing t }))
+      (λ t.
+      subst (λ (z : Made). NewItem text (s .cells) z) (ok-inj (rw t at e))
+      (record { grown = grown-refl tabled; item = h .passing t }))
       (λ t. new-variant s m tabled j items (h .plain t) (rw t at e))
 
-  pub complete-gives : {c : Call} (x items : ℕ) (set : List (Parse ℕ)) (s : State) (r : Parsed) → Ready text (s .cells) c set →
+  pub complete-gives : {c : Call} (x items : ℕ) (set : List (Parse ℕ)) (s : State) (r : Parsed) →
+      Ready text (s .cells) c set →
       Left book text (s .cells) j [] items → complete book text j x items set s ≡ ok r → Gives text (s .cells) r
   unfolding complete
   complete-gives x items set s r h l e =
@@ -379,4 +449,7 @@ module _ (book : Book) (text : List ℕ) (j : ℕ) where
       after _ _ next (λ more joined is.
       let new = new-value items s m (h .tabled) l valued in
       gives-ok is
-      (record { grown = new .grown; set = holds-add (m .state) set _ joined (holds-still (new .grown .prefix) (h .set)) (new .item) })))
+      (record {
+        grown = new .grown;
+        set = holds-add (m .state) set _ joined (holds-still (new .grown .prefix) (h .set)) (new .item);
+      })))

@@ -20,10 +20,14 @@ use Rattle.semantics.specs.Tokens.{freeEnd, claimed}
 use Rattle.semantics.specs.Steps.{Item, stepAt, afterElement, closed, Todo, taking, elements, ending}
 use Rattle.semantics.specs.Cells.{Cell, findCell}
 use Rattle.semantics.specs.Errors.{Error}
-use Rattle.semantics.specs.Run.{Result, met, ok, _>>=_, State, Parsed, Call, Runner, Go, Next, has, allIn, newest, add, addAll, spend, make, begin, withCell}
-use Rattle.semantics.specs.Run.{withToken, complete, variants, oneRun, rounds, runCall, named, runIdentifier, plainNext, listNext, stops, nested, enter, enterChild}
-use Rattle.semantics.specs.Run.{followMore, follow, followed, stepUnit, orAbsent, choice, listing, steps, runner, run}
-use Rattle.semantics.specs.Theorem.Results.{met-ok, option-cases, list-cases, governor-cases, after-cases, taken-cases}
+use Rattle.semantics.specs.Run.{Result, met, ok, _>>=_, State, Parsed, Call, Runner, Go, Next, has, allIn, newest}
+use Rattle.semantics.specs.Run.{add, addAll, spend, make, begin, withCell}
+use Rattle.semantics.specs.Run.{withToken, complete, variants, oneRun, rounds, runCall, named, runIdentifier}
+use Rattle.semantics.specs.Run.{plainNext, listNext, stops, nested, enter, enterChild}
+use Rattle.semantics.specs.Run.{followMore, follow, followed, stepUnit, orAbsent, choice, listing, steps, runner}
+use Rattle.semantics.specs.Run.{run}
+use Rattle.semantics.specs.Theorem.Results.{met-ok, option-cases, list-cases, governor-cases, after-cases}
+use Rattle.semantics.specs.Theorem.Results.{taken-cases}
 
 -- no other limit than 20 to 23
 pub record Limited {A : Type 0} (x : Result A) : Type 0 where
@@ -48,7 +52,9 @@ then (ok a) f h k = k a
 
 -- ---- What a part of the run is given to run
 abbrev LimitedRunner : Runner → Type 0
-LimitedRunner f = (c : Call) (j : ℕ) (todo : List (Todo ℕ)) (x items : ℕ) (set : List (Parse ℕ)) (s : State) → Limited (f c j todo x items set s)
+LimitedRunner f =
+    (c : Call) (j : ℕ) (todo : List (Todo ℕ)) (x items : ℕ) (set : List (Parse ℕ)) (s : State) →
+    Limited (f c j todo x items set s)
 
 -- the runner one level further in, if there is one
 abbrev LimitedInner : Option Runner → Type 0
@@ -59,13 +65,15 @@ abbrev LimitedGo : Go → Type 0
 LimitedGo go = (x items : ℕ) (set : List (Parse ℕ)) (s : State) → Limited (go x items set s)
 
 abbrev LimitedNext : Next → Type 0
-LimitedNext next = (q : Parse ℕ) (s : State) (f : Runner) (set : List (Parse ℕ)) → LimitedRunner f → Limited (next q s f set)
+LimitedNext next =
+    (q : Parse ℕ) (s : State) (f : Runner) (set : List (Parse ℕ)) → LimitedRunner f → Limited (next q s f set)
 
 -- ---- Sets, units and cells
 add-limited : (s : State) (set : List (Parse ℕ)) (p : Parse ℕ) → Limited (add s set p)
 unfolding add
 add-limited s set p =
-    by-test (has set p) (λ t. rw t done) (λ t. by-test (ltb (length set) 64) (λ u. rw (t, u) done) (λ u. rw (t, u) (meets 22 (s .units) refl)))
+    by-test (has set p) (λ t. rw t done)
+    (λ t. by-test (ltb (length set) 64) (λ u. rw (t, u) done) (λ u. rw (t, u) (meets 22 (s .units) refl)))
 
 add-all-limited : (s : State) (set ps : List (Parse ℕ)) → Limited (addAll s set ps)
 unfolding addAll
@@ -91,27 +99,32 @@ module _ (book : Book) (text : List ℕ) where
 
   with-cell-limited : (j items item : ℕ) (s : State) → Limited (withCell book text j items item s)
   unfolding withCell
-  with-cell-limited j items item s = by-test (nthVariant book j .passing) (λ t. rw t done) (λ t. rw t (make-limited text (Cell.chain items item) s))
+  with-cell-limited j items item s =
+      by-test (nthVariant book j .passing) (λ t. rw t done) (λ t. rw t (make-limited text (Cell.chain items item) s))
 
   with-token-limited : (j items : ℕ) (item : Option Item) (s : State) → Limited (withToken book text j items item s)
   unfolding withToken
   with-token-limited j items none s = done
-  with-token-limited j items (some item) s = then _ _ (make-limited text _ s) (λ m. with-cell-limited j items (m .cell) (m .state))
+  with-token-limited j items (some item) s =
+      then _ _ (make-limited text _ s) (λ m. with-cell-limited j items (m .cell) (m .state))
 
   complete-limited : (j x items : ℕ) (set : List (Parse ℕ)) (s : State) → Limited (complete book text j x items set s)
   unfolding complete
   complete-limited j x items set s =
-      then _ _ (by-test (nthVariant book j .passing) (λ t. rw t done) (λ t. rw t (make-limited text (Cell.variant j items) s)))
+      then _ _
+      (by-test (nthVariant book j .passing) (λ t. rw t done) (λ t. rw t (make-limited text (Cell.variant j items) s)))
       (λ m. then _ _ (add-limited (m .state) set _) (λ more. done))
 
   -- ---- A call
   module _ (f : Runner) (h : LimitedRunner f) where
-    variants-limited : (c : Call) (m n j : ℕ) (set : List (Parse ℕ)) (e : Option Error) (s : State) → Limited (variants book text f c m n j set e s)
+    variants-limited : (c : Call) (m n j : ℕ) (set : List (Parse ℕ)) (e : Option Error) (s : State) →
+        Limited (variants book text f c m n j set e s)
     unfolding variants
     variants-limited c m zero j set e s = done
     variants-limited c m (suc n) j set e s =
         by-test (leb m (nthVariant book j .level))
-        (λ t. rw t (then _ _ (begin-limited j s) (λ b. then _ _ (h c j _ _ _ set _) (λ r. variants-limited c m n (suc j) (r .set) _ (r .state)))))
+        (λ t. rw t (then _ _ (begin-limited j s) (λ b.
+        then _ _ (h c j _ _ _ set _) (λ r. variants-limited c m n (suc j) (r .set) _ (r .state)))))
         (λ t. rw t (variants-limited c m n (suc j) set e s))
 
     one-run-limited : (c : Call) (m : ℕ) (s : State) → Limited (oneRun book text f c m s)
@@ -133,7 +146,9 @@ module _ (book : Book) (text : List ℕ) where
         then _ _ (one-run-limited c m s) (λ r.
         list-cases (r .set)
         (λ empty. rw empty done)
-        (λ p ps there. by-test (newest (r .state .asked)) (λ t. rw (there, t) (rounds-limited 65 _ m (r .state))) (λ t. rw (there, t) done)))
+        (λ p ps there.
+        by-test (newest (r .state .asked)) (λ t. rw (there, t) (rounds-limited 65 _ m (r .state)))
+        (λ t. rw (there, t) done)))
 
   identifier-limited : (c : Call) (s : State) → Limited (runIdentifier book text c s)
   unfolding runIdentifier named
@@ -145,11 +160,14 @@ module _ (book : Book) (text : List ℕ) where
       (λ end there. rw (t, there) (then _ _ (make-limited text _ s) (λ m. done))))
 
   -- ---- What follows a parse
-  plain-next-limited : (c : Call) (j : ℕ) (rest : List (Todo ℕ)) (items : ℕ) → LimitedNext (plainNext book text c j rest items)
+  plain-next-limited : (c : Call) (j : ℕ) (rest : List (Todo ℕ)) (items : ℕ) →
+      LimitedNext (plainNext book text c j rest items)
   unfolding plainNext
-  plain-next-limited c j rest items q s f set h = then _ _ (with-cell-limited j items (q .value) s) (λ m. h c j rest (q .rest) (m .cell) set (m .state))
+  plain-next-limited c j rest items q s f set h =
+      then _ _ (with-cell-limited j items (q .value) s) (λ m. h c j rest (q .rest) (m .cell) set (m .state))
 
-  list-next-limited : (c : Call) (j : ℕ) (comma : Bool) (M values : ℕ) (close : Option ℕ) (rest : List (Todo ℕ)) (items : ℕ) →
+  list-next-limited :
+      (c : Call) (j : ℕ) (comma : Bool) (M values : ℕ) (close : Option ℕ) (rest : List (Todo ℕ)) (items : ℕ) →
       LimitedNext (listNext book text c j comma M values close rest items)
   unfolding listNext
   list-next-limited c j comma M values close rest items q s f set h =
@@ -158,13 +176,15 @@ module _ (book : Book) (text : List ℕ) where
       (λ y on. rw on (h c j _ y items set (m .state)))
       (λ y ends. rw ends (h c j _ y items set (m .state))))
 
-  stops-limited : (j values : ℕ) (close : Option ℕ) (go : Go) → LimitedGo go → LimitedGo (stops book text j values close go)
+  stops-limited : (j values : ℕ) (close : Option ℕ) (go : Go) → LimitedGo go →
+      LimitedGo (stops book text j values close go)
   unfolding stops
   stops-limited j values close go h x items set s =
       then _ _ (make-limited text _ s) (λ l.
       option-cases (closed text close x)
       (λ unclosed. rw unclosed done)
-      (λ y ends. rw ends (then _ _ (with-cell-limited j items (l .cell) (l .state)) (λ m. h y (m .cell) set (m .state)))))
+      (λ y ends.
+      rw ends (then _ _ (with-cell-limited j items (l .cell) (l .state)) (λ m. h y (m .cell) set (m .state)))))
 
   -- ---- One level of nesting
   nested-limited : (inner : Option Runner) → LimitedInner inner → (s : State) (k : Runner → Result Parsed) →
@@ -174,7 +194,8 @@ module _ (book : Book) (text : List ℕ) where
   nested-limited (some f) i s k h = h f i
 
   module _ (inner : Option Runner) (limited : LimitedInner inner) where
-    enter-limited : (P : Path) (S : List (List (Parse ℕ))) (N u : ℕ) (s : State) → Limited (enter book text inner P S N u s)
+    enter-limited : (P : Path) (S : List (List (Parse ℕ))) (N u : ℕ) (s : State) →
+        Limited (enter book text inner P S N u s)
     unfolding enter
     enter-limited P S N u s₀ =
         then _ _ (spend-limited s₀) (λ s.
@@ -194,23 +215,30 @@ module _ (book : Book) (text : List ℕ) where
     unfolding followMore
     follow-more-limited next h [] set d s = done
     follow-more-limited next h (q ∷ qs) set d s =
-        then _ _ (nested-limited inner limited s _ (λ f g. h q s f set g)) (λ a. follow-more-limited next h qs (a .set) _ (a .state))
+        then _ _ (nested-limited inner limited s _ (λ f g. h q s f set g))
+        (λ a. follow-more-limited next h qs (a .set) _ (a .state))
 
-    follow-limited : (next : Next) → LimitedNext next → (qs set : List (Parse ℕ)) (s : State) → Limited (follow book text inner next qs set s)
+    follow-limited : (next : Next) → LimitedNext next → (qs set : List (Parse ℕ)) (s : State) →
+        Limited (follow book text inner next qs set s)
     unfolding follow
     follow-limited next h [] set s = done
     follow-limited next h (q ∷ qs) set s =
-        then _ _ (nested-limited inner limited s _ (λ f g. h q s f set g)) (λ a. follow-more-limited next h qs (a .set) (a .failure) (a .state))
+        then _ _ (nested-limited inner limited s _ (λ f g. h q s f set g))
+        (λ a. follow-more-limited next h qs (a .set) (a .failure) (a .state))
 
-    followed-limited : (next : Next) → LimitedNext next → (set : List (Parse ℕ)) (r : Parsed) → Limited (followed book text inner next set r)
+    followed-limited : (next : Next) → LimitedNext next → (set : List (Parse ℕ)) (r : Parsed) →
+        Limited (followed book text inner next set r)
     unfolding followed
-    followed-limited next h set r = option-cases (r .failure) (λ found. rw found (follow-limited next h (r .set) set (r .state))) (λ e fails. rw fails done)
+    followed-limited next h set r =
+        option-cases (r .failure) (λ found. rw found (follow-limited next h (r .set) set (r .state)))
+        (λ e fails. rw fails done)
 
     step-unit-limited : (step : Step) (s : State) → Limited (stepUnit book text inner step s)
     unfolding stepUnit
     step-unit-limited step s = by-test (between 10 11 (stepNumber step)) (λ t. rw t done) (λ t. rw t (spend-limited s))
 
-    or-absent-limited : (c : Call) (j M : ℕ) (rest : List (Todo ℕ)) (go : Go) → LimitedGo go → LimitedGo (orAbsent book text inner c j M rest go)
+    or-absent-limited : (c : Call) (j M : ℕ) (rest : List (Todo ℕ)) (go : Go) → LimitedGo go →
+        LimitedGo (orAbsent book text inner c j M rest go)
     unfolding orAbsent
     or-absent-limited c j M rest go h x items set s =
         then _ _ (make-limited text Cell.absent s) (λ absent.
@@ -219,8 +247,9 @@ module _ (book : Book) (text : List ℕ) where
         then _ _ (enter-child-limited c j M x (a .state)) (λ r.
         then _ _ (followed-limited _ (plain-next-limited c j rest items) (a .set) r) (λ b. done)))))
 
-    choice-limited : (c : Call) (j : ℕ) (comma : Bool) (M values : ℕ) (close : Option ℕ) (rest : List (Todo ℕ)) (go : Go) → LimitedGo go →
-        LimitedGo (choice book text inner c j comma M values close rest go)
+    choice-limited :
+        (c : Call) (j : ℕ) (comma : Bool) (M values : ℕ) (close : Option ℕ) (rest : List (Todo ℕ)) (go : Go) →
+        LimitedGo go → LimitedGo (choice book text inner c j comma M values close rest go)
     unfolding choice
     choice-limited c j comma M values close rest go h x items set s₀ =
         then _ _ (spend-limited s₀) (λ s.
@@ -228,29 +257,34 @@ module _ (book : Book) (text : List ℕ) where
         then _ _ (enter-child-limited c j M x (a .state)) (λ r.
         then _ _ (followed-limited _ (list-next-limited c j comma M values close rest items) (a .set) r) (λ b. done))))
 
-    listing-limited : (c : Call) (j : ℕ) (comma : Bool) (M : ℕ) (close : Option ℕ) (rest : List (Todo ℕ)) (go : Go) → LimitedGo go →
-        LimitedGo (listing book text inner c j comma M close rest go)
+    listing-limited : (c : Call) (j : ℕ) (comma : Bool) (M : ℕ) (close : Option ℕ) (rest : List (Todo ℕ)) (go : Go) →
+        LimitedGo go → LimitedGo (listing book text inner c j comma M close rest go)
     unfolding listing
     listing-limited c j comma M close rest go h x items set s =
-        then _ _ (make-limited text Cell.empty s) (λ e. choice-limited c j comma M (e .cell) close rest go h x items set (e .state))
+        then _ _ (make-limited text Cell.empty s)
+        (λ e. choice-limited c j comma M (e .cell) close rest go h x items set (e .state))
 
     steps-limited : LimitedRunner (steps book text inner)
     unfolding steps
     steps-limited c j [] x items set s = complete-limited j x items set s
     steps-limited c j (elements comma M values close ∷ rest) x items set s =
         choice-limited c j comma M values close rest _ (λ y is u t. steps-limited c j rest y is u t) x items set s
-    steps-limited c j (ending values close ∷ rest) x items set s = stops-limited j values close _ (λ y is u t. steps-limited c j rest y is u t) x items set s
+    steps-limited c j (ending values close ∷ rest) x items set s =
+        stops-limited j values close _ (λ y is u t. steps-limited c j rest y is u t) x items set s
     steps-limited c j (taking step ∷ rest) x items set s₀ =
         let go = steps book text inner c j rest in
         let h : LimitedGo go = λ y is u t. steps-limited c j rest y is u t in
         then _ _ (step-unit-limited step s₀) (λ s.
         taken-cases (stepAt book text step x)
         (λ takes. rw takes done)
-        (λ t takes. rw takes (then _ _ (with-token-limited j items (t .item) s) (λ m. h (t .next) (m .cell) set (m .state))))
-        (λ M takes. rw takes (then _ _ (enter-child-limited c j M x s) (λ r. followed-limited _ (plain-next-limited c j rest items) set r)))
+        (λ t takes.
+        rw takes (then _ _ (with-token-limited j items (t .item) s) (λ m. h (t .next) (m .cell) set (m .state))))
+        (λ M takes. rw takes
+        (then _ _ (enter-child-limited c j M x s) (λ r. followed-limited _ (plain-next-limited c j rest items) set r)))
         (λ M takes. rw takes (or-absent-limited c j M rest go h x items set s))
         (λ comma M close y takes. rw takes (listing-limited c j comma M close rest go h y items set s))
-        (λ y takes. rw takes (then _ _ (make-limited text Cell.empty s) (λ e. stops-limited j (e .cell) none go h y items set (e .state)))))
+        (λ y takes. rw takes
+        (then _ _ (make-limited text Cell.empty s) (λ e. stops-limited j (e .cell) none go h y items set (e .state)))))
 
 -- ---- The whole run
 runner-limited : (book : Book) (text : List ℕ) (n : ℕ) → LimitedInner (runner book text n)
@@ -258,8 +292,8 @@ unfolding runner
 runner-limited book text zero = tt
 runner-limited book text (suc n) = steps-limited book text (runner book text n) (runner-limited book text n)
 
-pub run-limits : (book : Book) (text : List ℕ) (allowance start number units : ℕ) → run book text allowance start ≡ met number units →
-    between 20 23 number ≡ true
+pub run-limits : (book : Book) (text : List ℕ) (allowance start number units : ℕ) →
+    run book text allowance start ≡ met number units → between 20 23 number ≡ true
 unfolding run
 run-limits book text allowance start number units e =
     enter-limited book text (runner book text 200) (runner-limited book text 200) [] [] start _ _ .limits number units e

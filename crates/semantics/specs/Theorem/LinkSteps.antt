@@ -10,19 +10,29 @@ use Rattle.characters.specs.Skipping.{skipFrom}
 use Rattle.book.specs.Book.{Book, nthVariant, stepNumber}
 use Rattle.book.specs.declared.records.Step.{Step}
 use Rattle.semantics.specs.Values.{Tree, Trees, no-trees, _▸_, Parse}
-use Rattle.semantics.specs.Steps.{Token, Taken, stepAt, After, goes, halts, afterElement, closed, Todo, taking, elements, ending}
+use Rattle.semantics.specs.Steps.{Token, Taken, stepAt, After, goes, halts, afterElement, closed, Todo, taking}
+use Rattle.semantics.specs.Steps.{elements, ending}
 use Rattle.semantics.specs.Derivations.{valueOf, withItem}
 use Rattle.semantics.specs.Cells.{Cell}
 use Rattle.semantics.specs.Errors.{Error}
-use Rattle.semantics.specs.Run.{ok, _>>=_, State, Parsed, Made, Call, Runner, Go, Next, add, make, withCell, withToken, complete, plainNext, listNext, stops, enterChild, nested, followMore, follow, followed, stepUnit, orAbsent, choice, listing, steps, runner, run}
+use Rattle.semantics.specs.Run.{ok, _>>=_, State, Parsed, Made, Call, Runner, Go, Next, add, make, withCell}
+use Rattle.semantics.specs.Run.{withToken, complete, plainNext, listNext, stops, enterChild, nested, followMore}
+use Rattle.semantics.specs.Run.{follow, followed, stepUnit, orAbsent, choice, listing, steps, runner, run}
 use Rattle.semantics.specs.Theorem.Lists.{Joins}
-use Rattle.semantics.specs.Theorem.BigStep.{around, Follows, plain, listing as listed, Left, inside, onward, resume, Enters, Steps, s-done, s-nothing, s-token, s-child, s-optional, s-list, s-unopened, s-elements, s-unclosed, s-ending, Each, e-none, e-one}
-use Rattle.semantics.specs.Theorem.Results.{ok-inj, some-inj, none-some, after, option-cases, after-cases, taken-cases, nested-run, chosen-same}
+use Rattle.semantics.specs.Theorem.BigStep.{around, Follows, plain, listing as listed, Left, inside, onward}
+use Rattle.semantics.specs.Theorem.BigStep.{resume, Enters, Steps, s-done, s-nothing, s-token, s-child}
+use Rattle.semantics.specs.Theorem.BigStep.{s-optional, s-list, s-unopened, s-elements, s-unclosed, s-ending}
+use Rattle.semantics.specs.Theorem.BigStep.{Each, e-none, e-one}
+use Rattle.semantics.specs.Theorem.Results.{ok-inj, some-inj, none-some, after, option-cases, after-cases}
+use Rattle.semantics.specs.Theorem.Results.{taken-cases, nested-run, chosen-same}
 use Rattle.semantics.specs.Theorem.Sets.{joins-nil, joins-append, joins-two, add-joins, map-joins, tree}
 use Rattle.semantics.specs.Theorem.Failures.{enter-fails}
 use Rattle.semantics.specs.Theorem.Table.{Table}
-use Rattle.semantics.specs.Theorem.Made.{treeFor, treesFor, Before, Way, way-refl, make-way, made-empty, made-chain, made-variant, made-list, made-absent, Stands, with-cell-ok, with-token-ok}
-use Rattle.semantics.specs.Theorem.Link.{trees, todoFor, openFor, Finds as FindsOf, RunOk as RunOkOf, Good as GoodOf, finds-from, spend-way, enter-ok}
+use Rattle.semantics.specs.Theorem.Made.{treeFor, treesFor, Before, Way, way-refl, make-way, made-empty}
+use Rattle.semantics.specs.Theorem.Made.{made-chain, made-variant, made-list, made-absent, Stands, with-cell-ok}
+use Rattle.semantics.specs.Theorem.Made.{with-token-ok}
+use Rattle.semantics.specs.Theorem.Link.{trees, todoFor, openFor, Finds as FindsOf, RunOk as RunOkOf}
+use Rattle.semantics.specs.Theorem.Link.{Good as GoodOf, finds-from, spend-way, enter-ok}
 
 module _ (book : Book) (text : List ℕ) (Cf : List Cell) (table : Table text Cf) where
   abbrev Finds : Call → ℕ → List (Todo ℕ) → ℕ → Trees → List (Parse ℕ) → State → List (Parse ℕ) → State → Type 0
@@ -37,93 +47,127 @@ module _ (book : Book) (text : List ℕ) (Cf : List Cell) (table : Table text Cf
   module _ (inner : Option Runner) (goods : (f : Runner) → inner ≡ some f → Good f) where
     -- ---- What follows a child's parses
     -- what the relation finds behind one parse, and behind several
-    record NextFinds (c : Call) (j : ℕ) (k : Follows) (q : Parse ℕ) (set : List (Parse ℕ)) (s : State) (out : List (Parse ℕ)) (t : State) : Type 0 where
+    record NextFinds (c : Call) (j : ℕ) (k : Follows) (q : Parse ℕ) (set : List (Parse ℕ)) (s : State)
+        (out : List (Parse ℕ)) (t : State) : Type 0 where
       R : List (Parse Tree)
-      run : Steps book text (openFor text Cf c) j (resume book text k (tree (treeFor text Cf) q) .todo) (resume book text k (tree (treeFor text Cf) q) .place)
+      run : Steps book text (openFor text Cf c) j (resume book text k (tree (treeFor text Cf) q) .todo)
+          (resume book text k (tree (treeFor text Cf) q) .place)
           (resume book text k (tree (treeFor text Cf) q) .items) (s .asked) R (t .asked)
       joins : Joins (trees text Cf set) R (trees text Cf out)
 
-    record NextOk (c : Call) (j items : ℕ) (k : Trees → Follows) (q : Parse ℕ) (set : List (Parse ℕ)) (s : State) (out : List (Parse ℕ)) (t : State) : Type 0 where
+    record NextOk (c : Call) (j items : ℕ) (k : Trees → Follows) (q : Parse ℕ) (set : List (Parse ℕ)) (s : State)
+        (out : List (Parse ℕ)) (t : State) : Type 0 where
       back : Before Cf s
       finds : (ts : Trees) → Stands text Cf table book j items ts → NextFinds c j (k ts) q set s out t
 
     abbrev GoodNext : Call → ℕ → ℕ → (Trees → Follows) → Next → Type 0
-    GoodNext c j items k next = (q : Parse ℕ) (s : State) (f : Runner) (set : List (Parse ℕ)) (r : Parsed) → Good f → next q s f set ≡ ok r → Before Cf (r .state) →
-        NextOk c j items k q set s (r .set) (r .state)
+    GoodNext c j items k next =
+        (q : Parse ℕ) (s : State) (f : Runner) (set : List (Parse ℕ)) (r : Parsed) → Good f → next q s f set ≡ ok r →
+        Before Cf (r .state) → NextOk c j items k q set s (r .set) (r .state)
 
-    record EachFinds (c : Call) (j : ℕ) (k : Follows) (qs set : List (Parse ℕ)) (s : State) (out : List (Parse ℕ)) (t : State) : Type 0 where
+    record EachFinds (c : Call) (j : ℕ) (k : Follows) (qs set : List (Parse ℕ)) (s : State) (out : List (Parse ℕ))
+        (t : State) : Type 0 where
       R : List (Parse Tree)
       run : Each book text (openFor text Cf c) j k (trees text Cf qs) (s .asked) R (t .asked)
       joins : Joins (trees text Cf set) R (trees text Cf out)
 
-    record EachOk (c : Call) (j items : ℕ) (k : Trees → Follows) (qs set : List (Parse ℕ)) (s : State) (out : List (Parse ℕ)) (t : State) : Type 0 where
+    record EachOk (c : Call) (j items : ℕ) (k : Trees → Follows) (qs set : List (Parse ℕ)) (s : State)
+        (out : List (Parse ℕ)) (t : State) : Type 0 where
       back : Before Cf s
       finds : (ts : Trees) → Stands text Cf table book j items ts → EachFinds c j (k ts) qs set s out t
 
-    no-parses : (c : Call) (j items : ℕ) (k : Trees → Follows) (set : List (Parse ℕ)) (s : State) → Before Cf s → EachOk c j items k [] set s set s
-    no-parses c j items k set s b = record { back = b; finds = λ ts h. record { R = []; run = e-none; joins = joins-nil } }
+    no-parses : (c : Call) (j items : ℕ) (k : Trees → Follows) (set : List (Parse ℕ)) (s : State) → Before Cf s →
+        EachOk c j items k [] set s set s
+    no-parses c j items k set s b =
+        record { back = b; finds = λ ts h. record { R = []; run = e-none; joins = joins-nil } }
 
-    one-then : (c : Call) (j items : ℕ) (k : Trees → Follows) (q : Parse ℕ) (qs set mid out : List (Parse ℕ)) (s t u : State) →
+    one-then :
+        (c : Call) (j items : ℕ) (k : Trees → Follows) (q : Parse ℕ) (qs set mid out : List (Parse ℕ)) (s t u : State) →
         NextOk c j items k q set s mid t →
         EachOk c j items k qs mid t out u → EachOk c j items k (q ∷ qs) set s out u
-    one-then c j items k q qs set mid out s t u a b = record { back = a .back; finds = λ ts h. both (a .finds ts h) (b .finds ts h) }
+    one-then c j items k q qs set mid out s t u a b =
+        record { back = a .back; finds = λ ts h. both (a .finds ts h) (b .finds ts h) }
       where
-        both : {l : Follows} → NextFinds c j l q set s mid t → EachFinds c j l qs mid t out u → EachFinds c j l (q ∷ qs) set s out u
-        both f g = record { R = f .R ++ g .R; run = e-one (f .run) (g .run) (joins-append (f .R) (g .R)); joins = joins-two (f .joins) (g .joins) }
+        both : {l : Follows} → NextFinds c j l q set s mid t → EachFinds c j l qs mid t out u →
+            EachFinds c j l (q ∷ qs) set s out u
+        both f g = record {
+          R = f .R ++ g .R;
+          run = e-one (f .run) (g .run) (joins-append (f .R) (g .R));
+          joins = joins-two (f .joins) (g .joins);
+        }
 
     first-ok : (c : Call) (j items : ℕ) (k : Trees → Follows) (next : Next) → GoodNext c j items k next →
         (q : Parse ℕ) (qs set : List (Parse ℕ)) (s : State) (a r : Parsed) →
-        nested book text inner s (λ f. next q s f set) ≡ ok a → EachOk c j items k qs (a .set) (a .state) (r .set) (r .state) →
+        nested book text inner s (λ f. next q s f set) ≡ ok a →
+        EachOk c j items k qs (a .set) (a .state) (r .set) (r .state) →
         EachOk c j items k (q ∷ qs) set s (r .set) (r .state)
     first-ok c j items k next good q qs set s a r ran w =
         nested-run book text inner s _ ran (λ f there first-ran.
-        one-then c j items k q qs set (a .set) (r .set) s (a .state) (r .state) (good q s f set a (goods f there) first-ran (w .back)) w)
+        one-then c j items k q qs set (a .set) (r .set) s (a .state) (r .state)
+        (good q s f set a (goods f there) first-ran (w .back)) w)
 
     follow-more-ok : (c : Call) (j items : ℕ) (k : Trees → Follows) (next : Next) → GoodNext c j items k next →
         (qs set : List (Parse ℕ)) (d : Option Error) (s : State) (r : Parsed) →
-        followMore book text inner next qs set d s ≡ ok r → Before Cf (r .state) → EachOk c j items k qs set s (r .set) (r .state)
+        followMore book text inner next qs set d s ≡ ok r → Before Cf (r .state) →
+        EachOk c j items k qs set s (r .set) (r .state)
     unfolding followMore
     follow-more-ok c j items k next good [] set d s r e b =
-        subst (λ (z : Parsed). Before Cf (z .state) → EachOk c j items k [] set s (z .set) (z .state)) (ok-inj e) (no-parses c j items k set s) b
+        subst (λ (z : Parsed). Before Cf (z .state) → EachOk c j items k [] set s (z .set) (z .state)) (ok-inj e)
+        (no-parses c j items k set s) b
     follow-more-ok c j items k next good (q ∷ qs) set d s r e b =
-        after _ _ e (λ a ran others. first-ok c j items k next good q qs set s a r ran (follow-more-ok c j items k next good qs (a .set) _ (a .state) r others b))
+        after _ _ e (λ a ran others. first-ok c j items k next good q qs set s a r ran
+        (follow-more-ok c j items k next good qs (a .set) _ (a .state) r others b))
 
     follow-ok : (c : Call) (j items : ℕ) (k : Trees → Follows) (next : Next) → GoodNext c j items k next →
         (qs set : List (Parse ℕ)) (s : State) (r : Parsed) →
-        follow book text inner next qs set s ≡ ok r → Before Cf (r .state) → EachOk c j items k qs set s (r .set) (r .state)
+        follow book text inner next qs set s ≡ ok r → Before Cf (r .state) →
+        EachOk c j items k qs set s (r .set) (r .state)
     unfolding follow
     follow-ok c j items k next good [] set s r e b =
-        subst (λ (z : Parsed). Before Cf (z .state) → EachOk c j items k [] set s (z .set) (z .state)) (ok-inj e) (no-parses c j items k set s) b
+        subst (λ (z : Parsed). Before Cf (z .state) → EachOk c j items k [] set s (z .set) (z .state)) (ok-inj e)
+        (no-parses c j items k set s) b
     follow-ok c j items k next good (q ∷ qs) set s r e b =
-        after _ _ e (λ a ran others. first-ok c j items k next good q qs set s a r ran (follow-more-ok c j items k next good qs (a .set) (a .failure) (a .state) r others b))
+        after _ _ e (λ a ran others. first-ok c j items k next good q qs set s a r ran
+        (follow-more-ok c j items k next good qs (a .set) (a .failure) (a .state) r others b))
 
     -- a child's call and what follows its parses
-    record TailOk (c : Call) (j M x items : ℕ) (k : Trees → Follows) (set : List (Parse ℕ)) (s : State) (out : List (Parse ℕ)) (t : State) : Type 0 where
+    record TailOk (c : Call) (j M x items : ℕ) (k : Trees → Follows) (set : List (Parse ℕ)) (s : State)
+        (out : List (Parse ℕ)) (t : State) : Type 0 where
       back : Before Cf s
       found : List (Parse ℕ)
       mid : State
-      called : Enters book text (inside book text (openFor text Cf c) j (skipFrom text x)) (around (openFor text Cf c)) (s .asked) M (skipFrom text x) (trees text Cf found) (mid .asked)
+      called : Enters book text (inside book text (openFor text Cf c) j (skipFrom text x)) (around (openFor text Cf c))
+          (s .asked) M (skipFrom text x) (trees text Cf found) (mid .asked)
       finds : (ts : Trees) → Stands text Cf table book j items ts → EachFinds c j (k ts) found set mid out t
 
-    followed-ok : (c : Call) (j items : ℕ) (k : Trees → Follows) (next : Next) → GoodNext c j items k next → (set : List (Parse ℕ)) (a r : Parsed) →
-        ((e : Error) → a .failure ≡ some e → a .set ≡ []) → followed book text inner next set a ≡ ok r → Before Cf (r .state) →
+    followed-ok : (c : Call) (j items : ℕ) (k : Trees → Follows) (next : Next) → GoodNext c j items k next →
+        (set : List (Parse ℕ)) (a r : Parsed) → ((e : Error) → a .failure ≡ some e → a .set ≡ []) →
+        followed book text inner next set a ≡ ok r → Before Cf (r .state) →
         EachOk c j items k (a .set) set (a .state) (r .set) (r .state)
     unfolding followed
     followed-ok c j items k next good set a r fails e b =
         option-cases (a .failure)
         (λ fine. follow-ok c j items k next good (a .set) set (a .state) r (rw fine at e) b)
-        (λ d failed. subst (λ (z : Parsed). Before Cf (z .state) → EachOk c j items k (a .set) set (a .state) (z .set) (z .state)) (ok-inj (rw failed at e))
-        (λ b′. subst (λ l. EachOk c j items k l set (a .state) set (a .state)) (sym (fails d failed)) (no-parses c j items k set (a .state) b′)) b)
+        (λ d failed.
+        subst (λ (z : Parsed). Before Cf (z .state) → EachOk c j items k (a .set) set (a .state) (z .set) (z .state))
+        (ok-inj (rw failed at e))
+        (λ b′. subst (λ l. EachOk c j items k l set (a .state) set (a .state)) (sym (fails d failed))
+        (no-parses c j items k set (a .state) b′)) b)
 
     tail-ok : (c : Call) (j M x items : ℕ) (k : Trees → Follows) (next : Next) → GoodNext c j items k next →
         (set : List (Parse ℕ)) (s : State) (a r : Parsed) →
-        enterChild book text inner c j M x s ≡ ok a → followed book text inner next set a ≡ ok r → Before Cf (r .state) →
-        TailOk c j M x items k set s (r .set) (r .state)
+        enterChild book text inner c j M x s ≡ ok a → followed book text inner next set a ≡ ok r →
+        Before Cf (r .state) → TailOk c j M x items k set s (r .set) (r .state)
     unfolding enterChild
-    tail-ok c j M x items k next good set s a r e₁ e₂ b = with-rest (followed-ok c j items k next good set a r (enter-fails book text inner _ _ M (skipFrom text x) s a e₁ .fails) e₂ b)
+    tail-ok c j M x items k next good set s a r e₁ e₂ b =
+        with-rest (followed-ok c j items k next good set a r
+        (enter-fails book text inner _ _ M (skipFrom text x) s a e₁ .fails) e₂ b)
       where
-        with-rest : EachOk c j items k (a .set) set (a .state) (r .set) (r .state) → TailOk c j M x items k set s (r .set) (r .state)
-        with-rest w = let o = enter-ok book text Cf table inner goods _ _ M (skipFrom text x) s a e₁ (w .back) in record { back = o .back; found = a .set; mid = a .state; called = o .run; finds = w .finds }
+        with-rest : EachOk c j items k (a .set) set (a .state) (r .set) (r .state) →
+            TailOk c j M x items k set s (r .set) (r .state)
+        with-rest w =
+            let o = enter-ok book text Cf table inner goods _ _ M (skipFrom text x) s a e₁ (w .back) in
+            record { back = o .back; found = a .set; mid = a .state; called = o .run; finds = w .finds }
 
     -- the item is added, and the steps go on
     plain-next-ok : (c : Call) (j : ℕ) (rest : List (Todo ℕ)) (items : ℕ) →
@@ -132,76 +176,104 @@ module _ (book : Book) (text : List ℕ) (Cf : List Cell) (table : Table text Cf
     plain-next-ok c j rest items q s f set r good e b =
         after _ _ e (λ m made ran. added m made (good c j rest (q .rest) (m .cell) set (m .state) r ran b))
       where
-        added : (m : Made) → withCell book text j items (q .value) s ≡ ok m → RunOk c j rest (q .rest) (m .cell) set (m .state) (r .set) (r .state) →
+        added : (m : Made) → withCell book text j items (q .value) s ≡ ok m →
+            RunOk c j rest (q .rest) (m .cell) set (m .state) (r .set) (r .state) →
             NextOk c j items (plain (map (todoFor text Cf) rest)) q set s (r .set) (r .state)
         added m made w =
-            let v = with-cell-ok text Cf table book j items (q .value) (treeFor text Cf (q .value)) s m made (w .back) refl in
+            let v =
+            with-cell-ok text Cf table book j items (q .value) (treeFor text Cf (q .value)) s m made (w .back) refl in
             record {
               back = v .way .back;
-              finds = λ ts h. let g = finds-from book text Cf table (v .way) (w .finds (ts ▸ treeFor text Cf (q .value)) (v .stands ts h)) in record { R = g .R; run = g .run; joins = g .joins };
+              finds = λ ts h. let g = finds-from book text Cf table (v .way) (w .finds (ts ▸ treeFor text Cf (q .value))
+                  (v .stands ts h)) in record { R = g .R; run = g .run; joins = g .joins };
             }
 
     -- the element is added, and the list goes on or ends
-    module _ (c : Call) (j : ℕ) (comma : Bool) (M values : ℕ) (close : Option ℕ) (rest : List (Todo ℕ)) (items : ℕ) (q : Parse ℕ) where
+    module _ (c : Call) (j : ℕ) (comma : Bool) (M values : ℕ) (close : Option ℕ) (rest : List (Todo ℕ))
+        (items : ℕ) (q : Parse ℕ) where
       abbrev list-follows : Trees → Follows
       list-follows ts = listed comma M (treesFor text Cf values) close (map (todoFor text Cf) rest) ts
 
       abbrev behind : Trees → After → Left
-      behind ts a = onward book text a (treeFor text Cf (q .value)) comma M (treesFor text Cf values) close (map (todoFor text Cf) rest) ts
+      behind ts a =
+          onward book text a (treeFor text Cf (q .value)) comma M (treesFor text Cf values) close
+          (map (todoFor text Cf) rest) ts
 
       -- what is left behind it is the same in the relation
       element-ok : (set : List (Parse ℕ)) (s : State) (m : Made) (r : Parsed) (todo : Todo ℕ) (a : After) (y : ℕ) →
           make text (Cell.chain values (q .value)) s ≡ ok m →
-          afterElement text comma (q .rest) ≡ a → ((ts : Trees) → treesFor text Cf (m .cell) ≡ treesFor text Cf values ▸ treeFor text Cf (q .value) →
+          afterElement text comma (q .rest) ≡ a →
+          ((ts : Trees) → treesFor text Cf (m .cell) ≡ treesFor text Cf values ▸ treeFor text Cf (q .value) →
           behind ts a ≡ record { todo = map (todoFor text Cf) (todo ∷ rest); place = y; items = ts }) →
-          RunOk c j (todo ∷ rest) y items set (m .state) (r .set) (r .state) → NextOk c j items list-follows q set s (r .set) (r .state)
+          RunOk c j (todo ∷ rest) y items set (m .state) (r .set) (r .state) →
+          NextOk c j items list-follows q set s (r .set) (r .state)
       element-ok set s m r todo a y made there same w =
           let v = make-way text Cf table s m (Cell.chain values (q .value)) made (w .back) in
           let chain = made-chain text Cf table s m values (q .value) made (w .back) in
-          record { back = v .back; finds = λ ts h. left-so (finds-from book text Cf table v (w .finds ts h)) (same ts chain) }
+          record {
+            back = v .back;
+            finds = λ ts h. left-so (finds-from book text Cf table v (w .finds ts h)) (same ts chain);
+          }
         where
           left-so : {ts : Trees} → Finds c j (todo ∷ rest) y ts set s (r .set) (r .state) →
-              behind ts a ≡ record { todo = map (todoFor text Cf) (todo ∷ rest); place = y; items = ts } → NextFinds c j (list-follows ts) q set s (r .set) (r .state)
+              behind ts a ≡ record { todo = map (todoFor text Cf) (todo ∷ rest); place = y; items = ts } →
+              NextFinds c j (list-follows ts) q set s (r .set) (r .state)
           left-so {ts} g is = record {
             R = g .R;
-            run = subst (λ (l : Left). Steps book text (openFor text Cf c) j (l .todo) (l .place) (l .items) (s .asked) (g .R) (r .state .asked)) (sym (ap (behind ts) there ∙ is)) (g .run);
+            run = subst (λ (l : Left). Steps book text (openFor text Cf c) j (l .todo) (l .place) (l .items) (s .asked)
+                (g .R) (r .state .asked)) (sym (ap (behind ts) there ∙ is)) (g .run);
             joins = g .joins;
           }
 
-    list-next-ok : (c : Call) (j : ℕ) (comma : Bool) (M values : ℕ) (close : Option ℕ) (rest : List (Todo ℕ)) (items : ℕ) →
-        GoodNext c j items (λ ts. listed comma M (treesFor text Cf values) close (map (todoFor text Cf) rest) ts) (listNext book text c j comma M values close rest items)
+    list-next-ok :
+        (c : Call) (j : ℕ) (comma : Bool) (M values : ℕ) (close : Option ℕ) (rest : List (Todo ℕ)) (items : ℕ) →
+        GoodNext c j items (λ ts. listed comma M (treesFor text Cf values) close (map (todoFor text Cf) rest) ts)
+        (listNext book text c j comma M values close rest items)
     unfolding listNext
     list-next-ok c j comma M values close rest items q s f set r good e b =
         after _ _ e (λ m made ran.
         after-cases (afterElement text comma (q .rest))
-        (λ y there. element-ok c j comma M values close rest items q set s m r (elements comma M (m .cell) close) (goes y) y made there
-        (λ ts chain. ap (λ l. record { todo = elements comma M l close ∷ map (todoFor text Cf) rest; place = y; items = ts }) (sym chain))
+        (λ y there.
+        element-ok c j comma M values close rest items q set s m r
+        (elements comma M (m .cell) close) (goes y) y made there
+        (λ ts chain. ap (λ l.
+        record { todo = elements comma M l close ∷ map (todoFor text Cf) rest; place = y; items = ts }) (sym chain))
         (good c j (elements comma M (m .cell) close ∷ rest) y items set (m .state) r (rw there at ran) b))
-        (λ y there. element-ok c j comma M values close rest items q set s m r (ending (m .cell) close) (halts y) y made there
-        (λ ts chain. ap (λ l. record { todo = ending l close ∷ map (todoFor text Cf) rest; place = y; items = ts }) (sym chain))
-        (good c j (ending (m .cell) close ∷ rest) y items set (m .state) r (rw there at ran) b)))
+        (λ y there.
+        element-ok c j comma M values close rest items q set s m r (ending (m .cell) close) (halts y) y made there
+        (λ ts chain. ap (λ l. record { todo = ending l close ∷ map (todoFor text Cf) rest; place = y; items = ts })
+        (sym chain)) (good c j (ending (m .cell) close ∷ rest) y items set (m .state) r (rw there at ran) b)))
 
     -- ---- Lists and optional children
     -- a run of what is left, on this level
     abbrev GoodGo : Call → ℕ → List (Todo ℕ) → Go → Type 0
-    GoodGo c j rest go = (x items : ℕ) (set : List (Parse ℕ)) (s : State) (r : Parsed) → go x items set s ≡ ok r → Before Cf (r .state) → RunOk c j rest x items set s (r .set) (r .state)
+    GoodGo c j rest go =
+        (x items : ℕ) (set : List (Parse ℕ)) (s : State) (r : Parsed) → go x items set s ≡ ok r → Before Cf (r .state) →
+        RunOk c j rest x items set s (r .set) (r .state)
 
-    record ItemOk (c : Call) (j : ℕ) (rest : List (Todo ℕ)) (x items : ℕ) (t : Tree) (set : List (Parse ℕ)) (s : State) (out : List (Parse ℕ)) (u : State) : Type 0 where
+    record ItemOk (c : Call) (j : ℕ) (rest : List (Todo ℕ)) (x items : ℕ) (t : Tree) (set : List (Parse ℕ)) (s : State)
+        (out : List (Parse ℕ)) (u : State) : Type 0 where
       back : Before Cf s
       finds : (ts : Trees) → Stands text Cf table book j items ts → Finds c j rest x (ts ▸ t) set s out u
 
     -- an item is added, and what is left goes on: the first side of a choice
     with-item-ok : (c : Call) (j : ℕ) (rest : List (Todo ℕ)) (go : Go) → GoodGo c j rest go →
         (x items item : ℕ) (t : Tree) (set : List (Parse ℕ)) (s : State) (m : Made) (r : Parsed) →
-        withCell book text j items item s ≡ ok m → go x (m .cell) set (m .state) ≡ ok r → Before Cf (r .state) → (Before Cf s → treeFor text Cf item ≡ t) →
-        ItemOk c j rest x items t set s (r .set) (r .state)
-    with-item-ok c j rest go good x items item t set s m r made ran b means = added (good x (m .cell) set (m .state) r ran b)
+        withCell book text j items item s ≡ ok m → go x (m .cell) set (m .state) ≡ ok r → Before Cf (r .state) →
+        (Before Cf s → treeFor text Cf item ≡ t) → ItemOk c j rest x items t set s (r .set) (r .state)
+    with-item-ok c j rest go good x items item t set s m r made ran b means =
+        added (good x (m .cell) set (m .state) r ran b)
       where
-        added : RunOk c j rest x (m .cell) set (m .state) (r .set) (r .state) → ItemOk c j rest x items t set s (r .set) (r .state)
+        added : RunOk c j rest x (m .cell) set (m .state) (r .set) (r .state) →
+            ItemOk c j rest x items t set s (r .set) (r .state)
         added w =
-            let back = with-cell-ok text Cf table book j items item (treeFor text Cf item) s m made (w .back) refl .way .back in
+            let back =
+            with-cell-ok text Cf table book j items item (treeFor text Cf item) s m made (w .back) refl .way .back in
             let v = with-cell-ok text Cf table book j items item t s m made (w .back) (means back) in
-            record { back = back; finds = λ ts h. finds-from book text Cf table (v .way) (w .finds (ts ▸ t) (v .stands ts h)) }
+            record {
+              back = back;
+              finds = λ ts h. finds-from book text Cf table (v .way) (w .finds (ts ▸ t) (v .stands ts h));
+            }
 
     stops-ok : (c : Call) (j values : ℕ) (close : Option ℕ) (rest : List (Todo ℕ)) (go : Go) → GoodGo c j rest go →
         (x items : ℕ) (set : List (Parse ℕ)) (s : State) (r : Parsed) →
@@ -211,31 +283,47 @@ module _ (book : Book) (text : List ℕ) (Cf : List Cell) (table : Table text Cf
     stops-ok c j values close rest go good x items set s r e b =
         after _ _ e (λ l made ran.
         option-cases (closed text close x)
-        (λ unclosed. subst (λ (z : Parsed). Before Cf (z .state) → RunOk c j (ending values close ∷ rest) x items set s (z .set) (z .state)) (ok-inj (rw unclosed at ran))
+        (λ unclosed. subst (λ (z : Parsed). Before Cf (z .state) →
+        RunOk c j (ending values close ∷ rest) x items set s (z .set) (z .state)) (ok-inj (rw unclosed at ran))
         (λ b′. let v = make-way text Cf table s l (Cell.list values) made b′ in
-        record { back = v .back; finds = λ ts h. finds-from book text Cf table v (record { R = []; run = s-unclosed unclosed; joins = joins-nil }) }) b)
+        record {
+          back = v .back;
+          finds =
+              λ ts h. finds-from book text Cf table v (record { R = []; run = s-unclosed unclosed; joins = joins-nil });
+        }) b)
         (λ y there. after _ _ (rw there at ran) (λ m with-it went.
-        let w = with-item-ok c j rest go good y items (l .cell) (Tree.list (treesFor text Cf values)) set (l .state) m r with-it went b
+        let w =
+        with-item-ok c j rest go good y items (l .cell) (Tree.list (treesFor text Cf values)) set
+        (l .state) m r with-it went b
         (λ b′. made-list text Cf table s l values made b′) in
         let v = make-way text Cf table s l (Cell.list values) made (w .back) in
-        record { back = v .back; finds = λ ts h. let g = finds-from book text Cf table v (w .finds ts h) in record { R = g .R; run = s-ending there (g .run); joins = g .joins } })))
+        record {
+          back = v .back;
+          finds =
+              λ ts h. let g = finds-from book text Cf table v (w .finds ts h) in
+              record { R = g .R; run = s-ending there (g .run); joins = g .joins };
+        })))
 
     -- both sides of a choice: what the first finds, then a child and what follows it
-    record BothFind (c : Call) (j M x : ℕ) (k : Follows) (first : List Bool → List (Parse Tree) → List Bool → Type 0) (set : List (Parse ℕ)) (s : State) (out : List (Parse ℕ)) (u : State) : Type 0 where
+    record BothFind (c : Call) (j M x : ℕ) (k : Follows) (first : List Bool → List (Parse Tree) → List Bool → Type 0)
+        (set : List (Parse ℕ)) (s : State) (out : List (Parse ℕ)) (u : State) : Type 0 where
       B₁ : List Bool
       B₂ : List Bool
       Q : List (Parse Tree)
       R₁ : List (Parse Tree)
       R₂ : List (Parse Tree)
       one : first (s .asked) R₁ B₁
-      called : Enters book text (inside book text (openFor text Cf c) j (skipFrom text x)) (around (openFor text Cf c)) B₁ M (skipFrom text x) Q B₂
+      called : Enters book text (inside book text (openFor text Cf c) j (skipFrom text x)) (around (openFor text Cf c))
+          B₁ M (skipFrom text x) Q B₂
       each : Each book text (openFor text Cf c) j k Q B₂ R₂ (u .asked)
       joins : Joins (trees text Cf set) (R₁ ++ R₂) (trees text Cf out)
 
-    both : {c : Call} {j M x : ℕ} {k : Follows} {todo : List (Todo ℕ)} {y : ℕ} {ts : Trees} {set mid : List (Parse ℕ)} {s t : State} {found : List (Parse ℕ)} {v : State} {out : List (Parse ℕ)} {u : State} →
+    both : {c : Call} {j M x : ℕ} {k : Follows} {todo : List (Todo ℕ)} {y : ℕ} {ts : Trees} {set mid : List (Parse ℕ)}
+        {s t : State} {found : List (Parse ℕ)} {v : State} {out : List (Parse ℕ)} {u : State} →
         Finds c j todo y ts set s mid t →
-        Enters book text (inside book text (openFor text Cf c) j (skipFrom text x)) (around (openFor text Cf c)) (t .asked) M (skipFrom text x) (trees text Cf found) (v .asked) →
-        EachFinds c j k found mid v out u → BothFind c j M x k (Steps book text (openFor text Cf c) j (map (todoFor text Cf) todo) y ts) set s out u
+        Enters book text (inside book text (openFor text Cf c) j (skipFrom text x)) (around (openFor text Cf c))
+        (t .asked) M (skipFrom text x) (trees text Cf found) (v .asked) → EachFinds c j k found mid v out u →
+        BothFind c j M x k (Steps book text (openFor text Cf c) j (map (todoFor text Cf) todo) y ts) set s out u
     both {t = t} {found = found} {v = v} f called g = record {
       B₁ = t .asked;
       B₂ = v .asked;
@@ -248,47 +336,75 @@ module _ (book : Book) (text : List ℕ) (Cf : List Cell) (table : Table text Cf
       joins = joins-two (f .joins) (g .joins);
     }
 
-    choice-ok : (c : Call) (j : ℕ) (comma : Bool) (M values : ℕ) (close : Option ℕ) (rest : List (Todo ℕ)) (go : Go) → GoodGo c j rest go →
-        (x items : ℕ) (set : List (Parse ℕ))
-        (s : State) (r : Parsed) → choice book text inner c j comma M values close rest go x items set s ≡ ok r → Before Cf (r .state) →
-        RunOk c j (elements comma M values close ∷ rest) x items set s (r .set) (r .state)
+    choice-ok : (c : Call) (j : ℕ) (comma : Bool) (M values : ℕ) (close : Option ℕ) (rest : List (Todo ℕ)) (go : Go) →
+        GoodGo c j rest go → (x items : ℕ) (set : List (Parse ℕ))
+        (s : State) (r : Parsed) → choice book text inner c j comma M values close rest go x items set s ≡ ok r →
+        Before Cf (r .state) → RunOk c j (elements comma M values close ∷ rest) x items set s (r .set) (r .state)
     unfolding choice
     choice-ok c j comma M values close rest go good x items set s₀ r e b =
-        after _ _ e (λ s spent e₁. after _ _ e₁ (λ a stopped e₂. after _ _ e₂ (λ d entered e₃. after _ _ e₃ (λ l went is.
-        subst (λ (z : Parsed). Before Cf (z .state) → RunOk c j (elements comma M values close ∷ rest) x items set s₀ (z .set) (z .state)) (ok-inj is)
-        (chosen-same c (skipFrom text x) (a .failure) l (λ out t. Before Cf t → RunOk c j (elements comma M values close ∷ rest) x items set s₀ out t)
-        (λ b′. let t = tail-ok c j M x items _ _ (list-next-ok c j comma M values close rest items) (a .set) (a .state) d l entered went b′ in
+        after _ _ e
+        (λ s spent e₁. after _ _ e₁ (λ a stopped e₂. after _ _ e₂ (λ d entered e₃. after _ _ e₃ (λ l went is.
+        subst (λ (z : Parsed). Before Cf (z .state) →
+        RunOk c j (elements comma M values close ∷ rest) x items set s₀ (z .set) (z .state)) (ok-inj is)
+        (chosen-same c (skipFrom text x) (a .failure) l
+        (λ out t. Before Cf t → RunOk c j (elements comma M values close ∷ rest) x items set s₀ out t)
+        (λ b′. let t = tail-ok c j M x items _ _ (list-next-ok c j comma M values close rest items) (a .set)
+        (a .state) d l entered went b′ in
         let w = stops-ok c j values close rest go good x items set s a stopped (t .back) in
         let v = spend-way book text Cf table s₀ s spent (w .back) in
-        record { back = v .back; finds = λ ts h. finds-from book text Cf table v (more-or-stop (both (w .finds ts h) (t .called) (t .finds ts h))) })) b))))
+        record {
+          back = v .back;
+          finds =
+              λ ts h. finds-from book text Cf table v (more-or-stop (both (w .finds ts h) (t .called) (t .finds ts h)));
+        })) b))))
       where
         more-or-stop : {ts : Trees} {s : State} {out : List (Parse ℕ)} {u : State} →
             BothFind c j M x (listed comma M (treesFor text Cf values) close (map (todoFor text Cf) rest) ts)
-            (Steps book text (openFor text Cf c) j (ending (treesFor text Cf values) close ∷ map (todoFor text Cf) rest) x ts) set s out u →
-            Finds c j (elements comma M values close ∷ rest) x ts set s out u
-        more-or-stop z = record { R = z .R₁ ++ z .R₂; run = s-elements (z .one) (z .called) (z .each) (joins-append (z .R₁) (z .R₂)); joins = z .joins }
+            (Steps book text (openFor text Cf c) j (ending (treesFor text Cf values) close ∷ map (todoFor text Cf) rest)
+            x ts) set s out u → Finds c j (elements comma M values close ∷ rest) x ts set s out u
+        more-or-stop z = record {
+          R = z .R₁ ++ z .R₂;
+          run = s-elements (z .one) (z .called) (z .each) (joins-append (z .R₁) (z .R₂));
+          joins = z .joins;
+        }
 
     or-absent-ok : (c : Call) (j M : ℕ) (step : Step) (rest : List (Todo ℕ)) (go : Go) → GoodGo c j rest go →
         (x items : ℕ) (set : List (Parse ℕ)) (s : State) (r : Parsed) →
-        stepAt book text step x ≡ Taken.optional M → orAbsent book text inner c j M rest go x items set s ≡ ok r → Before Cf (r .state) →
-        RunOk c j (taking step ∷ rest) x items set s (r .set) (r .state)
+        stepAt book text step x ≡ Taken.optional M → orAbsent book text inner c j M rest go x items set s ≡ ok r →
+        Before Cf (r .state) → RunOk c j (taking step ∷ rest) x items set s (r .set) (r .state)
     unfolding orAbsent
     or-absent-ok c j M step rest go good x items set s r takes e b =
-        after _ _ e (λ absent made e₁. after _ _ e₁ (λ m with-it e₂. after _ _ e₂ (λ a went-first e₃. after _ _ e₃ (λ d entered e₄. after _ _ e₄ (λ l went is.
-        subst (λ (z : Parsed). Before Cf (z .state) → RunOk c j (taking step ∷ rest) x items set s (z .set) (z .state)) (ok-inj is)
-        (chosen-same c (skipFrom text x) (a .failure) l (λ out t. Before Cf t → RunOk c j (taking step ∷ rest) x items set s out t)
-        (λ b′. let t = tail-ok c j M x items _ _ (plain-next-ok c j rest items) (a .set) (a .state) d l entered went b′ in
-        let w = with-item-ok c j rest go good x items (absent .cell) Tree.absent set (absent .state) m a with-it went-first (t .back) (λ b″. made-absent text Cf table s absent made b″) in
+        after _ _ e (λ absent made e₁. after _ _ e₁ (λ m with-it e₂.
+        after _ _ e₂ (λ a went-first e₃. after _ _ e₃ (λ d entered e₄. after _ _ e₄ (λ l went is.
+        subst (λ (z : Parsed). Before Cf (z .state) → RunOk c j (taking step ∷ rest) x items set s (z .set) (z .state))
+        (ok-inj is)
+        (chosen-same c (skipFrom text x) (a .failure) l
+        (λ out t. Before Cf t → RunOk c j (taking step ∷ rest) x items set s out t)
+        (λ b′.
+        let t = tail-ok c j M x items _ _ (plain-next-ok c j rest items) (a .set) (a .state) d l entered went b′ in
+        let w =
+        with-item-ok c j rest go good x items (absent .cell) Tree.absent set (absent .state) m a with-it went-first
+        (t .back) (λ b″. made-absent text Cf table s absent made b″) in
         let v = make-way text Cf table s absent Cell.absent made (w .back) in
-        record { back = v .back; finds = λ ts h. finds-from book text Cf table v (one-or-absent (both (w .finds ts h) (t .called) (t .finds ts h))) })) b)))))
+        record {
+          back = v .back;
+          finds = λ ts h.
+              finds-from book text Cf table v (one-or-absent (both (w .finds ts h) (t .called) (t .finds ts h)));
+        })) b)))))
       where
         one-or-absent : {ts : Trees} {t : State} {out : List (Parse ℕ)} {u : State} →
-            BothFind c j M x (plain (map (todoFor text Cf) rest) ts) (Steps book text (openFor text Cf c) j (map (todoFor text Cf) rest) x (ts ▸ Tree.absent)) set t out u →
+            BothFind c j M x (plain (map (todoFor text Cf) rest) ts)
+            (Steps book text (openFor text Cf c) j (map (todoFor text Cf) rest) x (ts ▸ Tree.absent)) set t out u →
             Finds c j (taking step ∷ rest) x ts set t out u
-        one-or-absent z = record { R = z .R₁ ++ z .R₂; run = s-optional takes (z .one) (z .called) (z .each) (joins-append (z .R₁) (z .R₂)); joins = z .joins }
+        one-or-absent z = record {
+          R = z .R₁ ++ z .R₂;
+          run = s-optional takes (z .one) (z .called) (z .each) (joins-append (z .R₁) (z .R₂));
+          joins = z .joins;
+        }
 
-    listing-ok : (c : Call) (j : ℕ) (step : Step) (comma : Bool) (M : ℕ) (close : Option ℕ) (rest : List (Todo ℕ)) (go : Go) → GoodGo c j rest go →
-        (x y items : ℕ) (set : List (Parse ℕ))
+    listing-ok :
+        (c : Call) (j : ℕ) (step : Step) (comma : Bool) (M : ℕ) (close : Option ℕ) (rest : List (Todo ℕ)) (go : Go) →
+        GoodGo c j rest go → (x y items : ℕ) (set : List (Parse ℕ))
         (s : State) (r : Parsed) → stepAt book text step x ≡ Taken.list comma M close y →
         listing book text inner c j comma M close rest go y items set s ≡ ok r → Before Cf (r .state) →
         RunOk c j (taking step ∷ rest) x items set s (r .set) (r .state)
@@ -297,42 +413,59 @@ module _ (book : Book) (text : List ℕ) (Cf : List Cell) (table : Table text Cf
         after _ _ e (λ m made ran.
         let w = choice-ok c j comma M (m .cell) close rest go good y items set (m .state) r ran b in
         let v = make-way text Cf table s m Cell.empty made (w .back) in
-        record { back = v .back; finds = λ ts h. begun (made-empty text Cf table s m made (w .back)) (finds-from book text Cf table v (w .finds ts h)) })
+        record {
+          back = v .back;
+          finds = λ ts h.
+              begun (made-empty text Cf table s m made (w .back)) (finds-from book text Cf table v (w .finds ts h));
+        })
       where
-        begun : {n : ℕ} {ts : Trees} → treesFor text Cf n ≡ no-trees → Finds c j (elements comma M n close ∷ rest) y ts set s (r .set) (r .state) →
+        begun : {n : ℕ} {ts : Trees} → treesFor text Cf n ≡ no-trees →
+            Finds c j (elements comma M n close ∷ rest) y ts set s (r .set) (r .state) →
             Finds c j (taking step ∷ rest) x ts set s (r .set) (r .state)
         begun {ts = ts} empty g = record {
           R = g .R;
-          run = s-list takes (subst (λ l. Steps book text (openFor text Cf c) j (elements comma M l close ∷ map (todoFor text Cf) rest) y ts (s .asked) (g .R) (r .state .asked)) empty (g .run));
+          run = s-list takes (subst (λ l. Steps book text (openFor text Cf c) j (elements comma M l close
+              ∷ map (todoFor text Cf) rest) y ts (s .asked) (g .R) (r .state .asked)) empty (g .run));
           joins = g .joins;
         }
 
     unopened-ok : (c : Call) (j : ℕ) (step : Step) (rest : List (Todo ℕ)) (go : Go) → GoodGo c j rest go →
         (x y items : ℕ) (set : List (Parse ℕ)) (s : State) (r : Parsed) →
-        stepAt book text step x ≡ Taken.unopened y → (make text Cell.empty s >>= (λ e. stops book text j (e .cell) none go y items set (e .state))) ≡ ok r →
+        stepAt book text step x ≡ Taken.unopened y →
+        (make text Cell.empty s >>= (λ e. stops book text j (e .cell) none go y items set (e .state))) ≡ ok r →
         Before Cf (r .state) →
         RunOk c j (taking step ∷ rest) x items set s (r .set) (r .state)
     unfolding stops closed
     unopened-ok c j step rest go good x y items set s r takes e b =
         after _ _ e (λ m made e₁. after _ _ e₁ (λ l listed-it e₂. after _ _ e₂ (λ n with-it went.
-        let w = with-item-ok c j rest go good y items (l .cell) (Tree.list (treesFor text Cf (m .cell))) set (l .state) n r with-it went b
+        let w =
+        with-item-ok c j rest go good y items (l .cell) (Tree.list (treesFor text Cf (m .cell))) set
+        (l .state) n r with-it went b
         (λ b′. made-list text Cf table (m .state) l (m .cell) listed-it b′) in
         let v = make-way text Cf table (m .state) l (Cell.list (m .cell)) listed-it (w .back) in
         let u = make-way text Cf table s m Cell.empty made (v .back) in
-        record { back = u .back; finds = λ ts h. none-there (made-empty text Cf table s m made (v .back)) (finds-from book text Cf table u (finds-from book text Cf table v (w .finds ts h))) })))
+        record {
+          back = u .back;
+          finds =
+              λ ts h. none-there (made-empty text Cf table s m made (v .back))
+              (finds-from book text Cf table u (finds-from book text Cf table v (w .finds ts h)));
+        })))
       where
-        none-there : {ts values : Trees} → values ≡ no-trees → Finds c j rest y (ts ▸ Tree.list values) set s (r .set) (r .state) →
+        none-there : {ts values : Trees} → values ≡ no-trees →
+            Finds c j rest y (ts ▸ Tree.list values) set s (r .set) (r .state) →
             Finds c j (taking step ∷ rest) x ts set s (r .set) (r .state)
         none-there {ts} empty g = record {
           R = g .R;
-          run = s-unopened takes (subst (λ l. Steps book text (openFor text Cf c) j (map (todoFor text Cf) rest) y (ts ▸ Tree.list l) (s .asked) (g .R) (r .state .asked)) empty (g .run));
+          run = s-unopened takes (subst (λ l. Steps book text (openFor text Cf c) j (map (todoFor text Cf) rest) y
+              (ts ▸ Tree.list l) (s .asked) (g .R) (r .state .asked)) empty (g .run));
           joins = g .joins;
         }
 
     -- ---- Steps
     token-ok : (c : Call) (j : ℕ) (step : Step) (t : Token) (rest : List (Todo ℕ)) (go : Go) → GoodGo c j rest go →
         (x items : ℕ) (set : List (Parse ℕ)) (s : State) (r : Parsed) →
-        stepAt book text step x ≡ Taken.token t → (withToken book text j items (t .item) s >>= (λ m. go (t .next) (m .cell) set (m .state))) ≡ ok r →
+        stepAt book text step x ≡ Taken.token t →
+        (withToken book text j items (t .item) s >>= (λ m. go (t .next) (m .cell) set (m .state))) ≡ ok r →
         Before Cf (r .state) →
         RunOk c j (taking step ∷ rest) x items set s (r .set) (r .state)
     token-ok c j step t rest go good x items set s r takes e b =
@@ -341,39 +474,63 @@ module _ (book : Book) (text : List ℕ) (Cf : List Cell) (table : Table text Cf
         let v = with-token-ok text Cf table book j items (t .item) s m made (w .back) in
         record {
           back = v .way .back;
-          finds = λ ts h. let g = finds-from book text Cf table (v .way) (w .finds (withItem text ts (t .item)) (v .stands ts h)) in record { R = g .R; run = s-token takes (g .run); joins = g .joins };
+          finds = λ ts h.
+              let g = finds-from book text Cf table (v .way) (w .finds (withItem text ts (t .item)) (v .stands ts h)) in
+              record { R = g .R; run = s-token takes (g .run); joins = g .joins };
         })
 
-    child-ok : (c : Call) (j M : ℕ) (step : Step) (rest : List (Todo ℕ)) (x items : ℕ) (set : List (Parse ℕ)) (s : State) (r : Parsed) →
-        stepAt book text step x ≡ Taken.child M →
-        (enterChild book text inner c j M x s >>= (λ d. followed book text inner (plainNext book text c j rest items) set d)) ≡ ok r → Before Cf (r .state) →
+    child-ok : (c : Call) (j M : ℕ) (step : Step) (rest : List (Todo ℕ)) (x items : ℕ) (set : List (Parse ℕ))
+        (s : State) (r : Parsed) → stepAt book text step x ≡ Taken.child M →
+        (enterChild book text inner c j M x s
+        >>= (λ d. followed book text inner (plainNext book text c j rest items) set d)) ≡ ok r → Before Cf (r .state) →
         RunOk c j (taking step ∷ rest) x items set s (r .set) (r .state)
     child-ok c j M step rest x items set s r takes e b =
         after _ _ e (λ d entered went.
         let t = tail-ok c j M x items _ _ (plain-next-ok c j rest items) set s d r entered went b in
-        record { back = t .back; finds = λ ts h. let g = t .finds ts h in record { R = g .R; run = s-child takes (t .called) (g .run); joins = g .joins } })
+        record {
+          back = t .back;
+          finds = λ ts h.
+              let g = t .finds ts h in record { R = g .R; run = s-child takes (t .called) (g .run); joins = g .joins };
+        })
 
-    nothing-ok : (c : Call) (j : ℕ) (step : Step) (rest : List (Todo ℕ)) (x items : ℕ) (set : List (Parse ℕ)) (s : State) →
+    nothing-ok :
+        (c : Call) (j : ℕ) (step : Step) (rest : List (Todo ℕ)) (x items : ℕ) (set : List (Parse ℕ)) (s : State) →
         stepAt book text step x ≡ Taken.nothing → Before Cf s →
         RunOk c j (taking step ∷ rest) x items set s set s
-    nothing-ok c j step rest x items set s takes b = record { back = b; finds = λ ts h. record { R = []; run = s-nothing takes; joins = joins-nil } }
+    nothing-ok c j step rest x items set s takes b =
+        record { back = b; finds = λ ts h. record { R = []; run = s-nothing takes; joins = joins-nil } }
 
     -- a variant's end: its value, and its parse
     completed-ok : (c : Call) (j x items : ℕ) (set all : List (Parse ℕ)) (s : State) (m : Made) → Way Cf s (m .state) →
         ((ts : Trees) → Stands text Cf table book j items ts → treeFor text Cf (m .cell) ≡ valueOf book j ts) →
-        add (m .state) set (record { rest = x; level = nthVariant book j .level; associativity = nthVariant book j .associativity; value = m .cell }) ≡ ok all →
-        RunOk c j [] x items set s all (m .state)
+        add (m .state) set (record {
+          rest = x;
+          level = nthVariant book j .level;
+          associativity = nthVariant book j .associativity;
+          value = m .cell;
+        }) ≡ ok all → RunOk c j [] x items set s all (m .state)
     completed-ok c j x items set all s m w means e = record {
       back = w .back;
       finds = λ ts h. finds-from book text Cf table w (record {
-        R = tree (treeFor text Cf) (record { rest = x; level = nthVariant book j .level; associativity = nthVariant book j .associativity; value = m .cell }) ∷ [];
-        run = s-done (ap (λ v. record { rest = x; level = nthVariant book j .level; associativity = nthVariant book j .associativity; value = v } ∷ []) (means ts h));
+        R =
+            tree (treeFor text Cf) (record {
+              rest = x;
+              level = nthVariant book j .level;
+              associativity = nthVariant book j .associativity;
+              value = m .cell;
+            }) ∷ [];
+        run = s-done (ap (λ v. record {
+          rest = x;
+          level = nthVariant book j .level;
+          associativity = nthVariant book j .associativity;
+          value = v;
+        } ∷ []) (means ts h));
         joins = map-joins (tree (treeFor text Cf)) (add-joins (m .state) set _ e);
       });
     }
 
-    complete-ok : (c : Call) (j x items : ℕ) (set : List (Parse ℕ)) (s : State) (r : Parsed) → complete book text j x items set s ≡ ok r →
-        Before Cf (r .state) →
+    complete-ok : (c : Call) (j x items : ℕ) (set : List (Parse ℕ)) (s : State) (r : Parsed) →
+        complete book text j x items set s ≡ ok r → Before Cf (r .state) →
         RunOk c j [] x items set s (r .set) (r .state)
     unfolding complete
     complete-ok c j x items set s r e b =
@@ -386,7 +543,8 @@ module _ (book : Book) (text : List ℕ) (Cf : List Cell) (table : Table text Cf
         (λ ts h. ap (λ (z : Made). treeFor text Cf (z .cell)) (sym same) ∙ h .passing p ∙ rw p refl) added)
         (λ p. let made′ : make text (Cell.variant j items) s ≡ ok m = rw p at made in
         completed-ok c j x items set all s m (make-way text Cf table s m (Cell.variant j items) made′ b′)
-        (λ ts h. made-variant text Cf table s m j items made′ b′ ∙ ap (Tree.variant j) (h .plain p) ∙ rw p refl) added)) b))
+        (λ ts h. made-variant text Cf table s m j items made′ b′ ∙ ap (Tree.variant j) (h .plain p) ∙ rw p refl) added))
+        b))
 
     unit-way : (step : Step) (s t : State) → stepUnit book text inner step s ≡ ok t → Before Cf t → Way Cf s t
     unfolding stepUnit
@@ -395,27 +553,37 @@ module _ (book : Book) (text : List ℕ) (Cf : List Cell) (table : Table text Cf
         (λ p. subst (λ z. Before Cf z → Way Cf s z) (ok-inj (rw p at e)) way-refl b)
         (λ p. spend-way book text Cf table s t (rw p at e) b)
 
-    run-from : (c : Call) (j : ℕ) (todo : List (Todo ℕ)) (x items : ℕ) (set : List (Parse ℕ)) (s t : State) (r : Parsed) → (Before Cf t → Way Cf s t) →
+    run-from :
+        (c : Call) (j : ℕ) (todo : List (Todo ℕ)) (x items : ℕ) (set : List (Parse ℕ)) (s t : State) (r : Parsed) →
+        (Before Cf t → Way Cf s t) →
         RunOk c j todo x items set t (r .set) (r .state) → RunOk c j todo x items set s (r .set) (r .state)
-    run-from c j todo x items set s t r w o = let v = w (o .back) in record { back = v .back; finds = λ ts h. finds-from book text Cf table v (o .finds ts h) }
+    run-from c j todo x items set s t r w o =
+        let v = w (o .back) in
+        record { back = v .back; finds = λ ts h. finds-from book text Cf table v (o .finds ts h) }
 
     steps-ok : Good (steps book text inner)
     unfolding steps
     steps-ok c j [] x items set s r e b = complete-ok c j x items set s r e b
     steps-ok c j (elements comma M values close ∷ rest) x items set s r e b =
-        choice-ok c j comma M values close rest (steps book text inner c j rest) (λ y is u t q d b′. steps-ok c j rest y is u t q d b′) x items set s r e b
+        choice-ok c j comma M values close rest (steps book text inner c j rest)
+        (λ y is u t q d b′. steps-ok c j rest y is u t q d b′) x items set s r e b
     steps-ok c j (ending values close ∷ rest) x items set s r e b =
-        stops-ok c j values close rest (steps book text inner c j rest) (λ y is u t q d b′. steps-ok c j rest y is u t q d b′) x items set s r e b
+        stops-ok c j values close rest (steps book text inner c j rest)
+        (λ y is u t q d b′. steps-ok c j rest y is u t q d b′) x items set s r e b
     steps-ok c j (taking step ∷ rest) x items set s₀ r e b =
         let go = steps book text inner c j rest in
         let good : GoodGo c j rest go = λ y is u t q d b′. steps-ok c j rest y is u t q d b′ in
-        after _ _ e (λ s unit ran. run-from c j (taking step ∷ rest) x items set s₀ s r (λ b′. unit-way step s₀ s unit b′)
+        after _ _ e (λ s unit ran.
+        run-from c j (taking step ∷ rest) x items set s₀ s r (λ b′. unit-way step s₀ s unit b′)
         (taken-cases (stepAt book text step x)
-        (λ takes. subst (λ (z : Parsed). Before Cf (z .state) → RunOk c j (taking step ∷ rest) x items set s (z .set) (z .state)) (ok-inj (rw takes at ran)) (nothing-ok c j step rest x items set s takes) b)
+        (λ takes.
+        subst (λ (z : Parsed). Before Cf (z .state) → RunOk c j (taking step ∷ rest) x items set s (z .set) (z .state))
+        (ok-inj (rw takes at ran)) (nothing-ok c j step rest x items set s takes) b)
         (λ t takes. token-ok c j step t rest go good x items set s r takes (rw takes at ran) b)
         (λ M takes. child-ok c j M step rest x items set s r takes (rw takes at ran) b)
         (λ M takes. or-absent-ok c j M step rest go good x items set s r takes (rw takes at ran) b)
-        (λ comma M close y takes. listing-ok c j step comma M close rest go good x y items set s r takes (rw takes at ran) b)
+        (λ comma M close y takes.
+        listing-ok c j step comma M close rest go good x y items set s r takes (rw takes at ran) b)
         (λ y takes. unopened-ok c j step rest go good x y items set s r takes (rw takes at ran) b)))
 
   -- ---- The whole run
@@ -428,4 +596,5 @@ module _ (book : Book) (text : List ℕ) (Cf : List Cell) (table : Table text Cf
   pub run-ok : (allowance start : ℕ) (r : Parsed) → run book text allowance start ≡ ok r → Before Cf (r .state) →
       Enters book text [] [] [] start (skipFrom text 0) (trees text Cf (r .set)) (r .state .asked)
   unfolding run
-  run-ok allowance start r e b = enter-ok book text Cf table (runner book text 200) (runner-ok 200) [] [] start (skipFrom text 0) _ r e b .run
+  run-ok allowance start r e b =
+      enter-ok book text Cf table (runner book text 200) (runner-ok 200) [] [] start (skipFrom text 0) _ r e b .run

@@ -1,7 +1,8 @@
 -- Lists, sets and rows of marks, as the theorems need them.
 use mathlib.Core.Path.{_≡_, refl, sym, _∙_, ap, subst}
 use mathlib.Core.Bool.{Bool, true, false, cond, false≢true}
-use mathlib.Core.List.{List, [], _∷_, List·Memᴰ, List·Memᴰ·head, List·Memᴰ·tail, List·Memᴰ·not-nil, List·Memᴰ·eq-of-singleton}
+use mathlib.Core.List.{List, [], _∷_, List·Memᴰ, List·Memᴰ·head, List·Memᴰ·tail, List·Memᴰ·not-nil}
+use mathlib.Core.List.{List·Memᴰ·eq-of-singleton}
 use mathlib.Core.Logic.{_⊎_, inl, inr}
 use Prim.Native.Nat.{ℕ, zero, suc}
 use lib.ListN.{getD}
@@ -17,7 +18,8 @@ unfoldable pub sift : {A : Type 0} → (A → Bool) → List A → List A
 sift k [] = []
 sift k (a ∷ l) = cond (k a) (a ∷ sift k l) (sift k l)
 
-sift-head : {A : Type 0} (k : A → Bool) (b : Bool) (a : A) (l : List A) {p : A} → b ≡ k a → p ∈ cond b (a ∷ l) l → ((p ≡ a) × (k p ≡ true)) ⊎ (p ∈ l)
+sift-head : {A : Type 0} (k : A → Bool) (b : Bool) (a : A) (l : List A) {p : A} → b ≡ k a → p ∈ cond b (a ∷ l) l →
+    ((p ≡ a) × (k p ≡ true)) ⊎ (p ∈ l)
 sift-head k true a l e (List·Memᴰ·head d) = inl (d, ap k d ∙ sym e)
 sift-head k true a l e (List·Memᴰ·tail m) = inr m
 sift-head k false a l e m = inr m
@@ -27,7 +29,8 @@ unfolding sift
 sift-out k [] m = absurd (List·Memᴰ·not-nil m)
 sift-out k (a ∷ l) {p} m = either-way (λ n. sift-out k l n) (sift-head k (k a) a (sift k l) refl m)
   where
-    either-way : (p ∈ sift k l → (p ∈ l) × (k p ≡ true)) → ((p ≡ a) × (k p ≡ true)) ⊎ (p ∈ sift k l) → (p ∈ (a ∷ l)) × (k p ≡ true)
+    either-way : (p ∈ sift k l → (p ∈ l) × (k p ≡ true)) → ((p ≡ a) × (k p ≡ true)) ⊎ (p ∈ sift k l) →
+        (p ∈ (a ∷ l)) × (k p ≡ true)
     either-way r (inl d) = (List·Memᴰ·head (d .0), d .1)
     either-way r (inr n) = (List·Memᴰ·tail (r n .0), r n .1)
 

@@ -59,7 +59,8 @@ module _ (text : List ℕ) (Cf : List Cell) (table : Table text Cf) where
     unfolding meaningOf treeIn
     made-variant j c e b = ap treeIn (make-means text Cf table (Cell.variant j c) s m e b)
 
-    pub made-list : (c : ℕ) → make text (Cell.list c) s ≡ ok m → Before Cf (m .state) → treeFor text Cf (m .cell) ≡ Tree.list (treesFor text Cf c)
+    pub made-list : (c : ℕ) → make text (Cell.list c) s ≡ ok m → Before Cf (m .state) →
+        treeFor text Cf (m .cell) ≡ Tree.list (treesFor text Cf c)
     unfolding meaningOf treeIn
     made-list c e b = ap treeIn (make-means text Cf table (Cell.list c) s m e b)
 
@@ -72,10 +73,13 @@ module _ (text : List ℕ) (Cf : List Cell) (table : Table text Cf) where
     unfolding meaningOf treeIn
     made-name place size e b = ap treeIn (make-means text Cf table (Cell.name place size) s m e b)
 
-    pub made-item : (item : Item) → make text (itemCell item) s ≡ ok m → Before Cf (m .state) → treeFor text Cf (m .cell) ≡ treeOf text item
+    pub made-item : (item : Item) → make text (itemCell item) s ≡ ok m → Before Cf (m .state) →
+        treeFor text Cf (m .cell) ≡ treeOf text item
     unfolding meaningOf treeIn itemCell treeOf
     made-item (Item.name place size) e b = made-name place size e b
-    made-item (Item.number n) e b = ap treeIn (make-means text Cf table (Cell.number (n / 2 ^ 32) (n % 2 ^ 32)) s m e b) ∙ ap Tree.number (split n 32)
+    made-item (Item.number n) e b =
+        ap treeIn (make-means text Cf table (Cell.number (n / 2 ^ 32) (n % 2 ^ 32)) s m e b)
+        ∙ ap Tree.number (split n 32)
     made-item (Item.variable i kind) e b = ap treeIn (make-means text Cf table (Cell.variable i kind) s m e b)
 
   module _ (book : Book) (j : ℕ) where
@@ -96,14 +100,17 @@ module _ (text : List ℕ) (Cf : List Cell) (table : Table text Cf) where
         subst (λ (z : Made). Before Cf (z .state) → BeginOk s z) same
         (λ b′. record { way = way-refl b′; stands = record { passing = λ p. refl; plain = λ p. clash t p } }) b)
         (λ t. let e′ = rw t at e in
-        record { way = make-way s m Cell.empty e′ b; stands = record { passing = λ p. clash p t; plain = λ p. made-empty s m e′ b } })
+        record {
+          way = make-way s m Cell.empty e′ b;
+          stands = record { passing = λ p. clash p t; plain = λ p. made-empty s m e′ b };
+        })
 
     pub record WithOk (items : ℕ) (add : Trees → Trees) (s : State) (m : Made) : Type 0 where
       pub way : Way Cf s (m .state)
       pub stands : (ts : Trees) → Stands items ts → Stands (m .cell) (add ts)
 
-    pub with-cell-ok : (items item : ℕ) (t : Tree) (s : State) (m : Made) → withCell book text j items item s ≡ ok m → Before Cf (m .state) →
-        treeFor text Cf item ≡ t →
+    pub with-cell-ok : (items item : ℕ) (t : Tree) (s : State) (m : Made) → withCell book text j items item s ≡ ok m →
+        Before Cf (m .state) → treeFor text Cf item ≡ t →
         WithOk items (λ ts. ts ▸ t) s m
     unfolding withCell lastOf
     with-cell-ok items item t s m e b v =
@@ -114,17 +121,26 @@ module _ (text : List ℕ) (Cf : List Cell) (table : Table text Cf) where
         (λ p. let e′ = rw p at e in
         record {
           way = make-way s m (Cell.chain items item) e′ b;
-          stands = λ ts h. record { passing = λ q. clash q p; plain = λ q. made-chain s m items item e′ b ∙ ap (λ l. l ▸ treeFor text Cf item) (h .plain q) ∙ ap (λ x. ts ▸ x) v };
+          stands = λ ts h. record {
+            passing = λ q. clash q p;
+            plain = λ q.
+                made-chain s m items item e′ b ∙ ap (λ l. l ▸ treeFor text Cf item) (h .plain q) ∙ ap (λ x. ts ▸ x) v;
+          };
         })
 
-    pub with-token-ok : (items : ℕ) (item : Option Item) (s : State) (m : Made) → withToken book text j items item s ≡ ok m → Before Cf (m .state) →
+    pub with-token-ok : (items : ℕ) (item : Option Item) (s : State) (m : Made) →
+        withToken book text j items item s ≡ ok m → Before Cf (m .state) →
         WithOk items (λ ts. withItem text ts item) s m
     unfolding withToken withItem
     with-token-ok items none s m e b =
-        subst (λ (z : Made). Before Cf (z .state) → WithOk items (λ ts. ts) s z) (ok-inj e) (λ b′. record { way = way-refl b′; stands = λ ts h. h }) b
+        subst (λ (z : Made). Before Cf (z .state) → WithOk items (λ ts. ts) s z) (ok-inj e)
+        (λ b′. record { way = way-refl b′; stands = λ ts h. h }) b
     with-token-ok items (some item) s m e b =
         let g = got _ _ e in
         let w = with-cell-ok items (g .val .cell) (treeFor text Cf (g .val .cell)) (g .val .state) m (g .next) b refl in
         let v = made-item s (g .val) item (g .ran) (w .way .back) in
         let w′ = with-cell-ok items (g .val .cell) (treeOf text item) (g .val .state) m (g .next) b v in
-        record { way = way-then (make-way s (g .val) (itemCell item) (g .ran) (w .way .back)) (w .way); stands = w′ .stands }
+        record {
+          way = way-then (make-way s (g .val) (itemCell item) (g .ran) (w .way .back)) (w .way);
+          stands = w′ .stands;
+        }

@@ -11,7 +11,8 @@ use native.Mathlib.Omega.{arith}
 use lib.ListN.{length, getD, length-append, List·getD-append}
 use lib.Seq.{getD-at}
 use Rattle.semantics.specs.Values.{Tree, Trees, no-trees, _▸_}
-use Rattle.semantics.specs.Cells.{Cell, numbersOf, identityOf, Meaning, one, several, treeIn, treesIn, nthMeaning, meaningOf, meanings}
+use Rattle.semantics.specs.Cells.{Cell, numbersOf, identityOf, Meaning, one, several, treeIn, treesIn, nthMeaning}
+use Rattle.semantics.specs.Cells.{meaningOf, meanings}
 
 -- what cell n of a list of cells stands for
 abbrev pub meaning : List ℕ → List Cell → ℕ → Meaning
@@ -78,7 +79,8 @@ new-cell C c = getD-at C c [] Cell.empty (length C) refl
 
 module _ (text : List ℕ) where
   -- ---- What cells stand for stays
-  meanings-append : (before : List Meaning) (C D : List Cell) → meanings text before (C ++ D) ≡ meanings text (meanings text before C) D
+  meanings-append : (before : List Meaning) (C D : List Cell) →
+      meanings text before (C ++ D) ≡ meanings text (meanings text before C) D
   unfolding meanings
   meanings-append before [] D = refl
   meanings-append before (c ∷ C) D = meanings-append (before ++ (meaningOf text before c ∷ [])) C D
@@ -91,14 +93,17 @@ module _ (text : List ℕ) where
       let k = meanings-length (before ++ (meaningOf text before c ∷ [])) C in
       omega arith
 
-  meanings-keep : (before : List Meaning) (C : List Cell) (i : ℕ) (d : Meaning) → i < length before → getD (meanings text before C) i d ≡ getD before i d
+  meanings-keep : (before : List Meaning) (C : List Cell) (i : ℕ) (d : Meaning) → i < length before →
+      getD (meanings text before C) i d ≡ getD before i d
   unfolding meanings
   meanings-keep before [] i d h = refl
   meanings-keep before (c ∷ C) i d h =
       let l = length-append before (meaningOf text before c ∷ []) in
-      meanings-keep (before ++ (meaningOf text before c ∷ [])) C i d (omega arith) ∙ List·getD-append before (meaningOf text before c ∷ []) d i h
+      meanings-keep (before ++ (meaningOf text before c ∷ [])) C i d (omega arith)
+      ∙ List·getD-append before (meaningOf text before c ∷ []) d i h
 
-  nth-keep : (C D : List Cell) (n : ℕ) → Placed C n → nthMeaning (meanings text (meanings text [] C) D) n ≡ meaning text C n
+  nth-keep : (C D : List Cell) (n : ℕ) → Placed C n →
+      nthMeaning (meanings text (meanings text [] C) D) n ≡ meaning text C n
   nth-keep C D zero h = refl
   nth-keep C D (suc i) h =
       let l = meanings-length [] C in
@@ -109,10 +114,12 @@ module _ (text : List ℕ) where
   still {C} p n h = rw (p .is, meanings-append [] C (p .more)) (nth-keep C (p .more) n h)
 
   pub item-still : {C C′ : List Cell} → Prefix C C′ → (n : ℕ) → Item text C n → Item text C′ n
-  item-still p n h = record { placed = prefix-placed p n (h .placed); tree = h .tree; is = still p n (h .placed) ∙ h .is }
+  item-still p n h =
+      record { placed = prefix-placed p n (h .placed); tree = h .tree; is = still p n (h .placed) ∙ h .is }
 
   pub chain-still : {C C′ : List Cell} → Prefix C C′ → (n : ℕ) → Chain text C n → Chain text C′ n
-  chain-still p n h = record { placed = prefix-placed p n (h .placed); trees = h .trees; is = still p n (h .placed) ∙ h .is }
+  chain-still p n h =
+      record { placed = prefix-placed p n (h .placed); trees = h .trees; is = still p n (h .placed) ∙ h .is }
 
   pub fits-still : {C C′ : List Cell} → Prefix C C′ → (c : Cell) → Fits text C c → Fits text C′ c
   unfolding Fits
@@ -138,10 +145,12 @@ module _ (text : List ℕ) where
   means-still p Cell.absent f = refl
   means-still p (Cell.list c) f = rw (still p c (f .placed))
 
-  pub new-meaning : (C : List Cell) (c : Cell) → meaning text (C ++ (c ∷ [])) (suc (length C)) ≡ meaningOf text (meanings text [] C) c
+  pub new-meaning : (C : List Cell) (c : Cell) →
+      meaning text (C ++ (c ∷ [])) (suc (length C)) ≡ meaningOf text (meanings text [] C) c
   unfolding meanings
   new-meaning C c = rw (meanings-append [] C (c ∷ []))
-      (getD-at (meanings text [] C) (meaningOf text (meanings text [] C) c) [] (one Tree.absent) (length C) (meanings-length [] C ∙ omega arith))
+      (getD-at (meanings text [] C) (meaningOf text (meanings text [] C) c) [] (one Tree.absent) (length C)
+      (meanings-length [] C ∙ omega arith))
 
   -- ---- By the identity one knows the meaning
   -- the meaning of a cell with this identity
@@ -172,7 +181,8 @@ module _ (text : List ℕ) where
   by-identity before Cell.absent = refl
   by-identity before (Cell.list c) = refl
 
-  pub same-meaning : (before : List Meaning) (c d : Cell) → identityOf text c ≡ identityOf text d → meaningOf text before c ≡ meaningOf text before d
+  pub same-meaning : (before : List Meaning) (c d : Cell) → identityOf text c ≡ identityOf text d →
+      meaningOf text before c ≡ meaningOf text before d
   same-meaning before c d e = by-identity before c ∙ ap (byIdentity before) e ∙ sym (by-identity before d)
 
   -- ---- By the meaning one knows the identity
@@ -183,10 +193,12 @@ module _ (text : List ℕ) where
   -- the identity of a cell that fits and has this meaning
   Key : List Cell → Meaning → List ℕ → Type 0
   Key C (several no-trees) id = id ≡ 1 ∷ 0 ∷ 0 ∷ []
-  Key C (several (ts ▸ t)) id = (c item : ℕ) × Stands C c (several ts) × Stands C item (one t) × (id ≡ 2 ∷ c ∷ item ∷ [])
+  Key C (several (ts ▸ t)) id =
+      (c item : ℕ) × Stands C c (several ts) × Stands C item (one t) × (id ≡ 2 ∷ c ∷ item ∷ [])
   Key C (one (Tree.variant j ts)) id = (c : ℕ) × Stands C c (several ts) × (id ≡ 3 ∷ j ∷ c ∷ [])
   Key C (one (Tree.name spelling)) id = id ≡ 4 ∷ spelling
-  Key C (one (Tree.number n)) id = (high low : ℕ) × (low < 2 ^ 32) × (n ≡ high * 2 ^ 32 + low) × (id ≡ 5 ∷ high ∷ low ∷ [])
+  Key C (one (Tree.number n)) id =
+      (high low : ℕ) × (low < 2 ^ 32) × (n ≡ high * 2 ^ 32 + low) × (id ≡ 5 ∷ high ∷ low ∷ [])
   Key C (one (Tree.variable i kind)) id = id ≡ 6 ∷ i ∷ kind ∷ []
   Key C (one Tree.absent) id = id ≡ 7 ∷ 0 ∷ 0 ∷ []
   Key C (one (Tree.list ts)) id = (c : ℕ) × Stands C c (several ts) × (id ≡ 8 ∷ c ∷ 0 ∷ [])
@@ -217,7 +229,8 @@ module _ (text : List ℕ) where
   stands-once : {C : List Cell} → Single C → {n k : ℕ} {M : Meaning} → Stands C n M → Stands C k M → n ≡ k
   stands-once single {n} {k} a b = single .one-only n k (a .placed) (b .placed) (a .is ∙ sym (b .is))
 
-  halves : (high low high′ low′ : ℕ) → low < 2 ^ 32 → low′ < 2 ^ 32 → high * 2 ^ 32 + low ≡ high′ * 2 ^ 32 + low′ → (high ≡ high′) × (low ≡ low′)
+  halves : (high low high′ low′ : ℕ) → low < 2 ^ 32 → low′ < 2 ^ 32 → high * 2 ^ 32 + low ≡ high′ * 2 ^ 32 + low′ →
+      (high ≡ high′) × (low ≡ low′)
   halves high low high′ low′ h h′ e = omega arith
 
   key-once : (C : List Cell) → Single C → (M : Meaning) (a b : List ℕ) → Key C M a → Key C M b → a ≡ b
@@ -227,17 +240,20 @@ module _ (text : List ℕ) where
       let chains = stands-once single (k .2) (l .2) in
       let items = stands-once single (k .3) (l .3) in
       k .4 ∙ rw (chains, items) (sym (l .4))
-  key-once C single (one (Tree.variant j ts)) a b k l = let chains = stands-once single (k .1) (l .1) in k .2 ∙ rw chains (sym (l .2))
+  key-once C single (one (Tree.variant j ts)) a b k l =
+      let chains = stands-once single (k .1) (l .1) in k .2 ∙ rw chains (sym (l .2))
   key-once C single (one (Tree.name spelling)) a b k l = k ∙ sym l
   key-once C single (one (Tree.number n)) a b k l =
       let h = halves (k .0) (k .1) (l .0) (l .1) (k .2) (l .2) (sym (k .3) ∙ l .3) in
       k .4 ∙ rw (h .0, h .1) (sym (l .4))
   key-once C single (one (Tree.variable i kind)) a b k l = k ∙ sym l
   key-once C single (one Tree.absent) a b k l = k ∙ sym l
-  key-once C single (one (Tree.list ts)) a b k l = let chains = stands-once single (k .1) (l .1) in k .2 ∙ rw chains (sym (l .2))
+  key-once C single (one (Tree.list ts)) a b k l =
+      let chains = stands-once single (k .1) (l .1) in k .2 ∙ rw chains (sym (l .2))
 
   pub same-identity : (C : List Cell) → Single C → (c d : Cell) → Fits text C c → Fits text C d
-      → meaningOf text (meanings text [] C) c ≡ meaningOf text (meanings text [] C) d → identityOf text c ≡ identityOf text d
+      → meaningOf text (meanings text [] C) c ≡ meaningOf text (meanings text [] C) d →
+      identityOf text c ≡ identityOf text d
   same-identity C single c d f g e =
       let k = rw e at (key C c f) in
       key-once C single (meaningOf text (meanings text [] C) d) (identityOf text c) (identityOf text d) k (key C d g)

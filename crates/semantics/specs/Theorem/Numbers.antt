@@ -30,7 +30,8 @@ module _ (size : ℕ) (numbers lent : List ℕ) (h : length numbers ≤ size) wh
       let whole : size ≡ length numbers + left = omega arith in
       record {
         others = take left (replicate size 0);
-        is = ap (λ (k : ℕ). take k (numbers ++ replicate size 0)) whole ∙ take-append-add numbers (replicate size 0) left;
+        is = ap (λ (k : ℕ). take k (numbers ++ replicate size 0)) whole
+            ∙ take-append-add numbers (replicate size 0) left;
       }
 
   written-begins : Begins numbers (written size numbers lent)
@@ -78,17 +79,24 @@ cells-length (c ∷ C) =
     omega arith
 
 -- the three numbers of cell i + 1
-numbers-at : (C : List Cell) (l : List ℕ) (i : ℕ) → i < length C → take 3 (drop (3 * i) (cellNumbers C ++ l)) ≡ numbersOf (getD C i Cell.empty)
+numbers-at : (C : List Cell) (l : List ℕ) (i : ℕ) → i < length C →
+    take 3 (drop (3 * i) (cellNumbers C ++ l)) ≡ numbersOf (getD C i Cell.empty)
 unfolding cellNumbers
 numbers-at [] l i h = absurd (omega arith)
-numbers-at (c ∷ C) l zero h = rw (append-assoc (numbersOf c) (cellNumbers C) l) (take-at (numbersOf c) (cellNumbers C ++ l) 3 (three c))
+numbers-at (c ∷ C) l zero h =
+    rw (append-assoc (numbersOf c) (cellNumbers C) l) (take-at (numbersOf c) (cellNumbers C ++ l) 3 (three c))
 numbers-at (c ∷ C) l (suc i) h =
     let these = three c in
     let further : 3 * suc i ≡ length (numbersOf c) + 3 * i = omega arith in
-    rw (further, append-assoc (numbersOf c) (cellNumbers C) l, drop-append-add (numbersOf c) (cellNumbers C ++ l) (3 * i)) (numbers-at C l i (omega arith))
+    rw (
+      further,
+      append-assoc (numbersOf c) (cellNumbers C) l,
+      drop-append-add (numbersOf c) (cellNumbers C ++ l) (3 * i),
+    ) (numbers-at C l i (omega arith))
 
 -- cell n of the list at exit
-pub cell-back : (C : List Cell) (lent : List ℕ) → length C ≤ 4096 → (n : ℕ) → Placed C n → CellAt (written 12288 (cellNumbers C) lent) n (numbersOf (cellAt C n))
+pub cell-back : (C : List Cell) (lent : List ℕ) → length C ≤ 4096 → (n : ℕ) → Placed C n →
+    CellAt (written 12288 (cellNumbers C) lent) n (numbersOf (cellAt C n))
 cell-back C lent h zero placed = let least = placed .least in absurd (omega arith)
 cell-back C lent h (suc i) placed =
     let lengths = cells-length C in
@@ -106,21 +114,28 @@ pub record ParseAt (numbers : List ℕ) (i : ℕ) (p : Parse ℕ) : Type 0 where
   pub value : getD numbers (4 * i + 3) 0 ≡ p .value
 
 -- four numbers further on
-parse-further : (a b c d : ℕ) (numbers : List ℕ) (i : ℕ) (p : Parse ℕ) → ParseAt numbers i p → ParseAt (a ∷ b ∷ c ∷ d ∷ numbers) (suc i) p
+parse-further : (a b c d : ℕ) (numbers : List ℕ) (i : ℕ) (p : Parse ℕ) → ParseAt numbers i p →
+    ParseAt (a ∷ b ∷ c ∷ d ∷ numbers) (suc i) p
 parse-further a b c d numbers i p h =
     let e₀ : 4 * suc i ≡ suc (suc (suc (suc (4 * i)))) = omega arith in
     let e₁ : 4 * suc i + 1 ≡ suc (suc (suc (suc (4 * i + 1)))) = omega arith in
     let e₂ : 4 * suc i + 2 ≡ suc (suc (suc (suc (4 * i + 2)))) = omega arith in
     let e₃ : 4 * suc i + 3 ≡ suc (suc (suc (suc (4 * i + 3)))) = omega arith in
-    record { rest = rw e₀ (h .rest); level = rw e₁ (h .level); associativity = rw e₂ (h .associativity); value = rw e₃ (h .value) }
+    record {
+      rest = rw e₀ (h .rest);
+      level = rw e₁ (h .level);
+      associativity = rw e₂ (h .associativity);
+      value = rw e₃ (h .value);
+    }
 
-parses-in : (U : List (Parse ℕ)) (l : List ℕ) (d : Parse ℕ) (i : ℕ) → i < length U → ParseAt (parseNumbers U ++ l) i (getD U i d)
+parses-in : (U : List (Parse ℕ)) (l : List ℕ) (d : Parse ℕ) (i : ℕ) → i < length U →
+    ParseAt (parseNumbers U ++ l) i (getD U i d)
 unfolding parseNumbers
 parses-in [] l d i h = absurd (omega arith)
 parses-in (p ∷ U) l d zero h = record { rest = refl; level = refl; associativity = refl; value = refl }
 parses-in (p ∷ U) l d (suc i) h =
-    parse-further (p .rest) (p .level) (associativityNumber (p .associativity)) (p .value) (parseNumbers U ++ l) i (getD U i d)
-    (parses-in U l d i (omega arith))
+    parse-further (p .rest) (p .level) (associativityNumber (p .associativity)) (p .value) (parseNumbers U ++ l) i
+    (getD U i d) (parses-in U l d i (omega arith))
 
 parses-length : (U : List (Parse ℕ)) → length (parseNumbers U) ≡ 4 * length U
 unfolding parseNumbers

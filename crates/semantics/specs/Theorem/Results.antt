@@ -39,11 +39,13 @@ got (met number units) f e = absurd (met-ok e)
 got (ok a) f e = record { val = a; ran = refl; next = e }
 
 -- the same, handed to what follows
-pub after : {A B C : Type 0} (m : Result A) (f : A → Result B) {b : B} → (m >>= f) ≡ ok b → ((a : A) → m ≡ ok a → f a ≡ ok b → C) → C
+pub after : {A B C : Type 0} (m : Result A) (f : A → Result B) {b : B} → (m >>= f) ≡ ok b →
+    ((a : A) → m ≡ ok a → f a ≡ ok b → C) → C
 after m f e k = let g = got m f e in k (g .val) (g .ran) (g .next)
 
 -- a branch was taken: the test says which
-pub split : {A : Type 0} (b : Bool) (f g : Unit {0} → A) {r : A} → when b f g ≡ r → ((b ≡ true) × (f tt ≡ r)) ⊎ ((b ≡ false) × (g tt ≡ r))
+pub split : {A : Type 0} (b : Bool) (f g : Unit {0} → A) {r : A} → when b f g ≡ r →
+    ((b ≡ true) × (f tt ≡ r)) ⊎ ((b ≡ false) × (g tt ≡ r))
 split true f g e = inl (refl, e)
 split false f g e = inr (refl, e)
 
@@ -56,7 +58,8 @@ pub list-cases : {A X : Type 0} (l : List A) → (l ≡ [] → X) → ((a : A) (
 list-cases [] f g = f refl
 list-cases (a ∷ l) f g = g a l refl
 
-pub governor-cases : {X : Type 0} (g : Governor) → ((m : ℕ) → g ≡ minimum m → X) → ((i : ℕ) (f : Use) (Q : Path) → g ≡ same-start i f Q → X) → X
+pub governor-cases : {X : Type 0} (g : Governor) → ((m : ℕ) → g ≡ minimum m → X) →
+    ((i : ℕ) (f : Use) (Q : Path) → g ≡ same-start i f Q → X) → X
 governor-cases (minimum m) f g = f m refl
 governor-cases (same-start i u Q) f g = g i u Q refl
 
@@ -64,8 +67,9 @@ pub after-cases : {X : Type 0} (a : After) → ((y : ℕ) → a ≡ goes y → X
 after-cases (goes y) f g = f y refl
 after-cases (halts y) f g = g y refl
 
-pub taken-cases : {X : Type 0} (k : Taken) → (k ≡ Taken.nothing → X) → ((t : Token) → k ≡ Taken.token t → X) → ((M : ℕ) → k ≡ Taken.child M → X) →
-    ((M : ℕ) → k ≡ Taken.optional M → X) → ((comma : Bool) (M : ℕ) (close : Option ℕ) (y : ℕ) → k ≡ Taken.list comma M close y → X) →
+pub taken-cases : {X : Type 0} (k : Taken) → (k ≡ Taken.nothing → X) → ((t : Token) → k ≡ Taken.token t → X) →
+    ((M : ℕ) → k ≡ Taken.child M → X) → ((M : ℕ) → k ≡ Taken.optional M → X) →
+    ((comma : Bool) (M : ℕ) (close : Option ℕ) (y : ℕ) → k ≡ Taken.list comma M close y → X) →
     ((y : ℕ) → k ≡ Taken.unopened y → X) → X
 taken-cases Taken.nothing n t c o l u = n refl
 taken-cases (Taken.token a) n t c o l u = t a refl
@@ -76,7 +80,8 @@ taken-cases (Taken.unopened y) n t c o l u = u y refl
 
 -- ---- Parts of the run
 -- what is nested ran one level further in
-pub nested-run : {X : Type 0} (book : Book) (text : List ℕ) (inner : Option Runner) (s : State) (k : Runner → Result Parsed) {r : Parsed} →
+pub nested-run : {X : Type 0} (book : Book) (text : List ℕ) (inner : Option Runner) (s : State)
+    (k : Runner → Result Parsed) {r : Parsed} →
     nested book text inner s k ≡ ok r → ((f : Runner) → inner ≡ some f → k f ≡ ok r → X) → X
 unfolding nested
 nested-run book text none s k e h = absurd (met-ok e)

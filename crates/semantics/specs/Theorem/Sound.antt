@@ -11,15 +11,20 @@ use lib.Dec.{leb, eqb}
 use Rattle.characters.specs.Skipping.{skipFrom}
 use Rattle.book.specs.Book.{Book, nthNonterminal, nthVariant}
 use Rattle.semantics.specs.Values.{Tree, Trees, no-trees, Parse}
-use Rattle.semantics.specs.Uses.{Use, Path, base, useOf, hasMark, Governor, minimum, same-start, outwards, govern, governor, keeps}
+use Rattle.semantics.specs.Uses.{Use, Path, base, useOf, hasMark, Governor, minimum, same-start, outwards, govern}
+use Rattle.semantics.specs.Uses.{governor, keeps}
 use Rattle.semantics.specs.Tokens.{freeEnd, claimed}
 use Rattle.semantics.specs.Steps.{After, goes, halts, afterElement, Todo, elements, todoOf}
 use Rattle.semantics.specs.Derivations.{attempt, Derives, by-variant, by-governor, by-identifier}
-use Rattle.semantics.specs.Derivations.{Through, done, by-token, by-child, by-absent, by-one, by-list, by-unopened, by-stop, by-more, by-last, by-ending}
+use Rattle.semantics.specs.Derivations.{Through, done, by-token, by-child, by-absent, by-one, by-list}
+use Rattle.semantics.specs.Derivations.{by-unopened, by-stop, by-more, by-last, by-ending}
 use Rattle.semantics.specs.Theorem.Lists.{_∈_, sift-out, nth, only, either}
-use Rattle.semantics.specs.Theorem.BigStep.{Sets, Open, open′, around, inside, Follows, Left, onward, resume, named}
-use Rattle.semantics.specs.Theorem.BigStep.{Enters, again, identifier, quiet, barren, grown, Runs, runs, Rounds, last, more, Variants, no-more, too-low, taken}
-use Rattle.semantics.specs.Theorem.BigStep.{Steps, s-done, s-nothing, s-token, s-child, s-optional, s-list, s-unopened, s-elements, s-unclosed, s-ending}
+use Rattle.semantics.specs.Theorem.BigStep.{Sets, Open, open′, around, inside, Follows, Left, onward, resume}
+use Rattle.semantics.specs.Theorem.BigStep.{named}
+use Rattle.semantics.specs.Theorem.BigStep.{Enters, again, identifier, quiet, barren, grown, Runs, runs, Rounds}
+use Rattle.semantics.specs.Theorem.BigStep.{last, more, Variants, no-more, too-low, taken}
+use Rattle.semantics.specs.Theorem.BigStep.{Steps, s-done, s-nothing, s-token, s-child, s-optional, s-list}
+use Rattle.semantics.specs.Theorem.BigStep.{s-unopened, s-elements, s-unclosed, s-ending}
 use Rattle.semantics.specs.Theorem.BigStep.{Each, e-none, e-one}
 
 -- ---- A governor stands in the path
@@ -48,8 +53,8 @@ governor-stands : (P : Path) (scope N u : ℕ) → Stands P (governor P scope N 
 unfolding governor
 governor-stands [] scope N u = tt
 governor-stands (f ∷ P) scope N u =
-    govern-stands (eqb (f .nonterminal) N && (eqb (f .scope) scope && eqb (f .child) u)) (eqb (f .start) u) f P (governor P scope N u)
-    (governor-stands P scope N u)
+    govern-stands (eqb (f .nonterminal) N && (eqb (f .scope) scope && eqb (f .child) u)) (eqb (f .start) u) f P
+    (governor P scope N u) (governor-stands P scope N u)
 
 pub gov-at : (P : Path) (N u : ℕ) {i : ℕ} {f : Use} {Q : Path} → governor P base N u ≡ same-start i f Q → At P i f Q
 gov-at P N u e = subst (Stands P) e (governor-stands P base N u)
@@ -58,7 +63,9 @@ module _ (book : Book) (text : List ℕ) where
   -- ---- The stored sets
   -- those of the calls around hold parses of these calls' uses
   abbrev pub Truthful : Path → Sets → Type 0
-  Truthful P S = (i : ℕ) (f : Use) (Q : Path) → At P i f Q → (p : Parse Tree) → p ∈ nth S i → Derives book text Q (f .nonterminal) (f .start) p
+  Truthful P S =
+      (i : ℕ) (f : Use) (Q : Path) → At P i f Q → (p : Parse Tree) → p ∈ nth S i →
+      Derives book text Q (f .nonterminal) (f .start) p
 
   -- a call's own does
   abbrev pub Mine : Open → Type 0
@@ -79,23 +86,34 @@ module _ (book : Book) (text : List ℕ) where
     below : i < n
     is : k ≡ j + i
     high : leb m (nthVariant book k .level) ≡ true
-    way : Through book text (attempt (o .path) (o .nonterminal) (o .start) k p) (todoOf book (nthVariant book k)) (o .start) no-trees
+    way : Through book text (attempt (o .path) (o .nonterminal) (o .start) k p)
+        (todoOf book (nthVariant book k)) (o .start) no-trees
 
   way-first : {o : Open} {m n j : ℕ} {p : Parse Tree} → leb m (nthVariant book j .level) ≡ true →
-      Through book text (attempt (o .path) (o .nonterminal) (o .start) j p) (todoOf book (nthVariant book j)) (o .start) no-trees → Way o m (suc n) j p
+      Through book text (attempt (o .path) (o .nonterminal) (o .start) j p) (todoOf book (nthVariant book j)) (o .start)
+      no-trees → Way o m (suc n) j p
   way-first {j = j} e t = record { i = zero; k = j; below = omega arith; is = omega arith; high = e; way = t }
 
   way-later : {o : Open} {m n j : ℕ} {p : Parse Tree} → Way o m n (suc j) p → Way o m (suc n) j p
-  way-later w = record { i = suc (w .i); k = w .k; below = omega (arith, w .below); is = omega (arith, w .is); high = w .high; way = w .way }
+  way-later w = record {
+    i = suc (w .i);
+    k = w .k;
+    below = omega (arith, w .below);
+    is = omega (arith, w .is);
+    high = w .high;
+    way = w .way;
+  }
 
-  by-way : {P : Path} {S : Sets} {N u m : ℕ} {T : List (Parse Tree)} {p : Parse Tree} → governor P base N u ≡ minimum m →
-      Way (open′ P S N u T) m (nthNonterminal book N .count) (nthNonterminal book N .first) p → Derives book text P N u p
+  by-way : {P : Path} {S : Sets} {N u m : ℕ} {T : List (Parse Tree)} {p : Parse Tree} →
+      governor P base N u ≡ minimum m →
+      Way (open′ P S N u T) m (nthNonterminal book N .count) (nthNonterminal book N .first) p →
+      Derives book text P N u p
   by-way {P} {N = N} {u = u} {m = m} {p = p} e w =
       by-variant e (w .below) (subst (λ k. leb m (nthVariant book k .level) ≡ true) (w .is) (w .high))
       (subst (λ k. Through book text (attempt P N u k p) (todoOf book (nthVariant book k)) u no-trees) (w .is) (w .way))
 
-  by-named : {P : Path} {N u m : ℕ} {p : Parse Tree} → governor P base N u ≡ minimum m → hasMark book 2 N ≡ true → (b : Bool) →
-      claimed book text P base u ≡ b →
+  by-named : {P : Path} {N u m : ℕ} {p : Parse Tree} → governor P base N u ≡ minimum m → hasMark book 2 N ≡ true →
+      (b : Bool) → claimed book text P base u ≡ b →
       (end : Option ℕ) → freeEnd book text u ≡ end → p ∈ cond b [] (named book text end u) → Derives book text P N u p
   by-named g k true c end e m = absurd (List·Memᴰ·not-nil m)
   by-named g k false c none e m = absurd (List·Memᴰ·not-nil m)
@@ -112,45 +130,56 @@ module _ (book : Book) (text : List ℕ) where
     found : q ∈ Q
     way : ThroughLeft (o .path) (o .nonterminal) (o .start) j (resume book text c q) p
 
-  followed-later : {o : Open} {j : ℕ} {c : Follows} {q : Parse Tree} {Q : List (Parse Tree)} {p : Parse Tree} → Followed o j c Q p → Followed o j c (q ∷ Q) p
+  followed-later : {o : Open} {j : ℕ} {c : Follows} {q : Parse Tree} {Q : List (Parse Tree)} {p : Parse Tree} →
+      Followed o j c Q p → Followed o j c (q ∷ Q) p
   followed-later f = record { q = f .q; found = List·Memᴰ·tail (f .found); way = f .way }
 
-  after-element : {P : Path} {N u j x M : ℕ} {comma : Bool} {values : Trees} {close : Option ℕ} {q p : Parse Tree} {rest : List (Todo Trees)} {items : Trees} →
-      Derives book text (useOf book N u j (skipFrom text x) ∷ P) M (skipFrom text x) q → (z : After) → afterElement text comma (q .rest) ≡ z →
+  after-element : {P : Path} {N u j x M : ℕ} {comma : Bool} {values : Trees} {close : Option ℕ} {q p : Parse Tree}
+      {rest : List (Todo Trees)} {items : Trees} →
+      Derives book text (useOf book N u j (skipFrom text x) ∷ P) M (skipFrom text x) q → (z : After) →
+      afterElement text comma (q .rest) ≡ z →
       ThroughLeft P N u j (onward book text z (q .value) comma M values close rest items) p →
       Through book text (attempt P N u j p) (elements comma M values close ∷ rest) x items
   after-element d (goes y) e t = by-more d e t
   after-element d (halts y) e t = by-last d e t
 
   mutual
-    pub s-enters : {P : Path} {S : Sets} {A : List Bool} {N u : ℕ} {R : List (Parse Tree)} {A′ : List Bool} → Enters book text P S A N u R A′ → Truthful P S →
-        (p : Parse Tree) → p ∈ R → Derives book text P N u p
+    pub s-enters : {P : Path} {S : Sets} {A : List Bool} {N u : ℕ} {R : List (Parse Tree)} {A′ : List Bool} →
+        Enters book text P S A N u R A′ → Truthful P S → (p : Parse Tree) → p ∈ R → Derives book text P N u p
     s-enters (again {P} {Q} {S} {N = N} {u = u} {i = i} {f = f} g r a) h p m =
         let n = sift-out (keeps f) (nth S i) (subst (λ l. p ∈ l) r m) in
         by-governor g (h i f Q (gov-at P N u g) p (n .0)) (n .1)
-    s-enters (identifier {P} {u = u} g k r a) h p m = by-named g k (claimed book text P base u) refl (freeEnd book text u) refl (subst (λ l. p ∈ l) r m)
+    s-enters (identifier {P} {u = u} g k r a) h p m =
+        by-named g k (claimed book text P base u) refl (freeEnd book text u) refl (subst (λ l. p ∈ l) r m)
     s-enters (quiet {P} {S} {N = N} {u = u} g k v b a) h p m = s-runs v g h (nothing-stored P S N u) p m
     s-enters (barren {P} {S} {N = N} {u = u} g k v r a) h p m = s-runs v g h (nothing-stored P S N u) p m
-    s-enters (grown {P} {S} {N = N} {u = u} g k v rs) h p m = s-rounds rs g h (λ q n. s-runs v g h (nothing-stored P S N u) q n) p m
+    s-enters (grown {P} {S} {N = N} {u = u} g k v rs) h p m =
+        s-rounds rs g h (λ q n. s-runs v g h (nothing-stored P S N u) q n) p m
 
-    s-runs : {P : Path} {S : Sets} {m N u : ℕ} {T : List (Parse Tree)} {B : List Bool} {R : List (Parse Tree)} {B′ : List Bool} →
+    s-runs : {P : Path} {S : Sets} {m N u : ℕ} {T : List (Parse Tree)} {B : List Bool}
+        {R : List (Parse Tree)} {B′ : List Bool} →
         Runs book text P S m N u T B R B′ → governor P base N u ≡ minimum m → Truthful P S → Mine (open′ P S N u T) →
         (p : Parse Tree) → p ∈ R → Derives book text P N u p
     s-runs (runs v) g h t p m = by-way g (s-variants v h t p m)
 
-    s-rounds : {P : Path} {S : Sets} {m N u : ℕ} {T : List (Parse Tree)} {B : List Bool} {U : List (Parse Tree)} {A′ : List Bool} →
+    s-rounds : {P : Path} {S : Sets} {m N u : ℕ} {T : List (Parse Tree)} {B : List Bool}
+        {U : List (Parse Tree)} {A′ : List Bool} →
         Rounds book text P S m N u T B U A′ → governor P base N u ≡ minimum m → Truthful P S → Mine (open′ P S N u T) →
         (p : Parse Tree) → p ∈ U → Derives book text P N u p
     s-rounds (last v sub e a) g h t p m = t p (subst (λ l. p ∈ l) e m)
-    s-rounds (more v j rs) g h t p m = s-rounds rs g h (λ q n. either (j .out q n) (λ l. t q l) (λ l. s-runs v g h t q l)) p m
+    s-rounds (more v j rs) g h t p m =
+        s-rounds rs g h (λ q n. either (j .out q n) (λ l. t q l) (λ l. s-runs v g h t q l)) p m
 
-    s-variants : {o : Open} {m n j : ℕ} {B : List Bool} {R : List (Parse Tree)} {B′ : List Bool} → Variants book text o m n j B R B′ →
+    s-variants : {o : Open} {m n j : ℕ} {B : List Bool} {R : List (Parse Tree)} {B′ : List Bool} →
+        Variants book text o m n j B R B′ →
         Truthful (o .path) (o .sets) → Mine o → (p : Parse Tree) → p ∈ R → Way o m n j p
     s-variants no-more h t p m = absurd (List·Memᴰ·not-nil m)
     s-variants (too-low low v) h t p m = way-later (s-variants v h t p m)
-    s-variants (taken high s v j) h t p m = either (j .out p m) (λ n. way-first high (s-steps s h t p n)) (λ n. way-later (s-variants v h t p n))
+    s-variants (taken high s v j) h t p m =
+        either (j .out p m) (λ n. way-first high (s-steps s h t p n)) (λ n. way-later (s-variants v h t p n))
 
-    s-steps : {o : Open} {j : ℕ} {todo : List (Todo Trees)} {x : ℕ} {items : Trees} {B : List Bool} {R : List (Parse Tree)} {B′ : List Bool} →
+    s-steps : {o : Open} {j : ℕ} {todo : List (Todo Trees)} {x : ℕ} {items : Trees} {B : List Bool}
+        {R : List (Parse Tree)} {B′ : List Bool} →
         Steps book text o j todo x items B R B′ → Truthful (o .path) (o .sets) → Mine o → (p : Parse Tree) → p ∈ R →
         Through book text (attempt (o .path) (o .nonterminal) (o .start) j p) todo x items
     s-steps (s-done r) h t p m = done (only r m)
@@ -168,13 +197,15 @@ module _ (book : Book) (text : List ℕ) where
     s-steps (s-elements {o} {j} {x} {comma = comma} s c es u) h t p m =
         either (u .out p m) (λ n. by-stop (s-steps s h t p n)) (λ n.
         let f = s-each es h t p n in
-        after-element (s-enters c (truthful o j (skipFrom text x) h t) (f .q) (f .found)) (afterElement text comma (f .q .rest)) refl (f .way))
+        after-element (s-enters c (truthful o j (skipFrom text x) h t) (f .q) (f .found))
+        (afterElement text comma (f .q .rest)) refl (f .way))
     s-steps (s-unclosed e) h t p m = absurd (List·Memᴰ·not-nil m)
     s-steps (s-ending e s) h t p m = by-ending e (s-steps s h t p m)
 
-    s-each : {o : Open} {j : ℕ} {c : Follows} {Q : List (Parse Tree)} {B : List Bool} {R : List (Parse Tree)} {B′ : List Bool} →
-        Each book text o j c Q B R B′ →
+    s-each : {o : Open} {j : ℕ} {c : Follows} {Q : List (Parse Tree)} {B : List Bool} {R : List (Parse Tree)}
+        {B′ : List Bool} → Each book text o j c Q B R B′ →
         Truthful (o .path) (o .sets) → Mine o → (p : Parse Tree) → p ∈ R → Followed o j c Q p
     s-each e-none h t p m = absurd (List·Memᴰ·not-nil m)
     s-each (e-one {q = q} s es u) h t p m =
-        either (u .out p m) (λ n. record { q = q; found = List·Memᴰ·head refl; way = s-steps s h t p n }) (λ n. followed-later (s-each es h t p n))
+        either (u .out p m) (λ n. record { q = q; found = List·Memᴰ·head refl; way = s-steps s h t p n })
+        (λ n. followed-later (s-each es h t p n))

@@ -13,18 +13,21 @@ use native.Mathlib.Omega.{arith}
 use lib.ListN.{length, getD, take, drop, length-append, length-take, length-drop}
 use lib.Seq.{length-take-le, split-at, append-snoc}
 use Rattle.semantics.specs.Values.{Tree, Trees}
-use Rattle.semantics.specs.Cells.{Cell, numbersOf, cellOf, cellsIn, Meaning, one, several, treeIn, treesIn, meaningOf, meanings}
-use Rattle.semantics.specs.Exact.{CellAt, StandsFor, StandsForTrees, variant, name, number, variable, absent, list, empty, chain}
+use Rattle.semantics.specs.Cells.{Cell, numbersOf, cellOf, cellsIn, Meaning, one, several, treeIn, treesIn}
+use Rattle.semantics.specs.Cells.{meaningOf, meanings}
+use Rattle.semantics.specs.Exact.{CellAt, StandsFor, StandsForTrees, variant, name, number, variable, absent}
+use Rattle.semantics.specs.Exact.{list, empty, chain}
 use Rattle.semantics.specs.Theorem.Meanings.{cellAt, cell-still, new-cell, new-meaning}
-use Rattle.semantics.specs.Theorem.Table.{Table, no-cells, one-more, Fits, Placed, Prefix, prefix-placed, meaning, still, earlier, last-or-earlier, last-meaning}
+use Rattle.semantics.specs.Theorem.Table.{Table, no-cells, one-more, Fits, Placed, Prefix, prefix-placed, meaning}
+use Rattle.semantics.specs.Theorem.Table.{still, earlier, last-or-earlier, last-meaning}
 
 -- ---- The cells that numbers hold
 record Cells (D : List Cell) (i : ℕ) (c : Cell) : Type 0 where
   inside : i < length D
   is : getD D i Cell.empty ≡ c
 
-cells-held : (i : ℕ) (cells : List ℕ) {form a b : ℕ} → 3 * i + 3 ≤ length cells → take 3 (drop (3 * i) cells) ≡ form ∷ a ∷ b ∷ [] →
-    Cells (cellsIn cells) i (cellOf form a b)
+cells-held : (i : ℕ) (cells : List ℕ) {form a b : ℕ} → 3 * i + 3 ≤ length cells →
+    take 3 (drop (3 * i) cells) ≡ form ∷ a ∷ b ∷ [] → Cells (cellsIn cells) i (cellOf form a b)
 unfolding cellsIn
 cells-held i [] room e = absurd (omega arith)
 cells-held i (x ∷ []) room e = absurd (omega arith)
@@ -113,7 +116,10 @@ module _ (text cells : List ℕ) where
         let r = reads n at in
         let m = chain-means items in
         let k = stands-means t in
-        record { least = at .least; is = r .is ∙ rw (r .kept c (m .least) less ∙ m .is, r .kept item (k .least) less′ ∙ k .is) }
+        record {
+          least = at .least;
+          is = r .is ∙ rw (r .kept c (m .least) less ∙ m .is, r .kept item (k .least) less′ ∙ k .is);
+        }
 
   -- a cell stands for one tree at most
   pub stands-once : {n : ℕ} {t t′ : Tree} → StandsFor text cells n t → StandsFor text cells n t′ → t ≡ t′
@@ -131,8 +137,10 @@ module _ (text numbers : List ℕ) where
     pub at : (n : ℕ) → Placed C n → CellAt numbers n (numbersOf (cellAt C n))
 
   -- a new cell stands for its meaning, if those before it do
-  new-stands : (C : List Cell) (c : Cell) → Fits text C c → ((n : ℕ) → Placed C n → Standing text numbers n (meaning text C n)) →
-      CellAt numbers (suc (length C)) (numbersOf c) → Standing text numbers (suc (length C)) (meaningOf text (meanings text [] C) c)
+  new-stands : (C : List Cell) (c : Cell) → Fits text C c →
+      ((n : ℕ) → Placed C n → Standing text numbers n (meaning text C n)) →
+      CellAt numbers (suc (length C)) (numbersOf c) →
+      Standing text numbers (suc (length C)) (meaningOf text (meanings text [] C) c)
   unfolding Fits meaningOf numbersOf treesIn treeIn
   new-stands C Cell.empty f before at = empty at
   new-stands C (Cell.chain c item) f before at =
@@ -145,7 +153,8 @@ module _ (text numbers : List ℕ) where
   new-stands C (Cell.number high low) f before at = number at (f .0) (f .1) refl
   new-stands C (Cell.variable i kind) f before at = variable at
   new-stands C Cell.absent f before at = absent at
-  new-stands C (Cell.list c) f before at = rw (f .is) (list at (omega (arith, f .placed .most)) (rw (f .is) at (before c (f .placed))))
+  new-stands C (Cell.list c) f before at =
+      rw (f .is) (list at (omega (arith, f .placed .most)) (rw (f .is) at (before c (f .placed))))
 
   -- one more cell behind others
   module _ (C : List Cell) (c : Cell) {C′ : List Cell} (e : C′ ≡ C ++ (c ∷ [])) where
@@ -163,7 +172,8 @@ module _ (text numbers : List ℕ) where
     more f before l n (inr h) = rw (still text (earlier text C c e) n h) (before n h)
 
   -- so every cell of a table stands for its meaning
-  pub table-stands : {C : List Cell} → Table text C → Listed C → (n : ℕ) → Placed C n → Standing text numbers n (meaning text C n)
+  pub table-stands : {C : List Cell} → Table text C → Listed C → (n : ℕ) → Placed C n →
+      Standing text numbers n (meaning text C n)
   table-stands no-cells l n h = let least = h .least in let most = h .most in absurd (omega arith)
   table-stands (one-more C c t f new e) l n h =
       more C c e f (λ k p. table-stands t (listed-before C c e l) k p) l n (last-or-earlier text C c e n h)

@@ -19,14 +19,17 @@ use Rattle.characters.specs.SpellingLaws.{same-equal, same-itself}
 use Rattle.semantics.specs.Cells.{Cell, identityOf, meaningOf, meanings, findCell}
 use Rattle.semantics.specs.Run.{ok, State, Made, make}
 use Rattle.semantics.specs.Theorem.Results.{met-ok, ok-inj}
-use Rattle.semantics.specs.Theorem.Meanings.{cellAt, cell-still, new-cell, fits-still, means-still, new-meaning, same-meaning, Single, same-identity}
-pub use Rattle.semantics.specs.Theorem.Meanings.{meaning, Placed, Item, Chain, Prefix, prefix-refl, prefix-then, prefix-placed, still, item-still, chain-still}
+use Rattle.semantics.specs.Theorem.Meanings.{cellAt, cell-still, new-cell, fits-still, means-still, new-meaning}
+use Rattle.semantics.specs.Theorem.Meanings.{same-meaning, Single, same-identity}
+pub use Rattle.semantics.specs.Theorem.Meanings.{meaning, Placed, Item, Chain, Prefix, prefix-refl, prefix-then}
+pub use Rattle.semantics.specs.Theorem.Meanings.{prefix-placed, still, item-still, chain-still}
 unfoldable pub use Rattle.semantics.specs.Theorem.Meanings.{Fits}
 
 -- cells made one after the other, equal ones once
 pub data Table (text : List ℕ) : List Cell → Type 0 where
   no-cells : Table text []
-  one-more : (C : List Cell) (c : Cell) {C′ : List Cell} → Table text C → Fits text C c → findCell text c 1 C ≡ 0 → C′ ≡ C ++ (c ∷ []) → Table text C′
+  one-more : (C : List Cell) (c : Cell) {C′ : List Cell} → Table text C → Fits text C c → findCell text c 1 C ≡ 0 →
+      C′ ≡ C ++ (c ∷ []) → Table text C′
 
 -- making a cell changes nothing but the cells, and only adds to them
 pub record Grows (s t : State) : Type 0 where
@@ -78,11 +81,15 @@ module _ (text : List ℕ) where
     at-more f before n (inr h) = at-still earlier n h (before n h)
 
     single-more : Single text C → ((n : ℕ) → Placed C n → meaning text C n ≡ meaningOf text (meanings text [] C) c → ⊥)
-        → (n k : ℕ) → (n ≡ suc (length C)) ⊎ Placed C n → (k ≡ suc (length C)) ⊎ Placed C k → meaning text C′ n ≡ meaning text C′ k → n ≡ k
+        → (n k : ℕ) → (n ≡ suc (length C)) ⊎ Placed C n → (k ≡ suc (length C)) ⊎ Placed C k →
+        meaning text C′ n ≡ meaning text C′ k → n ≡ k
     single-more before differs n k (inl a) (inl b) d = a ∙ sym b
-    single-more before differs n k (inl a) (inr b) d = absurd (differs k b (sym (still text earlier k b) ∙ sym d ∙ last-meaning n a))
-    single-more before differs n k (inr a) (inl b) d = absurd (differs n a (sym (still text earlier n a) ∙ d ∙ last-meaning k b))
-    single-more before differs n k (inr a) (inr b) d = before .one-only n k a b (sym (still text earlier n a) ∙ d ∙ still text earlier k b)
+    single-more before differs n k (inl a) (inr b) d =
+        absurd (differs k b (sym (still text earlier k b) ∙ sym d ∙ last-meaning n a))
+    single-more before differs n k (inr a) (inl b) d =
+        absurd (differs n a (sym (still text earlier n a) ∙ d ∙ last-meaning k b))
+    single-more before differs n k (inr a) (inr b) d =
+        before .one-only n k a b (sym (still text earlier n a) ∙ d ∙ still text earlier k b)
 
   table-at : {C : List Cell} → Table text C → (n : ℕ) → Placed C n → At C n
   table-at no-cells n h = let least = h .least in let most = h .most in absurd (omega arith)
@@ -98,7 +105,8 @@ module _ (text : List ℕ) where
     unfolding findCell
     found-first t = rw (t, findCell)
 
-    found-later : same (identityOf text c) (identityOf text d) ≡ false → findCell text c n (d ∷ C) ≡ findCell text c (suc n) C
+    found-later : same (identityOf text c) (identityOf text d) ≡ false →
+        findCell text c n (d ∷ C) ≡ findCell text c (suc n) C
     unfolding findCell
     found-later t = rw (t, findCell)
 
@@ -106,7 +114,8 @@ module _ (text : List ℕ) where
   abbrev Equal : Cell → List Cell → ℕ → Type 0
   Equal c C n = identityOf text c ≡ identityOf text (cellAt C n)
 
-  none-found : (c : Cell) (C : List Cell) (n : ℕ) → 0 < n → findCell text c n C ≡ 0 → (i : ℕ) → i < length C → Equal c C (suc i) → ⊥
+  none-found : (c : Cell) (C : List Cell) (n : ℕ) → 0 < n → findCell text c n C ≡ 0 → (i : ℕ) →
+      i < length C → Equal c C (suc i) → ⊥
   none-found c [] n l e i h equal = omega arith
   none-found c (d ∷ C) n l e i h equal =
       by-test (same (identityOf text c) (identityOf text d))
@@ -131,7 +140,12 @@ module _ (text : List ℕ) where
       by-test (same (identityOf text c) (identityOf text d))
       (λ t.
       rw (found-first c d C n t)
-      (record { place = 0; is = omega arith; inside = omega arith; equal = same-equal (identityOf text c) (identityOf text d) t }))
+      (record {
+        place = 0;
+        is = omega arith;
+        inside = omega arith;
+        equal = same-equal (identityOf text c) (identityOf text d) t;
+      }))
       (λ t.
       let rest = found-later c d C n t in
       let f = one-found c C (suc n) (λ z. h (rest ∙ z)) in
@@ -146,17 +160,20 @@ module _ (text : List ℕ) where
   new-differs C c t single f new zero h e = let least = h .least in omega arith
   new-differs C c t single f new (suc i) h e =
       let a = table-at t (suc i) h in
-      none-found c C 1 (omega arith) new i (h .most) (same-identity text C single c (cellAt C (suc i)) f (a .fits) (sym e ∙ a .is))
+      none-found c C 1 (omega arith) new i (h .most)
+      (same-identity text C single c (cellAt C (suc i)) f (a .fits) (sym e ∙ a .is))
 
   table-single : {C : List Cell} → Table text C → Single text C
-  table-single no-cells = record { one-only = λ n k a b e. let least = a .least in let most = a .most in absurd (omega arith) }
+  table-single no-cells =
+      record { one-only = λ n k a b e. let least = a .least in let most = a .most in absurd (omega arith) }
   table-single (one-more C c t f new e) = record {
     one-only = λ n k a b d.
         single-more C c e (table-single t) (λ i h same-as. new-differs C c t (table-single t) f new i h same-as) n k
         (last-or-earlier C c e n a) (last-or-earlier C c e k b) d;
   }
 
-  pub same-cell : (C : List Cell) → Table text C → (n k : ℕ) → Placed C n → Placed C k → meaning text C n ≡ meaning text C k → n ≡ k
+  pub same-cell : (C : List Cell) → Table text C → (n k : ℕ) → Placed C n → Placed C k →
+      meaning text C n ≡ meaning text C k → n ≡ k
   same-cell C h n k a b e = table-single h .one-only n k a b e
 
   -- ---- Making a cell
@@ -168,8 +185,8 @@ module _ (text : List ℕ) where
     cells : m .state .cells ≡ s .cells ++ (c ∷ [])
     asked : m .state .asked ≡ s .asked
 
-  make-cases : {P : Type 0} (c : Cell) (s : State) (m : Made) → make text c s ≡ ok m → (Found c (s .cells) 1 (m .cell) → m .state ≡ s → P) →
-      (New c s m → P) → P
+  make-cases : {P : Type 0} (c : Cell) (s : State) (m : Made) → make text c s ≡ ok m →
+      (Found c (s .cells) 1 (m .cell) → m .state ≡ s → P) → (New c s m → P) → P
   unfolding make
   make-cases c s m e old new =
       by-test (eqb (findCell text c 1 (s .cells)) 0)
@@ -189,7 +206,8 @@ module _ (text : List ℕ) where
       (λ t.
       let there = ok-inj (rw t at e) in
       let number = ap (λ (x : Made). x .cell) there in
-      old (rw number at (one-found c (s .cells) 1 (eqb-false (findCell text c 1 (s .cells)) 0 t))) (sym (ap (λ (x : Made). x .state) there)))
+      old (rw number at (one-found c (s .cells) 1 (eqb-false (findCell text c 1 (s .cells)) 0 t)))
+      (sym (ap (λ (x : Made). x .state) there)))
 
   pub make-grows : (c : Cell) (s : State) (m : Made) → make text c s ≡ ok m → Grows s (m .state)
   make-grows c s m e =
@@ -198,11 +216,13 @@ module _ (text : List ℕ) where
       (λ new. record { prefix = record { more = c ∷ []; is = new .cells }; asked = new .asked })
 
   -- "a 4,097th cell" is never made
-  pub make-most : (c : Cell) (s : State) (m : Made) → make text c s ≡ ok m → length (s .cells) ≤ 4096 → length (m .state .cells) ≤ 4096
+  pub make-most : (c : Cell) (s : State) (m : Made) → make text c s ≡ ok m → length (s .cells) ≤ 4096 →
+      length (m .state .cells) ≤ 4096
   make-most c s m e h =
       make-cases c s m e
       (λ f old. rw old h)
-      (λ new. let room = new .room in let lengths = ap length (new .cells) ∙ length-append (s .cells) (c ∷ []) in omega arith)
+      (λ new.
+      let room = new .room in let lengths = ap length (new .cells) ∙ length-append (s .cells) (c ∷ []) in omega arith)
 
   -- cell n is there, and is the same as c
   record Stored (c : Cell) (C : List Cell) (n : ℕ) : Type 0 where
@@ -217,7 +237,10 @@ module _ (text : List ℕ) where
   stored-new : (c : Cell) (C : List Cell) → Stored c (C ++ (c ∷ [])) (suc (length C))
   stored-new c C =
       let lengths = length-append C (c ∷ []) in
-      record { placed = record { least = omega arith; most = omega arith }; equal = ap (identityOf text) (sym (new-cell C c)) }
+      record {
+        placed = record { least = omega arith; most = omega arith };
+        equal = ap (identityOf text) (sym (new-cell C c));
+      }
 
   stored-made : (c : Cell) (s : State) (m : Made) → make text c s ≡ ok m → Stored c (m .state .cells) (m .cell)
   stored-made c s m e =
@@ -226,23 +249,30 @@ module _ (text : List ℕ) where
       (λ new. rw (new .number, new .cells) (stored-new c (s .cells)))
 
   stored-still : {C C′ : List Cell} → Prefix C C′ → (c : Cell) (n : ℕ) → Stored c C n → Stored c C′ n
-  stored-still p c n h = record { placed = prefix-placed p n (h .placed); equal = h .equal ∙ ap (identityOf text) (sym (cell-still p n (h .placed))) }
+  stored-still p c n h = record {
+    placed = prefix-placed p n (h .placed);
+    equal = h .equal ∙ ap (identityOf text) (sym (cell-still p n (h .placed)));
+  }
 
-  stored-means : {C : List Cell} → Table text C → (c : Cell) (n : ℕ) → Stored c C n → meaning text C n ≡ meaningOf text (meanings text [] C) c
-  stored-means {C} t c n h = table-at t n (h .placed) .is ∙ same-meaning text (meanings text [] C) (cellAt C n) c (sym (h .equal))
+  stored-means : {C : List Cell} → Table text C → (c : Cell) (n : ℕ) → Stored c C n →
+      meaning text C n ≡ meaningOf text (meanings text [] C) c
+  stored-means {C} t c n h =
+      table-at t n (h .placed) .is ∙ same-meaning text (meanings text [] C) (cellAt C n) c (sym (h .equal))
 
   pub record MakeOk (c : Cell) (s : State) (m : Made) : Type 0 where
     pub table : Table text (m .state .cells)
     pub placed : Placed (m .state .cells) (m .cell)
     pub means : meaning text (m .state .cells) (m .cell) ≡ meaningOf text (meanings text [] (s .cells)) c
 
-  make-table : (c : Cell) (s : State) (m : Made) → Table text (s .cells) → Fits text (s .cells) c → make text c s ≡ ok m → Table text (m .state .cells)
+  make-table : (c : Cell) (s : State) (m : Made) → Table text (s .cells) → Fits text (s .cells) c →
+      make text c s ≡ ok m → Table text (m .state .cells)
   make-table c s m h f e =
       make-cases c s m e
       (λ found old. rw (ap (λ (x : State). x .cells) old) h)
       (λ new. one-more (s .cells) c h f (new .missing) (new .cells))
 
-  pub make-ok : (c : Cell) (s : State) (m : Made) → Table text (s .cells) → Fits text (s .cells) c → make text c s ≡ ok m → MakeOk c s m
+  pub make-ok : (c : Cell) (s : State) (m : Made) → Table text (s .cells) → Fits text (s .cells) c →
+      make text c s ≡ ok m → MakeOk c s m
   make-ok c s m h f e =
       let table = make-table c s m h f e in
       let stored = stored-made c s m e in
@@ -250,6 +280,6 @@ module _ (text : List ℕ) where
       record { table = table; placed = stored .placed; means = means }
 
   -- a cell that was made on the way to a table stands, in that table, for what it was made of
-  pub make-means : (Cf : List Cell) → Table text Cf → (c : Cell) (s : State) (m : Made) → make text c s ≡ ok m → Prefix (m .state .cells) Cf →
-      meaning text Cf (m .cell) ≡ meaningOf text (meanings text [] Cf) c
+  pub make-means : (Cf : List Cell) → Table text Cf → (c : Cell) (s : State) (m : Made) → make text c s ≡ ok m →
+      Prefix (m .state .cells) Cf → meaning text Cf (m .cell) ≡ meaningOf text (meanings text [] Cf) c
   make-means Cf h c s m e p = stored-means h c (m .cell) (stored-still p c (m .cell) (stored-made c s m e))

@@ -21,15 +21,19 @@ use Rattle.semantics.specs.Steps.{Item, Token, Taken, stepAt}
 use Rattle.semantics.specs.Theorem.Results.{none-some, some-inj, option-cases}
 
 -- ---- Identifiers
-identifier-told : (text : List ℕ) (at end : ℕ) (i : Identifier) → identifierAt text at ≡ i → identifierEnd text at ≡ some end → (at < end) × (end ≤ length text)
+identifier-told : (text : List ℕ) (at end : ℕ) (i : Identifier) → identifierAt text at ≡ i →
+    identifierEnd text at ≡ some end → (at < end) × (end ≤ length text)
 unfolding identifierEnd
-identifier-told text at end (Identifier.Ends y) e q = identifier-bounds text at end (e ∙ ap Identifier.Ends (some-inj (rw (e, identifierEnd) at q)))
+identifier-told text at end (Identifier.Ends y) e q =
+    identifier-bounds text at end (e ∙ ap Identifier.Ends (some-inj (rw (e, identifierEnd) at q)))
 identifier-told text at end Identifier.Nothing e q = absurd (none-some (rw (e, identifierEnd) at q))
 
-pub identifier-within : (text : List ℕ) (at end : ℕ) → identifierEnd text at ≡ some end → (at < end) × (end ≤ length text)
+pub identifier-within : (text : List ℕ) (at end : ℕ) → identifierEnd text at ≡ some end →
+    (at < end) × (end ≤ length text)
 identifier-within text at end q = identifier-told text at end (identifierAt text at) refl q
 
-pub free-end-within : (book : Book) (text : List ℕ) (at end : ℕ) → freeEnd book text at ≡ some end → (at < end) × (end ≤ length text)
+pub free-end-within : (book : Book) (text : List ℕ) (at end : ℕ) → freeEnd book text at ≡ some end →
+    (at < end) × (end ≤ length text)
 unfolding freeEnd
 free-end-within book text at end q =
     by-test (reservedAt book text at)
@@ -63,7 +67,8 @@ module _ (book : Book) (text : List ℕ) (x : ℕ) where
 
   step-fits : (step : Step) → TakenFits text (stepAt book text step x)
   unfolding stepAt
-  step-fits (Step.Character a) = option-cases (characterEnd text a x) (λ e. rw (e, stepAt) tt) (λ end e. rw (e, stepAt) tt)
+  step-fits (Step.Character a) =
+      option-cases (characterEnd text a x) (λ e. rw (e, stepAt) tt) (λ end e. rw (e, stepAt) tt)
   step-fits (Step.Word a) =
       option-cases (identifierEnd text (skipFrom text x))
       (λ e. rw (e, stepAt) tt)
@@ -75,19 +80,24 @@ module _ (book : Book) (text : List ℕ) (x : ℕ) where
       (λ e. rw (e, stepAt) tt)
       (λ end e. let w = free-end-within book text (skipFrom text x) end e in rw (e, stepAt) (omega (arith, w .0, w .1)))
   step-fits Step.Number = number-fits (numberAt text (skipFrom text x)) refl
-  step-fits Step.Variable = option-cases (variableAt book text (skipFrom text x)) (λ e. rw (e, stepAt) tt) (λ v e. rw (e, stepAt) tt)
+  step-fits Step.Variable =
+      option-cases (variableAt book text (skipFrom text x)) (λ e. rw (e, stepAt) tt) (λ v e. rw (e, stepAt) tt)
   step-fits (Step.VariableOfKind a) =
       option-cases (variableAt book text (skipFrom text x))
       (λ e. rw (e, stepAt) tt)
       (λ v e. by-test (eqb (v .kind) a) (λ t. rw (e, t, stepAt) tt) (λ t. rw (e, t, stepAt) tt))
-  step-fits Step.RejectVariable = option-cases (variableAt book text (skipFrom text x)) (λ e. rw (e, stepAt) tt) (λ v e. rw (e, stepAt) tt)
-  step-fits Step.RejectReserved = by-test (reservedAt book text (skipFrom text x)) (λ t. rw (t, stepAt) tt) (λ t. rw (t, stepAt) tt)
+  step-fits Step.RejectVariable =
+      option-cases (variableAt book text (skipFrom text x)) (λ e. rw (e, stepAt) tt) (λ v e. rw (e, stepAt) tt)
+  step-fits Step.RejectReserved =
+      by-test (reservedAt book text (skipFrom text x)) (λ t. rw (t, stepAt) tt) (λ t. rw (t, stepAt) tt)
   step-fits (Step.Nonterminal M) = tt
   step-fits (Step.Optional M) = tt
   step-fits (Step.Many M) = tt
   step-fits (Step.CommaList M) = tt
-  step-fits (Step.Delimited M b c) = option-cases (characterEnd text b x) (λ e. rw (e, stepAt) tt) (λ y e. rw (e, stepAt) tt)
-  step-fits (Step.OptionalDelimited M b c) = option-cases (characterEnd text b x) (λ e. rw (e, stepAt) tt) (λ y e. rw (e, stepAt) tt)
+  step-fits (Step.Delimited M b c) =
+      option-cases (characterEnd text b x) (λ e. rw (e, stepAt) tt) (λ y e. rw (e, stepAt) tt)
+  step-fits (Step.OptionalDelimited M b c) =
+      option-cases (characterEnd text b x) (λ e. rw (e, stepAt) tt) (λ y e. rw (e, stepAt) tt)
 
   pub token-fits : (step : Step) (t : Token) → stepAt book text step x ≡ Taken.token t → AddsFit text (t .item)
   token-fits step t e = subst (TakenFits text) e (step-fits step)

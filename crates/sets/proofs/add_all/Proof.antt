@@ -9,7 +9,8 @@ use Rattle.sets.proofs.add_all.Statement.{statement}
 use Rattle.sets.proofs.add_all.Tie as tie
 
 abbrev Inv-loop : tie.InvT-loop
-Inv-loop numbers₀ into from at₀ left₀ numbers at left = (length numbers ≡ length numbers₀) × Joining numbers₀ numbers into from at left
+Inv-loop numbers₀ into from at₀ left₀ numbers at left =
+    (length numbers ≡ length numbers₀) × Joining numbers₀ numbers into from at left
 
 abbrev μ-loop : tie.MeasureT-loop
 μ-loop numbers₀ into from at₀ left₀ numbers at left = left
@@ -42,7 +43,8 @@ returns c =
     let loop-test = c .before .before .before .before .before .before .before .loop-test in
     let parse-at = c .before .before .before .before .before .parse-at in
     let add = c .before .before .before .add in
-    joining-full _ _ _ _ _ _ _ (pre .2) (loop .inv .1) (loop-test .taken) _ (parse-at .ensures) _ (add .ensures) (not-true _ (c .if1 .taken))
+    joining-full _ _ _ _ _ _ _ (pre .2) (loop .inv .1) (loop-test .taken) _ (parse-at .ensures) _ (add .ensures)
+    (not-true _ (c .if1 .taken))
 
 add-at-2 : tie.Need-add-at-2 Inv-loop μ-loop
 add-at-2 c = omega arith
@@ -61,7 +63,8 @@ loop-again c =
     let loop-test = c .before .before .before .before .before .before .before .loop-test in
     let parse-at = c .before .before .before .before .before .parse-at in (
       add .kept .0 ∙ loop .inv .0,
-      joining-again _ _ _ _ _ _ _ (pre .2) (loop .inv .1) (loop-test .taken) _ (parse-at .ensures) _ (add .ensures) (not-false _ (c .if1 .left)),
+      joining-again _ _ _ _ _ _ _ (pre .2) (loop .inv .1) (loop-test .taken) _ (parse-at .ensures) _ (add .ensures)
+          (not-false _ (c .if1 .left)),
     )
 
 same-length-2 : tie.Need-same-length-2 Inv-loop μ-loop
@@ -74,18 +77,5 @@ pub add-all-spec : {M : Type 1} → statement M
 add-all-spec =
     tie.close
     (tie.spec
-    Inv-loop
-    μ-loop
-    add-at
-    size-requires
-    loop-holds
-    parse-at-requires
-    add-requires
-    same-length
-    returns
-    add-at-2
-    sub-left
-    loop-less
-    loop-again
-    same-length-2
-    returns-2)
+    Inv-loop μ-loop add-at size-requires loop-holds parse-at-requires add-requires same-length returns add-at-2 sub-left
+    loop-less loop-again same-length-2 returns-2)

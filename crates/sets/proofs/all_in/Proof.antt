@@ -25,8 +25,10 @@ size-requires c κs = omega arith
 
 loop-holds : tie.Need-loop-holds Inv-loop μ-loop
 loop-holds c =
-    let args = c .before .before .args in
-    (omega (arith, size-le (args .numbers .now) (args .from) _ (c .size .ensures)), rw (set-list _ _ _ (c .size .ensures)))
+    let args = c .before .before .args in (
+      omega (arith, size-le (args .numbers .now) (args .from) _ (c .size .ensures)),
+      rw (set-list _ _ _ (c .size .ensures)),
+    )
 
 parse-at-requires : tie.Need-parse-at-requires Inv-loop μ-loop
 parse-at-requires c κs = omega arith
@@ -39,7 +41,9 @@ returns c =
     let parse-at = c .before .before .parse-at in
     let loop-test = c .before .before .before .loop-test in
     let loop = c .before .before .before .before .loop in
-    sym (all-not _ _ _ _ _ (parse-at .ensures) (c .before .has .ensures) _ (loop-test .taken) (not-true _ (c .if1 .taken))) ∙ loop .inv .1
+    sym
+    (all-not _ _ _ _ _ (parse-at .ensures) (c .before .has .ensures) _ (loop-test .taken) (not-true _ (c .if1 .taken)))
+    ∙ loop .inv .1
 
 add-at-2 : tie.Need-add-at-2 Inv-loop μ-loop
 add-at-2 c = omega arith
@@ -56,7 +60,8 @@ loop-again c =
     let loop-test = c .before .before .before .loop-test in
     let loop = c .before .before .before .before .loop in (
       omega arith,
-      sym (all-on _ _ _ _ _ (parse-at .ensures) (c .before .has .ensures) _ (loop-test .taken) (not-false _ (c .if1 .left))) ∙ loop .inv .1,
+      sym (all-on _ _ _ _ _ (parse-at .ensures) (c .before .has .ensures) _ (loop-test .taken)
+          (not-false _ (c .if1 .left))) ∙ loop .inv .1,
     )
 
 returns-2 : tie.Need-returns-2 Inv-loop μ-loop
@@ -66,16 +71,5 @@ pub all-in-spec : {M : Type 1} → statement M
 all-in-spec =
     tie.close
     (tie.spec
-    Inv-loop
-    μ-loop
-    add-at
-    size-requires
-    loop-holds
-    parse-at-requires
-    has-requires
-    returns
-    add-at-2
-    sub-left
-    loop-less
-    loop-again
-    returns-2)
+    Inv-loop μ-loop add-at size-requires loop-holds parse-at-requires has-requires returns add-at-2 sub-left loop-less
+    loop-again returns-2)

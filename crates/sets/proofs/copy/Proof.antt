@@ -9,7 +9,8 @@ use Rattle.sets.proofs.copy.Statement.{statement}
 use Rattle.sets.proofs.copy.Tie as tie
 
 abbrev Inv-loop : tie.InvT-loop
-Inv-loop numbers₀ into from most i₀ numbers i = (most ≤ 257) × (length numbers ≡ length numbers₀) × Copying numbers₀ numbers into from i
+Inv-loop numbers₀ into from most i₀ numbers i =
+    (most ≤ 257) × (length numbers ≡ length numbers₀) × Copying numbers₀ numbers into from i
 
 abbrev μ-loop : tie.MeasureT-loop
 μ-loop numbers₀ into from most i₀ numbers i = most - i
@@ -59,8 +60,11 @@ loop-less c = omega arith
 loop-again : tie.Need-loop-again Inv-loop μ-loop
 loop-again c =
     let loop = c .before .before .loop in
-    let pre = c .before .before .before .before .before .before .pre in
-    (loop .inv .0, simp length-set (loop .inv .1), copying-again _ _ _ _ _ (pre .2) (loop .inv .2) (omega arith) (omega arith))
+    let pre = c .before .before .before .before .before .before .pre in (
+      loop .inv .0,
+      simp length-set (loop .inv .1),
+      copying-again _ _ _ _ _ (pre .2) (loop .inv .2) (omega arith) (omega arith),
+    )
 
 same-length : tie.Need-same-length Inv-loop μ-loop
 same-length c = c .before .loop .inv .1
@@ -74,20 +78,5 @@ pub copy-spec : {M : Type 1} → statement M
 copy-spec =
     tie.close
     (tie.spec
-    Inv-loop
-    μ-loop
-    size-requires
-    mul-most
-    add-most
-    loop-holds
-    add-numbers
-    mul-numbers
-    slice-read-numbers
-    add-numbers-2
-    mul-numbers-2
-    slice-write-numbers
-    add-i
-    loop-less
-    loop-again
-    same-length
-    returns)
+    Inv-loop μ-loop size-requires mul-most add-most loop-holds add-numbers mul-numbers slice-read-numbers add-numbers-2
+    mul-numbers-2 slice-write-numbers add-i loop-less loop-again same-length returns)

@@ -25,8 +25,10 @@ size-requires c κs = omega arith
 
 loop-holds : tie.Need-loop-holds Inv-loop μ-loop
 loop-holds c =
-    let args = c .before .before .args in
-    (omega (arith, size-le (args .numbers .now) (args .place) _ (c .size .ensures)), rw (set-list _ _ _ (c .size .ensures)))
+    let args = c .before .before .args in (
+      omega (arith, size-le (args .numbers .now) (args .place) _ (c .size .ensures)),
+      rw (set-list _ _ _ (c .size .ensures)),
+    )
 
 parse-at-requires : tie.Need-parse-at-requires Inv-loop μ-loop
 parse-at-requires c κs = omega arith
@@ -39,7 +41,8 @@ returns c =
     let parse-at = c .before .before .parse-at in
     let loop-test = c .before .before .before .loop-test in
     let loop = c .before .before .before .before .loop in
-    sym (has-hit _ _ _ _ _ (parse-at .ensures) (c .before .same-parse .ensures) _ (loop-test .taken) (c .if1 .taken)) ∙ loop .inv .1
+    sym (has-hit _ _ _ _ _ (parse-at .ensures) (c .before .same-parse .ensures) _ (loop-test .taken) (c .if1 .taken))
+    ∙ loop .inv .1
 
 add-at-2 : tie.Need-add-at-2 Inv-loop μ-loop
 add-at-2 c = omega arith
@@ -54,8 +57,11 @@ loop-again : tie.Need-loop-again Inv-loop μ-loop
 loop-again c =
     let parse-at = c .before .before .parse-at in
     let loop-test = c .before .before .before .loop-test in
-    let loop = c .before .before .before .before .loop in
-    (omega arith, sym (has-miss _ _ _ _ _ (parse-at .ensures) (c .before .same-parse .ensures) _ (loop-test .taken) (c .if1 .left)) ∙ loop .inv .1)
+    let loop = c .before .before .before .before .loop in (
+      omega arith,
+      sym (has-miss _ _ _ _ _ (parse-at .ensures) (c .before .same-parse .ensures) _ (loop-test .taken) (c .if1 .left))
+          ∙ loop .inv .1,
+    )
 
 returns-2 : tie.Need-returns-2 Inv-loop μ-loop
 returns-2 c = sym (has-none _ _ _ _ (c .loop-test .left)) ∙ c .before .loop .inv .1
@@ -64,16 +70,5 @@ pub has-spec : {M : Type 1} → statement M
 has-spec =
     tie.close
     (tie.spec
-    Inv-loop
-    μ-loop
-    add-at
-    size-requires
-    loop-holds
-    parse-at-requires
-    same-parse-requires
-    returns
-    add-at-2
-    sub-left
-    loop-less
-    loop-again
-    returns-2)
+    Inv-loop μ-loop add-at size-requires loop-holds parse-at-requires same-parse-requires returns add-at-2 sub-left
+    loop-less loop-again returns-2)

@@ -15,4 +15,5 @@ returns-3 c = rw (c .enum-told3 .given .1)
 pub keeps-level-spec : {M : Type 1} → statement M
 keeps-level-spec =
     tie.close
-    (tie.spec (λ c. search needs) (λ c. search needs) (λ c. search needs) (λ c. search needs) returns returns-2 returns-3 (λ c. search needs))
+    (tie.spec (λ c. search needs) (λ c. search needs) (λ c. search needs) (λ c. search needs) returns returns-2
+    returns-3 (λ c. search needs))

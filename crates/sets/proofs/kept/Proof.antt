@@ -47,10 +47,13 @@ loop-again : tie.Need-loop-again Inv-loop μ-loop
 loop-again c =
     let keep = c .before .before .keep in
     let loop = c .before .before .before .before .before .before .before .loop in
-    let pre = c .before .before .before .before .before .before .before .before .before .before .before .before .before .before .before .pre in
+    let pre = c .before .before .before .before .before .before .before .before .before .before .before .before
+    .before .before .before .pre in
     let loop-test = c .before .before .before .before .before .before .loop-test in
-    let parse-at = c .before .before .before .before .parse-at in
-    (keep .kept .0 ∙ loop .inv .0, keeping-again _ _ _ _ _ _ _ _ _ _ (pre .2) (loop .inv .1) (loop-test .taken) (parse-at .ensures) (keep .ensures))
+    let parse-at = c .before .before .before .before .parse-at in (
+      keep .kept .0 ∙ loop .inv .0,
+      keeping-again _ _ _ _ _ _ _ _ _ _ (pre .2) (loop .inv .1) (loop-test .taken) (parse-at .ensures) (keep .ensures),
+    )
 
 same-length : tie.Need-same-length Inv-loop μ-loop
 same-length c =
@@ -67,17 +70,5 @@ pub kept-spec : {M : Type 1} → statement M
 kept-spec =
     tie.close
     (tie.spec
-    Inv-loop
-    μ-loop
-    clear-requires
-    add-at
-    size-requires
-    loop-holds
-    parse-at-requires
-    keep-requires
-    add-at-2
-    sub-left
-    loop-less
-    loop-again
-    same-length
-    returns)
+    Inv-loop μ-loop clear-requires add-at size-requires loop-holds parse-at-requires keep-requires add-at-2 sub-left
+    loop-less loop-again same-length returns)

@@ -31,16 +31,11 @@ returns c =
 returns-2 : tie.Need-returns-2
 returns-2 c =
     let args = c .before .before .before .args in
-    sym (List·getD-eq-default (setAt (args .numbers .now) (args .place)) _ (rw (c .before .size .ensures) at (c .if1 .left)))
+    sym (List·getD-eq-default (setAt (args .numbers .now) (args .place)) _
+    (rw (c .before .size .ensures) at (c .if1 .left)))
 
 pub nth-parse-spec : {M : Type 1} → statement M
 nth-parse-spec =
     tie.close
     (tie.spec
-    (λ c κs. search needs)
-    (λ c. search needs)
-    mul-parse-at
-    add-parse-at-2
-    parse-at-requires
-    returns
-    returns-2)
+    (λ c κs. search needs) (λ c. search needs) mul-parse-at add-parse-at-2 parse-at-requires returns returns-2)

@@ -21,17 +21,6 @@ pub put-parse-spec : {M : Type 1} → statement M
 put-parse-spec =
     tie.close
     (tie.spec
-    (λ c. search needs)
-    (λ c. search needs)
-    (λ c. search needs)
-    (λ c. search needs)
-    slice-write-numbers-2
-    (λ c κs. search needs)
-    (λ c. search needs)
-    (λ c. search needs)
-    slice-write-numbers-3
-    (λ c. search needs)
-    (λ c. search needs)
-    slice-write-numbers-4
-    (λ c. search needs)
-    returns)
+    (λ c. search needs) (λ c. search needs) (λ c. search needs) (λ c. search needs) slice-write-numbers-2
+    (λ c κs. search needs) (λ c. search needs) (λ c. search needs) slice-write-numbers-3 (λ c. search needs)
+    (λ c. search needs) slice-write-numbers-4 (λ c. search needs) returns)

@@ -22,7 +22,13 @@ returns-3 c =
     let if2 = c .before .before .before .if2 in
     let associativity-number = c .before .before .associativity-number in
     let associativity-number2 = c .before .associativity-number2 in
-    rw (eq-eqb _ _ (if1 .left), eq-eqb _ _ (if2 .left), ← associativity-number .ensures, ← associativity-number2 .ensures, ne-eqb _ _ (c .if3 .taken))
+    rw (
+      eq-eqb _ _ (if1 .left),
+      eq-eqb _ _ (if2 .left),
+      ← associativity-number .ensures,
+      ← associativity-number2 .ensures,
+      ne-eqb _ _ (c .if3 .taken),
+    )
 
 returns-4 : tie.Need-returns-4
 unfolding sameParse
@@ -32,15 +38,16 @@ returns-4 c =
     let associativity-number = c .before .before .before .before .associativity-number in
     let associativity-number2 = c .before .before .before .associativity-number2 in
     let if3 = c .before .before .if3 in
-    rw (eq-eqb _ _ (if1 .left), eq-eqb _ _ (if2 .left), ← associativity-number .ensures, ← associativity-number2 .ensures, eq-eqb _ _ (if3 .left))
+    rw (
+      eq-eqb _ _ (if1 .left),
+      eq-eqb _ _ (if2 .left),
+      ← associativity-number .ensures,
+      ← associativity-number2 .ensures,
+      eq-eqb _ _ (if3 .left),
+    )
 
 pub same-parse-spec : {M : Type 1} → statement M
 same-parse-spec =
     tie.close
     (tie.spec
-    returns
-    returns-2
-    (λ c κs. search needs)
-    (λ c κs. search needs)
-    returns-3
-    returns-4)
+    returns returns-2 (λ c κs. search needs) (λ c κs. search needs) returns-3 returns-4)

@@ -11,7 +11,8 @@ use Rattle.book.proofs.checking.all_pass.Statement.{statement}
 use Rattle.book.proofs.checking.all_pass.Tie as tie
 
 abbrev Inv-loop : tie.InvT-loop
-Inv-loop book index next variants j₀ j = passFrom book index next j ≡ allPass (bookIn book index .steps) (placedIn book index) book next
+Inv-loop book index next variants j₀ j =
+    passFrom book index next j ≡ allPass (bookIn book index .steps) (placedIn book index) book next
 
 abbrev μ-loop : tie.MeasureT-loop
 μ-loop book index next variants j₀ j = variants - j
@@ -34,7 +35,8 @@ returns c =
     let count = c .before .before .before .before .before .count in
     let loop-test = c .before .before .before .loop-test in
     let passes = c .before .before .passes in
-    sym (loop .inv) ∙ pass-stop _ _ _ _ _ (count .ensures) (loop-test .taken) _ (c .place .ensures) (sym (passes .ensures) ∙ not-true _ (c .before .if1 .taken))
+    sym (loop .inv) ∙ pass-stop _ _ _ _ _ (count .ensures) (loop-test .taken) _ (c .place .ensures)
+    (sym (passes .ensures) ∙ not-true _ (c .before .if1 .taken))
 
 add-j : tie.Need-add-j Inv-loop μ-loop
 add-j c =
@@ -52,7 +54,8 @@ loop-again c =
     let count = c .before .before .before .before .count in
     let loop-test = c .before .before .loop-test in
     let loop = c .before .before .before .loop in
-    sym (pass-on _ _ _ _ _ (count .ensures) (loop-test .taken) (sym (c .before .passes .ensures) ∙ not-false _ (c .if1 .left))) ∙ loop .inv
+    sym (pass-on _ _ _ _ _ (count .ensures) (loop-test .taken)
+    (sym (c .before .passes .ensures) ∙ not-false _ (c .if1 .left))) ∙ loop .inv
 
 returns-2 : tie.Need-returns-2 Inv-loop μ-loop
 returns-2 c =
@@ -63,14 +66,5 @@ pub all-pass-spec : {M : Type 1} → statement M
 all-pass-spec =
     tie.close
     (tie.spec
-    Inv-loop
-    μ-loop
-    count-requires
-    loop-holds
-    passes-requires
-    place-requires
-    returns
-    add-j
-    loop-less
-    loop-again
+    Inv-loop μ-loop count-requires loop-holds passes-requires place-requires returns add-j loop-less loop-again
     returns-2)

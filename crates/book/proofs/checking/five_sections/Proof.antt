@@ -18,27 +18,20 @@ returns-2 c =
 
 returns-3 : tie.Need-returns-3
 returns-3 c =
-    let heads = c .before .before .before .before .before .before .before .before .before .before .before .before .before .before .before .before .heads in
-    let head = c .before .before .before .before .before .before .before .before .before .before .before .before .head in
+    let heads = c .before .before .before .before .before .before .before .before .before .before .before .before
+    .before .before .before .before .heads in
+    let head =
+    c .before .before .before .before .before .before .before .before .before .before .before .before .head in
     let variants = c .before .before .before .before .before .before .before .before .before .variants in
     let body = c .before .before .before .before .before .body in
     let steps = c .before .before .steps in
-    sections-all _ _ _ _ (heads .ensures) _ _ (head .given .1) _ _ (variants .ensures) _ _ (body .given .1) _ _ (steps .ensures)
+    sections-all _ _ _ _ (heads .ensures) _ _ (head .given .1) _ _ (variants .ensures) _ _
+    (body .given .1) _ _ (steps .ensures)
 
 pub five-sections-spec : {M : Type 1} → statement M
 five-sections-spec =
     tie.close
     (tie.spec
-    (λ c κs. search needs)
-    (λ c. search needs)
-    (λ c. search needs)
-    (λ c. search needs)
-    returns
-    (λ c κs. search needs)
-    (λ c. search needs)
-    (λ c. search needs)
-    (λ c. search needs)
-    returns-2
-    (λ c κs. search needs)
-    (λ c. search needs)
+    (λ c κs. search needs) (λ c. search needs) (λ c. search needs) (λ c. search needs) returns (λ c κs. search needs)
+    (λ c. search needs) (λ c. search needs) (λ c. search needs) returns-2 (λ c κs. search needs) (λ c. search needs)
     returns-3)

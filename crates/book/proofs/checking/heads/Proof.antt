@@ -18,27 +18,20 @@ returns-2 c =
 
 returns-3 : tie.Need-returns-3
 returns-3 c =
-    let section = c .before .before .before .before .before .before .before .before .before .before .before .before .before .before .before .before .section in
-    let words = c .before .before .before .before .before .before .before .before .before .before .before .before .words in
+    let section = c .before .before .before .before .before .before .before .before .before .before .before .before
+    .before .before .before .before .section in
+    let words =
+    c .before .before .before .before .before .before .before .before .before .before .before .before .words in
     let section2 = c .before .before .before .before .before .before .before .before .before .section2 in
     let names = c .before .before .before .before .before .names in
     let section3 = c .before .before .section3 in
-    heads-all _ _ _ _ (section .ensures) _ _ (words .given .1) _ _ (section2 .ensures) _ _ (names .given .1) _ _ (section3 .ensures)
+    heads-all _ _ _ _ (section .ensures) _ _ (words .given .1) _ _ (section2 .ensures) _ _
+    (names .given .1) _ _ (section3 .ensures)
 
 pub heads-spec : {M : Type 1} → statement M
 heads-spec =
     tie.close
     (tie.spec
-    (λ c κs. search needs)
-    (λ c. search needs)
-    (λ c. search needs)
-    (λ c. search needs)
-    returns
-    (λ c κs. search needs)
-    (λ c. search needs)
-    (λ c. search needs)
-    (λ c. search needs)
-    returns-2
-    (λ c κs. search needs)
-    (λ c. search needs)
+    (λ c κs. search needs) (λ c. search needs) (λ c. search needs) (λ c. search needs) returns (λ c κs. search needs)
+    (λ c. search needs) (λ c. search needs) (λ c. search needs) returns-2 (λ c κs. search needs) (λ c. search needs)
     returns-3)

@@ -11,14 +11,16 @@ returns c =
     let variant = c .before .before .before .before .before .variant in
     let if1 = c .before .before .before .before .if1 in
     let if2 = c .before .before .if2 in
-    passes-one (bookIn (args .book .now) (args .index .now) .steps) _ _ (variant .ensures) (if1 .taken) (if2 .taken) _ _ (c .before .step .ensures) (c .step-number .ensures)
+    passes-one (bookIn (args .book .now) (args .index .now) .steps) _ _ (variant .ensures) (if1 .taken) (if2 .taken) _ _
+    (c .before .step .ensures) (c .step-number .ensures)
 
 returns-2 : tie.Need-returns-2
 returns-2 c =
     let args = c .before .before .before .before .before .before .args in
     let variant = c .before .before .before .variant in
     let if1 = c .before .before .if1 in
-    passes-not-one (bookIn (args .book .now) (args .index .now) .steps) _ _ (variant .ensures) (if1 .taken) (c .if2 .left)
+    passes-not-one (bookIn (args .book .now) (args .index .now) .steps) _ _ (variant .ensures)
+    (if1 .taken) (c .if2 .left)
 
 returns-3 : tie.Need-returns-3
 returns-3 c =

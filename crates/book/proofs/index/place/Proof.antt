@@ -12,4 +12,6 @@ returns-2 c =
     sym (List·getD-eq-default (args .index .now) 0 (omega (arith, c .if1 .left)))
 
 pub place-spec : {M : Type 1} → statement M
-place-spec = tie.close (tie.spec (λ c. search needs) (λ c. search needs) (λ c. search needs) (λ c κs. search needs) (λ c. search needs) returns-2)
+place-spec =
+    tie.close (tie.spec (λ c. search needs) (λ c. search needs) (λ c. search needs) (λ c κs. search needs)
+    (λ c. search needs) returns-2)

@@ -9,4 +9,5 @@ returns-2 : tie.Need-returns-2
 returns-2 c = sym (set-out (c .before .args .index .now) (c .before .args .i) (c .before .args .number) (c .if1 .left))
 
 pub put-spec : {M : Type 1} → statement M
-put-spec = tie.close (tie.spec (λ c. search needs) (λ c. search needs) (λ c. search needs) (λ c. search needs) returns-2)
+put-spec =
+    tie.close (tie.spec (λ c. search needs) (λ c. search needs) (λ c. search needs) (λ c. search needs) returns-2)

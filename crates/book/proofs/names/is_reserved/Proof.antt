@@ -11,7 +11,8 @@ use Rattle.book.proofs.names.is_reserved.Statement.{statement}
 use Rattle.book.proofs.names.is_reserved.Tie as tie
 
 abbrev Inv-loop : tie.InvT-loop
-Inv-loop book index text start size wanted words i₀ i = isReserved (drop i (bookIn book index .words)) wanted ≡ isReserved (bookIn book index .words) wanted
+Inv-loop book index text start size wanted words i₀ i =
+    isReserved (drop i (bookIn book index .words)) wanted ≡ isReserved (bookIn book index .words) wanted
 
 abbrev μ-loop : tie.MeasureT-loop
 μ-loop book index text start size wanted words i₀ i = words - i
@@ -38,7 +39,10 @@ returns c =
     let loop = c .before .before .before .loop in
     let book = args .book .now in
     let index = args .index .now in
-    let hit = reserved-hit (part .result .now) (bookIn book index .words) (loop .i) (omega (arith, loop-test .taken, count .ensures, words-length book index)) (sym (c .before .reserved-as .ensures) ∙ c .if1 .taken) in
+    let hit =
+    reserved-hit (part .result .now) (bookIn book index .words) (loop .i)
+    (omega (arith, loop-test .taken, count .ensures, words-length book index))
+    (sym (c .before .reserved-as .ensures) ∙ c .if1 .taken) in
     sym (rw (part .ensures) at (sym (loop .inv) ∙ hit))
 
 add-i : tie.Need-add-i Inv-loop μ-loop
@@ -62,7 +66,9 @@ loop-again c =
     let loop = c .before .before .before .loop in
     let book = args .book .now in
     let index = args .index .now in
-    sym (reserved-on (part .result .now) (bookIn book index .words) (loop .i) (omega (arith, loop-test .taken, count .ensures, words-length book index)) (sym (c .before .reserved-as .ensures) ∙ c .if1 .left)) ∙ loop .inv
+    sym (reserved-on (part .result .now) (bookIn book index .words) (loop .i)
+    (omega (arith, loop-test .taken, count .ensures, words-length book index))
+    (sym (c .before .reserved-as .ensures) ∙ c .if1 .left)) ∙ loop .inv
 
 returns-2 : tie.Need-returns-2 Inv-loop μ-loop
 returns-2 c =
@@ -71,7 +77,9 @@ returns-2 c =
     let count = c .before .before .count in
     let book = args .book .now in
     let index = args .index .now in
-    let none-left = reserved-end (part .result .now) (bookIn book index .words) (c .before .loop .i) (omega (arith, c .loop-test .left, count .ensures, words-length book index)) in
+    let none-left =
+    reserved-end (part .result .now) (bookIn book index .words) (c .before .loop .i)
+    (omega (arith, c .loop-test .left, count .ensures, words-length book index)) in
     sym (rw (part .ensures) at (sym (c .before .loop .inv) ∙ none-left))
 
 pub is-reserved-spec : {M : Type 1} → statement M

@@ -10,7 +10,8 @@ use Rattle.book.proofs.names.lookup.Statement.{statement}
 use Rattle.book.proofs.names.lookup.Tie as tie
 
 abbrev Inv-loop : tie.InvT-loop
-Inv-loop book index text start size wanted names i₀ i = (i ≤ countIn index 129) × (lookupBelow book index wanted i ≡ lookupName (bookIn book index .names) wanted)
+Inv-loop book index text start size wanted names i₀ i =
+    (i ≤ countIn index 129) × (lookupBelow book index wanted i ≡ lookupName (bookIn book index .names) wanted)
 
 abbrev μ-loop : tie.MeasureT-loop
 μ-loop book index text start size wanted names i₀ i = i
@@ -26,8 +27,10 @@ loop-holds c =
     let args = c .before .before .before .before .before .args in
     let book = args .book .now in
     let index = args .index .now in
-    let wanted = c .before .part .result .now in
-    (omega (arith, c .count .ensures), ap (lookupBelow book index wanted) (c .count .ensures) ∙ sym (lookup-all book index wanted))
+    let wanted = c .before .part .result .now in (
+      omega (arith, c .count .ensures),
+      ap (lookupBelow book index wanted) (c .count .ensures) ∙ sym (lookup-all book index wanted),
+    )
 
 sub-last : tie.Need-sub-last Inv-loop μ-loop
 sub-last c = omega (arith, c .loop-test .taken, c .before .loop .inv .0, c .before .before .count .ensures)
@@ -49,7 +52,9 @@ returns c =
     let book = args .book .now in
     let index = args .index .now in
     let wanted = part .result .now in
-    let hit = lookup-hit book index wanted (loop .i) (loop-test .taken) (loop .inv .0) (c .label .result) (sym (spelled .ensures) ∙ c .before .if1 .taken) (c .label .ensures) in
+    let hit =
+    lookup-hit book index wanted (loop .i) (loop-test .taken) (loop .inv .0) (c .label .result)
+    (sym (spelled .ensures) ∙ c .before .if1 .taken) (c .label .ensures) in
     sym (rw (part .ensures) at (sym (loop .inv .1) ∙ hit))
 
 sub-i : tie.Need-sub-i Inv-loop μ-loop
@@ -71,8 +76,11 @@ loop-again c =
     let loop-test = c .before .before .loop-test in
     let book = args .book .now in
     let index = args .index .now in
-    let wanted = part .result .now in
-    (omega (arith, loop .inv .0), sym (lookup-on book index wanted (loop .i) (loop-test .taken) (loop .inv .0) (sym (c .before .spelled .ensures) ∙ c .if1 .left)) ∙ loop .inv .1)
+    let wanted = part .result .now in (
+      omega (arith, loop .inv .0),
+      sym (lookup-on book index wanted (loop .i) (loop-test .taken) (loop .inv .0)
+          (sym (c .before .spelled .ensures) ∙ c .if1 .left)) ∙ loop .inv .1,
+    )
 
 returns-2 : tie.Need-returns-2 Inv-loop μ-loop
 returns-2 c =
@@ -81,22 +89,12 @@ returns-2 c =
     let book = args .book .now in
     let index = args .index .now in
     let wanted = part .result .now in
-    sym (rw (part .ensures) at (sym (c .before .loop .inv .1) ∙ lookup-none book index wanted (c .before .loop .i) (c .loop-test .left)))
+    sym (rw (part .ensures)
+    at (sym (c .before .loop .inv .1) ∙ lookup-none book index wanted (c .before .loop .i) (c .loop-test .left)))
 
 pub lookup-spec : {M : Type 1} → statement M
 lookup-spec =
     tie.close
     (tie.spec
-    Inv-loop
-    μ-loop
-    part-requires
-    count-requires
-    loop-holds
-    sub-last
-    spelled-requires
-    label-requires
-    returns
-    sub-i
-    loop-less
-    loop-again
-    returns-2)
+    Inv-loop μ-loop part-requires count-requires loop-holds sub-last spelled-requires label-requires returns sub-i
+    loop-less loop-again returns-2)

@@ -21,4 +21,5 @@ returns-2 c =
 pub spelling-from-spec : {M : Type 1} → statement M
 spelling-from-spec =
     tie.close
-    (tie.spec (λ c. search needs) (λ c κs. search needs) (λ c κs. search needs) (λ c κs. search needs) returns returns-2)
+    (tie.spec (λ c. search needs) (λ c κs. search needs) (λ c κs. search needs)
+    (λ c κs. search needs) returns returns-2)

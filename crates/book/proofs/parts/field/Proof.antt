@@ -26,4 +26,5 @@ returns-4 c =
 
 pub field-spec : {M : Type 1} → statement M
 field-spec =
-    tie.close (tie.spec returns (λ c κs. search needs) (λ c. search needs) returns-2 returns-3 (λ c. search needs) returns-4)
+    tie.close
+    (tie.spec returns (λ c κs. search needs) (λ c. search needs) returns-2 returns-3 (λ c. search needs) returns-4)

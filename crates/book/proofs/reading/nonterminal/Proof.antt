@@ -11,7 +11,8 @@ returns c =
     let place = c .before .before .before .before .place in
     let byte-after = c .before .before .before .byte-after in
     let mark-of = c .before .before .mark-of in
-    nonterminal-in _ _ _ _ _ _ _ _ _ (count .ensures) (if1 .taken) (place .ensures) (byte-after .ensures) (mark-of .ensures) (c .before .first .ensures) (c .number-after .ensures)
+    nonterminal-in _ _ _ _ _ _ _ _ _ (count .ensures) (if1 .taken) (place .ensures) (byte-after .ensures)
+    (mark-of .ensures) (c .before .first .ensures) (c .number-after .ensures)
 
 returns-2 : tie.Need-returns-2
 returns-2 c = nonterminal-out _ _ _ _ (c .before .count .ensures) (c .if1 .left)
@@ -20,11 +21,5 @@ pub nonterminal-spec : {M : Type 1} → statement M
 nonterminal-spec =
     tie.close
     (tie.spec
-    (λ c κs. search needs)
-    (λ c κs. search needs)
-    (λ c κs. search needs)
-    (λ c κs. search needs)
-    (λ c κs. search needs)
-    (λ c κs. search needs)
-    returns
-    returns-2)
+    (λ c κs. search needs) (λ c κs. search needs) (λ c κs. search needs) (λ c κs. search needs) (λ c κs. search needs)
+    (λ c κs. search needs) returns returns-2)

@@ -53,7 +53,13 @@ returns-15 : tie.Need-returns-15
 returns-15 c =
     let args = c .before .before .before .args in
     let not-one-of = c .match .rest in
-    rw (lt-leb (args .kind) 13 (past 13 (past 12 (past 11 (past 10 (past 9 (past 8 (past 7 (past 6 (past 5 (past 4 (past 3 (past 2 (past 1 (past 0 (zero≤) (not-one-of .0 .0 .0 .0 .0 .0 .0 .0 .0 .0 .0 .0 .0 .1)) (not-one-of .0 .0 .0 .0 .0 .0 .0 .0 .0 .0 .0 .0 .1)) (not-one-of .0 .0 .0 .0 .0 .0 .0 .0 .0 .0 .0 .1)) (not-one-of .0 .0 .0 .0 .0 .0 .0 .0 .0 .0 .1)) (not-one-of .0 .0 .0 .0 .0 .0 .0 .0 .0 .1)) (not-one-of .0 .0 .0 .0 .0 .0 .0 .0 .1)) (not-one-of .0 .0 .0 .0 .0 .0 .0 .1)) (not-one-of .0 .0 .0 .0 .0 .0 .1)) (not-one-of .0 .0 .0 .0 .0 .1)) (not-one-of .0 .0 .0 .0 .1)) (not-one-of .0 .0 .0 .1)) (not-one-of .0 .0 .1)) (not-one-of .0 .1)) (not-one-of .1)))
+    rw (lt-leb (args .kind) 13 (past 13 (past 12 (past 11 (past 10 (past 9 (past 8 (past 7 (past 6
+    (past 5 (past 4 (past 3 (past 2 (past 1 (past 0 (zero≤) (not-one-of .0 .0 .0 .0 .0 .0 .0 .0 .0 .0 .0 .0 .0 .1))
+    (not-one-of .0 .0 .0 .0 .0 .0 .0 .0 .0 .0 .0 .0 .1)) (not-one-of .0 .0 .0 .0 .0 .0 .0 .0 .0 .0 .0 .1))
+    (not-one-of .0 .0 .0 .0 .0 .0 .0 .0 .0 .0 .1)) (not-one-of .0 .0 .0 .0 .0 .0 .0 .0 .0 .1))
+    (not-one-of .0 .0 .0 .0 .0 .0 .0 .0 .1)) (not-one-of .0 .0 .0 .0 .0 .0 .0 .1)) (not-one-of .0 .0 .0 .0 .0 .0 .1))
+    (not-one-of .0 .0 .0 .0 .0 .1)) (not-one-of .0 .0 .0 .0 .1)) (not-one-of .0 .0 .0 .1)) (not-one-of .0 .0 .1))
+    (not-one-of .0 .1)) (not-one-of .1)))
 
 pub arguments-spec : {M : Type 1} → statement M
 arguments-spec =

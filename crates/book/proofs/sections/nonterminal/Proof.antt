@@ -9,22 +9,19 @@ use Rattle.book.proofs.sections.nonterminal.Tie as tie
 returns : tie.Need-returns
 returns c =
     let field = c .before .before .field in
-    one-refused Sort.Nonterminal _ _ _ (c .enum-told .given .1) (nonterminal-stop _ _ (stopped _ _ _ (field .ensures) (c .enum-told .given .1)))
+    one-refused Sort.Nonterminal _ _ _ (c .enum-told .given .1)
+    (nonterminal-stop _ _ (stopped _ _ _ (field .ensures) (c .enum-told .given .1)))
 
 returns-2 : tie.Need-returns-2
 returns-2 c =
     let field = c .before .before .before .before .before .field in
     let mark = c .before .before .before .mark in
-    nonterminal-read _ _ _ _ _ _ (read _ _ _ (field .ensures) (mark .given .1)) (c .before .most-variants .ensures) (c .field2 .ensures)
+    nonterminal-read _ _ _ _ _ _ (read _ _ _ (field .ensures) (mark .given .1))
+    (c .before .most-variants .ensures) (c .field2 .ensures)
 
 pub nonterminal-spec : {M : Type 1} → statement M
 nonterminal-spec =
     tie.close
     (tie.spec
-    (λ c κs. search needs)
-    (λ c. search needs)
-    (λ c. search needs)
-    returns
-    (λ c κs. search needs)
-    (λ c κs. search needs)
+    (λ c κs. search needs) (λ c. search needs) (λ c. search needs) returns (λ c κs. search needs) (λ c κs. search needs)
     returns-2)

@@ -19,15 +19,19 @@ row-requires c κs =
     let count = c .before .before .before .before .before .before .count in
     let pre = c .before .before .before .before .before .before .before .before .before .before .before .pre in
     let put = c .before .before .before .put in
-    let few = count-fits (args .low) (args .high) (args .book .now) (args .place) _ _ (read _ _ _ (field .ensures) (count .given .1)) in
+    let few =
+    count-fits (args .low) (args .high) (args .book .now) (args .place) _ _
+    (read _ _ _ (field .ensures) (count .given .1)) in
     (omega (arith, pre .0, few, put .kept .0), omega (arith, pre .1, few))
 
 returns-2 : tie.Need-returns-2
 returns-2 c =
     let field = c .before .before .before .before .before .before .before .before .before .before .before .field in
     let count = c .before .before .before .before .before .before .before .before .before .count in
-    let args = c .before .before .before .before .before .before .before .before .before .before .before .before .before .before .args in
-    let pre = c .before .before .before .before .before .before .before .before .before .before .before .before .before .before .pre in
+    let args = c .before .before .before .before .before .before .before .before .before .before .before
+    .before .before .before .args in
+    let pre = c .before .before .before .before .before .before .before .before .before .before .before
+    .before .before .before .pre in
     let put = c .before .before .before .before .before .before .put in
     let row = c .before .before .row in
     let count-read = read _ _ _ (field .ensures) (count .given .1) in
@@ -38,11 +42,5 @@ pub section-spec : {M : Type 1} → statement M
 section-spec =
     tie.close
     (tie.spec
-    (λ c κs. search needs)
-    (λ c. search needs)
-    (λ c. search needs)
-    returns
-    (λ c κs. search needs)
-    row-requires
-    (λ c. search needs)
-    returns-2)
+    (λ c κs. search needs) (λ c. search needs) (λ c. search needs) returns (λ c κs. search needs) row-requires
+    (λ c. search needs) returns-2)

@@ -18,7 +18,8 @@ returns-2 : tie.Need-returns-2
 returns-2 c =
     let field = c .before .before .before .before .field in
     let label = c .before .before .label in
-    entry-read _ _ _ _ _ (c .spelling .result) (read _ _ _ (field .ensures) (label .given .1)) (c .spelling .ensures .0) (c .spelling .ensures .1)
+    entry-read _ _ _ _ _ (c .spelling .result) (read _ _ _ (field .ensures) (label .given .1)) (c .spelling .ensures .0)
+    (c .spelling .ensures .1)
 
 pub entry-spec : {M : Type 1} → statement M
 entry-spec =

@@ -14,8 +14,11 @@ returns c =
 returns-2 : tie.Need-returns-2
 returns-2 c =
     let field = c .before .before .before .before .field in
-    let size = c .before .before .size in
-    (spelling-read _ _ _ _ (c .spelling-bytes .result) (read _ _ _ (field .ensures) (size .given .1)) (c .spelling-bytes .ensures .0), c .spelling-bytes .ensures .1)
+    let size = c .before .before .size in (
+      spelling-read _ _ _ _ (c .spelling-bytes .result) (read _ _ _ (field .ensures) (size .given .1))
+          (c .spelling-bytes .ensures .0),
+      c .spelling-bytes .ensures .1,
+    )
 
 pub spelling-spec : {M : Type 1} → statement M
 spelling-spec =

@@ -17,14 +17,16 @@ returns-2 c =
     let args = c .before .before .before .before .before .args in
     let if1 = c .before .before .before .if1 in
     let byte-at = c .before .before .byte-at in
-    checked-bad _ _ _ (args .book .now) (args .place) (omega (arith, if1 .left)) (rw (byte-at .ensures) at (sym (c .before .shaped .ensures) ∙ not-true _ (c .if2 .taken)))
+    checked-bad _ _ _ (args .book .now) (args .place) (omega (arith, if1 .left))
+    (rw (byte-at .ensures) at (sym (c .before .shaped .ensures) ∙ not-true _ (c .if2 .taken)))
 
 returns-3 : tie.Need-returns-3
 returns-3 c =
     let args = c .before .before .before .before .before .args in
     let if1 = c .before .before .before .if1 in
     let byte-at = c .before .before .byte-at in
-    checked-good _ _ _ (args .book .now) (args .place) (omega (arith, if1 .left)) (rw (byte-at .ensures) at (sym (c .before .shaped .ensures) ∙ not-false _ (c .if2 .left)))
+    checked-good _ _ _ (args .book .now) (args .place) (omega (arith, if1 .left))
+    (rw (byte-at .ensures) at (sym (c .before .shaped .ensures) ∙ not-false _ (c .if2 .left)))
 
 pub spelling-byte-spec : {M : Type 1} → statement M
 spelling-byte-spec =

@@ -32,8 +32,11 @@ returns c =
     let loop-test = c .before .before .before .loop-test in
     let loop = c .before .before .before .before .loop in
     let spelling-byte = c .before .before .spelling-byte in
-    let told = c .enum-told .given .1 in
-    (handed _ (begun-stop _ _ _ _ _ _ (loop-test .taken) (loop .inv .1) (stopped _ _ _ (spelling-byte .ensures) told)) told, no-value told 0)
+    let told = c .enum-told .given .1 in (
+      handed _
+          (begun-stop _ _ _ _ _ _ (loop-test .taken) (loop .inv .1) (stopped _ _ _ (spelling-byte .ensures) told)) told,
+      no-value told 0,
+    )
 
 add-i : tie.Need-add-i Inv-loop μ-loop
 add-i c =
@@ -48,8 +51,11 @@ loop-again : tie.Need-loop-again Inv-loop μ-loop
 loop-again c =
     let loop-test = c .before .before .before .before .loop-test in
     let loop = c .before .before .before .before .before .loop in
-    let spelling-byte = c .before .before .before .spelling-byte in
-    (omega (arith, loop-test .taken), begun-on _ _ _ _ _ _ (loop-test .taken) (loop .inv .1) (read _ _ _ (spelling-byte .ensures) (c .before .byte .given .1)))
+    let spelling-byte = c .before .before .before .spelling-byte in (
+      omega (arith, loop-test .taken),
+      begun-on _ _ _ _ _ _ (loop-test .taken) (loop .inv .1)
+          (read _ _ _ (spelling-byte .ensures) (c .before .byte .given .1)),
+    )
 
 returns-2 : tie.Need-returns-2 Inv-loop μ-loop
 returns-2 c = (begun-last _ _ _ _ _ _ (c .before .loop .inv .0) (c .loop-test .left) (c .before .loop .inv .1), refl)
@@ -58,14 +64,5 @@ pub spelling-bytes-spec : {M : Type 1} → statement M
 spelling-bytes-spec =
     tie.close
     (tie.spec
-    Inv-loop
-    μ-loop
-    loop-holds
-    spelling-byte-requires
-    enum-known-byte
-    enum-told
-    returns
-    add-i
-    loop-less
-    loop-again
+    Inv-loop μ-loop loop-holds spelling-byte-requires enum-known-byte enum-told returns add-i loop-less loop-again
     returns-2)

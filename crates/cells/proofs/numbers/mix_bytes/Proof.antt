@@ -55,13 +55,4 @@ pub mix-bytes-spec : {M : Type 1} → statement M
 mix-bytes-spec =
     tie.close
     (tie.spec
-    Inv-loop
-    μ-loop
-    loop-holds
-    shared-slice-read-mix
-    cast-mix
-    mix-requires
-    add-i
-    loop-less
-    loop-again
-    returns)
+    Inv-loop μ-loop loop-holds shared-slice-read-mix cast-mix mix-requires add-i loop-less loop-again returns)

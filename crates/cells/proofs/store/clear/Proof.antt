@@ -33,8 +33,10 @@ loop-again : tie.Need-loop-again Inv-loop μ-loop
 loop-again c =
     let put = c .before .before .put in
     let loop = c .before .before .before .before .before .loop in
-    let loop-test = c .before .before .before .before .loop-test in
-    (put .kept .0 ∙ loop .inv .0, clearing-on _ _ _ _ (omega (arith, loop-test .taken)) (loop .inv .0) (loop .inv .1) (put .ensures))
+    let loop-test = c .before .before .before .before .loop-test in (
+      put .kept .0 ∙ loop .inv .0,
+      clearing-on _ _ _ _ (omega (arith, loop-test .taken)) (loop .inv .0) (loop .inv .1) (put .ensures),
+    )
 
 same-length : tie.Need-same-length Inv-loop μ-loop
 same-length c =
@@ -50,13 +52,4 @@ pub clear-spec : {M : Type 1} → statement M
 clear-spec =
     tie.close
     (tie.spec
-    Inv-loop
-    μ-loop
-    loop-holds
-    add-put
-    put-requires
-    add-i
-    loop-less
-    loop-again
-    same-length
-    returns)
+    Inv-loop μ-loop loop-holds add-put put-requires add-i loop-less loop-again same-length returns)

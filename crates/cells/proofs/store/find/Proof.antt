@@ -10,7 +10,8 @@ use Rattle.cells.proofs.store.find.Statement.{statement}
 use Rattle.cells.proofs.store.find.Tie as tie
 
 abbrev Inv-loop : tie.InvT-loop
-Inv-loop text store c count first left₀ n₀ left n = (n < 4294967296) × (findIn text store c left n ≡ findIn text store c count first)
+Inv-loop text store c count first left₀ n₀ left n =
+    (n < 4294967296) × (findIn text store c left n ≡ findIn text store c count first)
 
 abbrev μ-loop : tie.MeasureT-loop
 μ-loop text store c count first left₀ n₀ left n = left
@@ -62,8 +63,11 @@ loop-again c =
     let cell-at = c .before .before .before .cell-at in
     let same-cell = c .before .before .same-cell in
     let if2 = c .before .if2 in
-    let other = ap (sameIn _ _) (sym (cell-at .ensures)) ∙ sym (same-cell .ensures) ∙ if2 .left in
-    (search needs, rw (c .get .ensures) (sym (find-less _ _ _ _ _ _ (omega (arith, loop-test .taken)) (if1 .left) other) ∙ loop .inv .1))
+    let other = ap (sameIn _ _) (sym (cell-at .ensures)) ∙ sym (same-cell .ensures) ∙ if2 .left in (
+      search needs,
+      rw (c .get .ensures)
+          (sym (find-less _ _ _ _ _ _ (omega (arith, loop-test .taken)) (if1 .left) other) ∙ loop .inv .1),
+    )
 
 returns-3 : tie.Need-returns-3 Inv-loop μ-loop
 returns-3 c =
@@ -74,17 +78,5 @@ pub find-spec : {M : Type 1} → statement M
 find-spec =
     tie.close
     (tie.spec
-    Inv-loop
-    μ-loop
-    loop-holds
-    returns
-    cell-at-requires
-    same-cell-requires
-    returns-2
-    cast-get
-    add-get
-    get-requires
-    sub-left
-    loop-less
-    loop-again
-    returns-3)
+    Inv-loop μ-loop loop-holds returns cell-at-requires same-cell-requires returns-2 cast-get add-get get-requires
+    sub-left loop-less loop-again returns-3)

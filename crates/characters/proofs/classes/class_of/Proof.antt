@@ -20,17 +20,11 @@ returns-4 c = class-told (c .match .keys4) (c .before .number-in .ensures)
 returns-5 : tie.Need-returns-5
 returns-5 c =
     let not-one-of = c .match .rest in
-    sym (class-at-rest _ (not-one-of .0 .0 .0 .1) (not-one-of .0 .0 .1) (not-one-of .0 .1) (not-one-of .1)) ∙ class-told refl (c .before .number-in .ensures)
+    sym (class-at-rest _ (not-one-of .0 .0 .0 .1) (not-one-of .0 .0 .1) (not-one-of .0 .1) (not-one-of .1))
+    ∙ class-told refl (c .before .number-in .ensures)
 
 pub class-of-spec : {M : Type 1} → statement M
 class-of-spec =
     tie.close
     (tie.spec
-    (λ c κs. search needs)
-    (λ c. search needs)
-    (λ c κs. search needs)
-    returns
-    returns-2
-    returns-3
-    returns-4
-    returns-5)
+    (λ c κs. search needs) (λ c. search needs) (λ c κs. search needs) returns returns-2 returns-3 returns-4 returns-5)

@@ -11,7 +11,9 @@ shared-slice-read-result : tie.Need-shared-slice-read-result
 shared-slice-read-result c = omega (arith, ap length (c .before .pre) ∙ table-length, c .before .fits .byte)
 
 returns : tie.Need-returns
-returns c = ap (λ t. getD t (c .before .args .byte) 0) (c .before .pre) ∙ table-at (c .before .args .byte) (omega (arith, c .before .fits .byte))
+returns c =
+    ap (λ t. getD t (c .before .args .byte) 0) (c .before .pre)
+    ∙ table-at (c .before .args .byte) (omega (arith, c .before .fits .byte))
 
 pub number-in-spec : {M : Type 1} → statement M
 number-in-spec = tie.close (tie.spec shared-slice-read-result returns)

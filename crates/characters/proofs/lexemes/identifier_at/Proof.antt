@@ -10,7 +10,8 @@ returns : tie.Need-returns
 returns c =
     let byte-at = c .before .before .before .byte-at in
     let is-of = c .before .before .is-of in
-    ap Identifier.Ends (c .span-end .ensures) ∙ sym (identifier-letter _ _ (rw (byte-at .ensures) at (sym (is-of .ensures) ∙ c .before .if2 .taken)))
+    ap Identifier.Ends (c .span-end .ensures)
+    ∙ sym (identifier-letter _ _ (rw (byte-at .ensures) at (sym (is-of .ensures) ∙ c .before .if2 .taken)))
 
 returns-2 : tie.Need-returns-2
 returns-2 c =
@@ -24,10 +25,5 @@ pub identifier-at-spec : {M : Type 1} → statement M
 identifier-at-spec =
     tie.close
     (tie.spec
-    (λ c κs. search needs)
-    (λ c κs. search needs)
-    (λ c. search needs)
-    (λ c κs. search needs)
-    returns
-    returns-2
+    (λ c κs. search needs) (λ c κs. search needs) (λ c. search needs) (λ c κs. search needs) returns returns-2
     returns-3)

@@ -37,7 +37,8 @@ returns c =
     let loop-test = c .before .before .before .loop-test in
     let loop = loop in
     let digits = args .digits .now in
-    let more : largest < loop .value * 10 + (getD digits (loop .i) 0 - 48) = omega (arith, c .if1 .taken, c .before .digit-value .ensures) in
+    let more : largest < loop .value * 10 + (getD digits (loop .i) 0 - 48) =
+    omega (arith, c .if1 .taken, c .before .digit-value .ensures) in
     sym (number-large _ _ (rw (loop .inv .1) at (decimal-large (loop .value) digits (loop .i) (loop-test .taken) more)))
 
 mul-value : tie.Need-mul-value Inv-loop μ-loop
@@ -75,16 +76,5 @@ pub number-of-spec : {M : Type 1} → statement M
 number-of-spec =
     tie.close
     (tie.spec
-    Inv-loop
-    μ-loop
-    loop-holds
-    shared-slice-read-digit-value
-    digit-value-requires
-    sub-if1
-    returns
-    mul-value
-    add-value
-    add-i
-    loop-less
-    loop-again
-    returns-2)
+    Inv-loop μ-loop loop-holds shared-slice-read-digit-value digit-value-requires sub-if1 returns mul-value add-value
+    add-i loop-less loop-again returns-2)

@@ -22,7 +22,8 @@ skip-round-requires : tie.Need-skip-round-requires Inv-loop μ-loop
 skip-round-requires c κs = search needs
 
 loop-less : tie.Need-loop-less Inv-loop μ-loop
-loop-less c = rw (c .before .skip-round .ensures) (round-leaves-less _ _ (λ e. c .if1 .left (c .before .skip-round .ensures ∙ e)))
+loop-less c =
+    rw (c .before .skip-round .ensures) (round-leaves-less _ _ (λ e. c .if1 .left (c .before .skip-round .ensures ∙ e)))
 
 loop-again : tie.Need-loop-again Inv-loop μ-loop
 loop-again c =

@@ -13,7 +13,8 @@ returns c =
     let comment-at = c .before .before .comment-at in
     let text = args .text .now in
     let at = spaces-end .ensures in
-    c .comment-end .ensures ∙ ap (commentEnd text) at ∙ sym (round-comment _ _ (ap (commentAt text) (sym at) ∙ sym (comment-at .ensures) ∙ c .before .if1 .taken))
+    c .comment-end .ensures ∙ ap (commentEnd text) at
+    ∙ sym (round-comment _ _ (ap (commentAt text) (sym at) ∙ sym (comment-at .ensures) ∙ c .before .if1 .taken))
 
 returns-2 : tie.Need-returns-2
 returns-2 c =

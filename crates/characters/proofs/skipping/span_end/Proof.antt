@@ -59,15 +59,5 @@ pub span-end-spec : {M : Type 1} → statement M
 span-end-spec =
     tie.close
     (tie.spec
-    Inv-loop
-    μ-loop
-    class-table-requires
-    slice-aggregate-table
-    loop-holds
-    shared-slice-read-in-span
-    in-span-requires
-    returns
-    add-at
-    loop-less
-    loop-again
-    returns-2)
+    Inv-loop μ-loop class-table-requires slice-aggregate-table loop-holds shared-slice-read-in-span in-span-requires
+    returns add-at loop-less loop-again returns-2)

@@ -41,13 +41,4 @@ pub section-is-spec : {M : Type 1} → statement M
 section-is-spec =
     tie.close
     (tie.spec
-    Inv-loop
-    μ-loop
-    byte-requires
-    is-requires
-    loop-holds
-    record-is-requires
-    add-i
-    loop-less
-    loop-again
-    returns)
+    Inv-loop μ-loop byte-requires is-requires loop-holds record-is-requires add-i loop-less loop-again returns)

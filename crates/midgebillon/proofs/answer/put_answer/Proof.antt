@@ -27,12 +27,5 @@ pub put-answer-spec : {M : Type 1} → statement M
 put-answer-spec =
     tie.close
     (tie.spec
-    (λ c. search needs)
-    slice-write-numbers-2
-    slice-write-numbers-3
-    slice-write-numbers-4
-    slice-write-numbers-5
-    slice-write-numbers-6
-    slice-write-numbers-7
-    (λ c. search needs)
-    (λ c. search needs))
+    (λ c. search needs) slice-write-numbers-2 slice-write-numbers-3 slice-write-numbers-4 slice-write-numbers-5
+    slice-write-numbers-6 slice-write-numbers-7 (λ c. search needs) (λ c. search needs))

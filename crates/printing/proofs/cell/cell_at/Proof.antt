@@ -28,25 +28,15 @@ returns-3 c =
     let if2 = c .before .before .before .if2 in
     let positive = if1 .left in
     let many = if2 .left in
-    record { is = read-some (args .cells .now) (args .n) (omega (arith, positive)) (omega (arith, positive, many)); placed = λ _. omega (arith, positive) }
+    record {
+      is = read-some (args .cells .now) (args .n) (omega (arith, positive)) (omega (arith, positive, many));
+      placed = λ _. omega (arith, positive);
+    }
 
 pub cell-at-spec : {M : Type 1} → statement M
 cell-at-spec =
     tie.close
     (tie.spec
-    (λ c κs. search needs)
-    returns
-    (λ c. search needs)
-    (λ c. search needs)
-    (λ c. search needs)
-    (λ c κs. search needs)
-    returns-2
-    (λ c. search needs)
-    (λ c. search needs)
-    (λ c. search needs)
-    (λ c. search needs)
-    (λ c. search needs)
-    (λ c. search needs)
-    (λ c. search needs)
-    (λ c. search needs)
-    returns-3)
+    (λ c κs. search needs) returns (λ c. search needs) (λ c. search needs) (λ c. search needs) (λ c κs. search needs)
+    returns-2 (λ c. search needs) (λ c. search needs) (λ c. search needs) (λ c. search needs) (λ c. search needs)
+    (λ c. search needs) (λ c. search needs) (λ c. search needs) returns-3)

@@ -29,18 +29,12 @@ returns-3 c =
     let if2 = c .before .if2 in
     let cell = args .cell in
     let names = bookIn (args .book .now) (args .index .now) .names in
-    c .part2 .ensures ∙ sym (spelling-none names (args .text .now) (cell .form) (cell .a) (cell .b) (if1 .left) (if2 .left))
+    c .part2 .ensures
+    ∙ sym (spelling-none names (args .text .now) (cell .form) (cell .a) (cell .b) (if1 .left) (if2 .left))
 
 pub spelling-spec : {M : Type 1} → statement M
 spelling-spec =
     tie.close
     (tie.spec
-    (λ c. search needs)
-    (λ c. search needs)
-    (λ c κs. search needs)
-    returns
-    (λ c. search needs)
-    (λ c κs. search needs)
-    returns-2
-    (λ c κs. search needs)
-    returns-3)
+    (λ c. search needs) (λ c. search needs) (λ c κs. search needs) returns (λ c. search needs) (λ c κs. search needs)
+    returns-2 (λ c κs. search needs) returns-3)

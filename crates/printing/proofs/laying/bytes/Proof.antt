@@ -11,7 +11,8 @@ use Rattle.printing.proofs.laying.bytes.Statement.{statement}
 use Rattle.printing.proofs.laying.bytes.Tie as tie
 
 abbrev Inv-loop : tie.InvT-loop
-Inv-loop out₀ bytes next₀ i₀ out next i = (i ≤ length bytes) × LaysIn next₀ out₀ (take i bytes) out next × (length out ≡ length out₀)
+Inv-loop out₀ bytes next₀ i₀ out next i =
+    (i ≤ length bytes) × LaysIn next₀ out₀ (take i bytes) out next × (length out ≡ length out₀)
 
 abbrev μ-loop : tie.MeasureT-loop
 μ-loop out₀ bytes next₀ i₀ out next i = length bytes - i
@@ -39,7 +40,8 @@ loop-again c =
     let byte = c .before .before .byte in
     let bytes = args .bytes .now in (
       search needs,
-      lays-as (lays-then (loop .inv .1) (byte .ensures)) (rw (add-one (loop .i)) (sym (take-suc bytes (loop .i) 0 (loop-test .taken)))),
+      lays-as (lays-then (loop .inv .1) (byte .ensures))
+          (rw (add-one (loop .i)) (sym (take-suc bytes (loop .i) 0 (loop-test .taken)))),
       byte .kept .0 ∙ loop .inv .2,
     )
 
@@ -56,13 +58,4 @@ pub bytes-spec : {M : Type 1} → statement M
 bytes-spec =
     tie.close
     (tie.spec
-    Inv-loop
-    μ-loop
-    loop-holds
-    shared-slice-read-byte
-    byte-requires
-    add-i
-    loop-less
-    loop-again
-    same-length
-    returns)
+    Inv-loop μ-loop loop-holds shared-slice-read-byte byte-requires add-i loop-less loop-again same-length returns)

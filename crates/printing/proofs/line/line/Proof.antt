@@ -13,7 +13,8 @@ returns c =
     let if1 = c .before .before .before .before .if1 in
     let refused = c .before .before .refused in
     let names = bookIn (args .book .now) (args .index .now) .names in
-    lays-as (refused .ensures) (line-refused names (args .text .now) (args .cells .now) (answerIn (args .answer)) (if1 .taken))
+    lays-as (refused .ensures)
+    (line-refused names (args .text .now) (args .cells .now) (answerIn (args .answer)) (if1 .taken))
 
 returns-2 : tie.Need-returns-2
 returns-2 c =
@@ -26,19 +27,13 @@ returns-2 c =
     let args = at-bytes .before .before .before .before .before .before .before .before .before .before .args in
     let names = bookIn (args .book .now) (args .index .now) .names in
     let parts = lays-then (bytes .ensures) (lays-then (item .ensures) (byte .ensures)) in
-    lays-as parts (line-value names (args .text .now) (args .cells .now) (answerIn (args .answer)) _ (cell-numbers .ensures) (if1 .left))
+    lays-as parts
+    (line-value names (args .text .now) (args .cells .now) (answerIn (args .answer)) _
+    (cell-numbers .ensures) (if1 .left))
 
 pub line-spec : {M : Type 1} → statement M
 line-spec =
     tie.close
     (tie.spec
-    (λ c κs. search needs)
-    (λ c. search needs)
-    returns
-    (λ c. search needs)
-    (λ c κs. search needs)
-    (λ c κs. search needs)
-    (λ c κs. search needs)
-    (λ c κs. search needs)
-    (λ c. search needs)
-    returns-2)
+    (λ c κs. search needs) (λ c. search needs) returns (λ c. search needs) (λ c κs. search needs) (λ c κs. search needs)
+    (λ c κs. search needs) (λ c κs. search needs) (λ c. search needs) returns-2)

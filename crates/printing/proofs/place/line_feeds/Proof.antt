@@ -11,7 +11,8 @@ use Rattle.printing.proofs.place.line_feeds.Statement.{statement}
 use Rattle.printing.proofs.place.line_feeds.Tie as tie
 
 abbrev Inv-loop : tie.InvT-loop
-Inv-loop bytes found₀ i₀ found i = (i ≤ length bytes) × (found ≤ i) × (found + lineFeeds (drop i bytes) ≡ lineFeeds bytes)
+Inv-loop bytes found₀ i₀ found i =
+    (i ≤ length bytes) × (found ≤ i) × (found + lineFeeds (drop i bytes) ≡ lineFeeds bytes)
 
 abbrev μ-loop : tie.MeasureT-loop
 μ-loop bytes found₀ i₀ found i = length bytes - i
@@ -64,12 +65,4 @@ pub line-feeds-spec : {M : Type 1} → statement M
 line-feeds-spec =
     tie.close
     (tie.spec
-    Inv-loop
-    μ-loop
-    loop-holds
-    shared-slice-read-if1
-    add-found
-    add-i
-    loop-less
-    loop-again
-    returns)
+    Inv-loop μ-loop loop-holds shared-slice-read-if1 add-found add-i loop-less loop-again returns)

@@ -12,7 +12,8 @@ use Rattle.printing.proofs.place.since_line_feed.Statement.{statement}
 use Rattle.printing.proofs.place.since_line_feed.Tie as tie
 
 abbrev Inv-loop : tie.InvT-loop
-Inv-loop bytes since₀ i₀ since i = (i ≤ length bytes) × (since ≤ i) × (sinceLineFeed since (drop i bytes) ≡ sinceLineFeed 0 bytes)
+Inv-loop bytes since₀ i₀ since i =
+    (i ≤ length bytes) × (since ≤ i) × (sinceLineFeed since (drop i bytes) ≡ sinceLineFeed 0 bytes)
 
 abbrev μ-loop : tie.MeasureT-loop
 μ-loop bytes since₀ i₀ since i = length bytes - i
@@ -65,12 +66,4 @@ pub since-line-feed-spec : {M : Type 1} → statement M
 since-line-feed-spec =
     tie.close
     (tie.spec
-    Inv-loop
-    μ-loop
-    loop-holds
-    shared-slice-read-if1
-    add-since
-    add-i
-    loop-less
-    loop-again
-    returns)
+    Inv-loop μ-loop loop-holds shared-slice-read-if1 add-since add-i loop-less loop-again returns)

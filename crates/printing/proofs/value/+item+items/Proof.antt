@@ -94,7 +94,9 @@ item-returns-2 t c =
     let args = at-cell-at .before .before .before .before .before .before .before .before .before .args in
     let names = bookIn (args .book .now) (args .index .now) .names in
     let parts = lays-then (byte .ensures) (lays-then (number .ensures) (lays-then (items .ensures) (byte2 .ensures))) in
-    lays-as parts (item-variant names (args .text .now) (args .cells .now) (args .n) _ _ _ (cell-at .ensures .is) _ (older .ensures) (if2 .taken))
+    lays-as parts
+    (item-variant names (args .text .now) (args .cells .now) (args .n) _ _ _ (cell-at .ensures .is) _
+    (older .ensures) (if2 .taken))
 
 item-items-requires-2 : (t : ℕ) → item-lts.Need-items-requires-2 (item-claims t) (item-at t) item.Post
 item-items-requires-2 t c κs =
@@ -123,7 +125,9 @@ item-returns-3 t c =
     let args = at-cell-at .before .before .before .before .before .before .before .before .before .args in
     let names = bookIn (args .book .now) (args .index .now) .names in
     let parts = lays-then (byte3 .ensures) (lays-then (items2 .ensures) (byte4 .ensures)) in
-    lays-as parts (item-list names (args .text .now) (args .cells .now) (args .n) _ _ _ (cell-at .ensures .is) _ (older2 .ensures) (if3 .taken))
+    lays-as parts
+    (item-list names (args .text .now) (args .cells .now) (args .n) _ _ _ (cell-at .ensures .is) _
+    (older2 .ensures) (if3 .taken))
 
 item-returns-4 : (t : ℕ) → item-lts.Need-returns-4 (item-claims t) (item-at t) item.Post
 item-returns-4 t c =
@@ -134,7 +138,9 @@ item-returns-4 t c =
     let at-cell-at = c .before .before .before .before .before .before .before .before in
     let args = at-cell-at .before .before .before .before .before .before .before .before .before .args in
     let names = bookIn (args .book .now) (args .index .now) .names in
-    lays-as (plain .ensures) (item-plain names (args .text .now) (args .cells .now) (args .n) _ _ _ (cell-at .ensures .is) (if2 .left) (if3 .left))
+    lays-as (plain .ensures)
+    (item-plain names (args .text .now) (args .cells .now) (args .n) _ _ _
+    (cell-at .ensures .is) (if2 .left) (if3 .left))
 
 abbrev items-claims : ℕ → items-lts.Claims
 items-claims t = (
@@ -162,7 +168,9 @@ items-returns-2 t c =
     let args = c .before .before .before .before .before .before .before .before .before .before .before .args in
     let cell-at = c .before .before .cell-at in
     let names = bookIn (args .book .now) (args .index .now) .names in
-    lays-as lays-none (items-none names (args .text .now) (args .cells .now) (args .n) _ _ _ (cell-at .ensures .is) (args .in-list) (c .if2 .taken))
+    lays-as lays-none
+    (items-none names (args .text .now) (args .cells .now) (args .n) _ _ _ (cell-at .ensures .is)
+    (args .in-list) (c .if2 .taken))
 
 items-items-requires : (t : ℕ) → items-lts.Need-items-requires (items-claims t) (items-at t) items.Post
 items-items-requires t c κs =
@@ -205,8 +213,9 @@ items-returns-3 t c =
     let args = at-cell-at .before .before .before .before .before .before .before .before .before .args in
     let names = bookIn (args .book .now) (args .index .now) .names in
     let parts = lays-then (items .ensures) (lays-then (gap .ensures) (item .ensures)) in
-    lays-as parts (items-chain names (args .text .now) (args .cells .now) (args .n) _ _ _ (cell-at .ensures .is) (args .in-list) _ _ (older .ensures)
-    (older2 .ensures) (if2 .left))
+    lays-as parts
+    (items-chain names (args .text .now) (args .cells .now) (args .n) _ _ _ (cell-at .ensures .is) (args .in-list) _ _
+    (older .ensures) (older2 .ensures) (if2 .left))
 
 pub +item+items-spec : {M : Type 1} → statement M
 +item+items-spec = close μ-item μ-items (λ t. item-lts.spec (item-claims t)

@@ -21,7 +21,8 @@ returns-2 c =
     let if1 = c .before .before .before .before .if1 in
     let byte = c .before .before .byte in
     ⊎-elim
-    (λ w. lays-as (byte .ensures) (sym (rw (w .0 .taken) (gap-later (args .cells .now) (args .chain) _ _ _ (w .1 .ensures .is) (w .3 .left)))))
+    (λ w. lays-as (byte .ensures)
+    (sym (rw (w .0 .taken) (gap-later (args .cells .now) (args .chain) _ _ _ (w .1 .ensures .is) (w .3 .left)))))
     (λ w. lays-as (byte .ensures) (rw (w .left)))
     (if1 .came)
 

@@ -11,7 +11,8 @@ use Rattle.printing.proofs.value.plain.Tie as tie
 
 returns : tie.Need-returns
 returns c =
-    let args = c .before .before .before .before .before .before .before .before .before .before .before .before .args in
+    let args =
+    c .before .before .before .before .before .before .before .before .before .before .before .before .args in
     let if1 = c .before .before .before .before .before .before .if1 in
     let number = c .before .before .number in
     let cell = args .cell in
@@ -27,7 +28,8 @@ returns-2 c =
     let args = at-if2 .before .before .before .before .before .before .before .before .args in
     let cell = args .cell in
     let names = bookIn (args .book .now) (args .index .now) .names in
-    lays-as (bytes .ensures) (spelling .ensures ∙ sym (plain-name names (args .text .now) (cell .form) (cell .a) (cell .b) (if2 .taken)))
+    lays-as (bytes .ensures)
+    (spelling .ensures ∙ sym (plain-name names (args .text .now) (cell .form) (cell .a) (cell .b) (if2 .taken)))
 
 returns-3 : tie.Need-returns-3
 returns-3 c =
@@ -39,7 +41,9 @@ returns-3 c =
     let args = at-if3 .before .before .before .before .before .before .before .before .before .before .args in
     let cell = args .cell in
     let names = bookIn (args .book .now) (args .index .now) .names in
-    let is = ap (λ (l : List ℕ). 36 ∷ l) (spelling2 .ensures) ∙ sym (plain-variable names (args .text .now) (cell .form) (cell .a) (cell .b) (if3 .taken)) in
+    let is =
+    ap (λ (l : List ℕ). 36 ∷ l) (spelling2 .ensures)
+    ∙ sym (plain-variable names (args .text .now) (cell .form) (cell .a) (cell .b) (if3 .taken)) in
     lays-as (lays-then (byte .ensures) (bytes2 .ensures)) is
 
 returns-4 : tie.Need-returns-4
@@ -52,28 +56,14 @@ returns-4 c =
     let args = at-if1 .before .before .before .before .before .before .args in
     let cell = args .cell in
     let names = bookIn (args .book .now) (args .index .now) .names in
-    lays-as (byte2 .ensures) (sym (plain-absent names (args .text .now) (cell .form) (cell .a) (cell .b) (if2 .left) (if1 .left) (if3 .left)))
+    lays-as (byte2 .ensures)
+    (sym (plain-absent names (args .text .now) (cell .form) (cell .a) (cell .b) (if2 .left) (if1 .left) (if3 .left)))
 
 pub plain-spec : {M : Type 1} → statement M
 plain-spec =
     tie.close
     (tie.spec
-    (λ c. search needs)
-    (λ c. search needs)
-    (λ c. search needs)
-    (λ c. search needs)
-    (λ c κs. search needs)
-    (λ c. search needs)
-    returns
-    (λ c κs. search needs)
-    (λ c κs. search needs)
-    (λ c. search needs)
-    returns-2
-    (λ c κs. search needs)
-    (λ c κs. search needs)
-    (λ c κs. search needs)
-    (λ c. search needs)
-    returns-3
-    (λ c κs. search needs)
-    (λ c. search needs)
-    returns-4)
+    (λ c. search needs) (λ c. search needs) (λ c. search needs) (λ c. search needs) (λ c κs. search needs)
+    (λ c. search needs) returns (λ c κs. search needs) (λ c κs. search needs) (λ c. search needs) returns-2
+    (λ c κs. search needs) (λ c κs. search needs) (λ c κs. search needs) (λ c. search needs) returns-3
+    (λ c κs. search needs) (λ c. search needs) returns-4)

@@ -63,20 +63,6 @@ pub write-line-spec : {M : Type 1} → statement M
 write-line-spec =
     tie.close
     (tie.spec
-    Inv-loop
-    μ-loop
-    loop-holds
-    print-part-requires
-    same-length
-    returns
-    slice-reshare-prefix-write-all
-    slice-aggregate-write-all
-    write-all-requires
-    same-length-2
-    returns-2
-    sub-if3
-    same-length-3
-    returns-3
-    add-from
-    loop-less
-    loop-again)
+    Inv-loop μ-loop loop-holds print-part-requires same-length returns slice-reshare-prefix-write-all
+    slice-aggregate-write-all write-all-requires same-length-2 returns-2 sub-if3 same-length-3 returns-3 add-from
+    loop-less loop-again)

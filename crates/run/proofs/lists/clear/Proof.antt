@@ -34,8 +34,12 @@ loop-less c = omega arith
 loop-again : tie.Need-loop-again Inv-loop μ-loop
 loop-again c =
     let pre = c .before .before .pre in
-    let loop = c .before .loop in
-    (omega (arith, c .loop-test .taken), simp length-set (loop .inv .1), ap (λ (l : List ℕ). set l (loop .i) 0) (loop .inv .2) ∙ clear-again (loop .i) _ (omega (arith, c .loop-test .taken, pre)))
+    let loop = c .before .loop in (
+      omega (arith, c .loop-test .taken),
+      simp length-set (loop .inv .1),
+      ap (λ (l : List ℕ). set l (loop .i) 0) (loop .inv .2)
+          ∙ clear-again (loop .i) _ (omega (arith, c .loop-test .taken, pre)),
+    )
 
 same-length : tie.Need-same-length Inv-loop μ-loop
 same-length c =
@@ -53,13 +57,4 @@ pub clear-spec : {M : Type 1} → statement M
 clear-spec =
     tie.close
     (tie.spec
-    Inv-loop
-    μ-loop
-    loop-holds
-    mul-lent
-    slice-write-lent
-    add-i
-    loop-less
-    loop-again
-    same-length
-    returns)
+    Inv-loop μ-loop loop-holds mul-lent slice-write-lent add-i loop-less loop-again same-length returns)

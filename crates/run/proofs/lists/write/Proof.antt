@@ -11,7 +11,9 @@ use Rattle.run.proofs.lists.write.Statement.{statement}
 use Rattle.run.proofs.lists.write.Tie as tie
 
 abbrev Inv-loop : tie.InvT-loop
-Inv-loop lent₀ size source used i₀ lent i = (i ≤ used) × (length lent ≡ length lent₀) × ((l : List ℕ) → lent₀ ≡ answers.written size [] l → lent ≡ answers.written size (take i source) l)
+Inv-loop lent₀ size source used i₀ lent i =
+    (i ≤ used) × (length lent ≡ length lent₀) ×
+    ((l : List ℕ) → lent₀ ≡ answers.written size [] l → lent ≡ answers.written size (take i source) l)
 
 abbrev μ-loop : tie.MeasureT-loop
 μ-loop lent₀ size source used i₀ lent i = used - i
@@ -59,8 +61,12 @@ loop-again c =
     let loop = c .before .before .loop in
     let loop-test = c .before .loop-test in
     let source = args .source .now in
-    let at = loop .i in
-    (omega (arith, loop-test .taken), simp length-set (loop .inv .1), λ l e. ap (λ (m : List ℕ). set m at (getD source at 0)) (loop .inv .2 l e) ∙ copy-again _ l source at (omega (arith, loop-test .taken, pre)) (omega (arith, loop-test .taken, pre)))
+    let at = loop .i in (
+      omega (arith, loop-test .taken),
+      simp length-set (loop .inv .1),
+      λ l e. ap (λ (m : List ℕ). set m at (getD source at 0)) (loop .inv .2 l e)
+          ∙ copy-again _ l source at (omega (arith, loop-test .taken, pre)) (omega (arith, loop-test .taken, pre)),
+    )
 
 same-length : tie.Need-same-length Inv-loop μ-loop
 same-length c =
@@ -74,22 +80,12 @@ returns c =
     let clear = c .before .before .before .before .clear in
     let loop = c .before .loop in
     let e : loop .i ≡ args .used = omega (arith, loop .inv .0, c .loop-test .left) in
-    loop .inv .2 _ (clear .ensures) ∙ ap (λ (n : ℕ). answers.written (args .size) (take n (args .source .now)) (args .lent .now)) e
+    loop .inv .2 _ (clear .ensures)
+    ∙ ap (λ (n : ℕ). answers.written (args .size) (take n (args .source .now)) (args .lent .now)) e
 
 pub write-spec : {M : Type 1} → statement M
 write-spec =
     tie.close
     (tie.spec
-    Inv-loop
-    μ-loop
-    clear-requires
-    loop-holds
-    mul-lent
-    shared-slice-read-lent
-    mul-lent-2
-    slice-write-lent
-    add-i
-    loop-less
-    loop-again
-    same-length
-    returns)
+    Inv-loop μ-loop clear-requires loop-holds mul-lent shared-slice-read-lent mul-lent-2 slice-write-lent add-i
+    loop-less loop-again same-length returns)

@@ -15,7 +15,9 @@ use Rattle.run.proofs.lists.write_parses.Statement.{statement}
 use Rattle.run.proofs.lists.write_parses.Tie as tie
 
 abbrev Inv-loop : tie.InvT-loop
-Inv-loop parses₀ rows count i₀ parses i = (length parses ≡ length parses₀) × ((l : List ℕ) → parses₀ ≡ answers.written 256 [] l → parses ≡ answers.written 256 (parseNumbers (take i (rowOf (table rows) 200 .set))) l)
+Inv-loop parses₀ rows count i₀ parses i =
+    (length parses ≡ length parses₀) × ((l : List ℕ) → parses₀ ≡ answers.written 256 [] l →
+    parses ≡ answers.written 256 (parseNumbers (take i (rowOf (table rows) 200 .set))) l)
 
 abbrev μ-loop : tie.MeasureT-loop
 μ-loop parses₀ rows count i₀ parses i = count - i
@@ -53,7 +55,15 @@ put-parse-requires c κs =
     let parse-count = c .before .before .before .before .parse-count in
     let loop = c .before .before .before .loop in
     let loop-test = c .before .before .loop-test in
-    omega (arith, loop-test .taken, parse-count .ensures, found-few (args .rows .now), loop .inv .0, clear .kept .0, pre)
+    omega (
+      arith,
+      loop-test .taken,
+      parse-count .ensures,
+      found-few (args .rows .now),
+      loop .inv .0,
+      clear .kept .0,
+      pre,
+    )
 
 add-i : tie.Need-add-i Inv-loop μ-loop
 add-i c =
@@ -68,7 +78,8 @@ loop-less c =
 
 loop-again : tie.Need-loop-again Inv-loop μ-loop
 loop-again c =
-    let args = c .before .before .before .before .before .before .before .before .before .before .before .before .before .before .args in
+    let args = c .before .before .before .before .before .before .before .before .before .before .before
+    .before .before .before .args in
     let parse-count = c .before .before .before .before .before .before .before .parse-count in
     let loop = c .before .before .before .before .before .before .loop in
     let loop-test = c .before .before .before .before .before .loop-test in
@@ -77,8 +88,12 @@ loop-again c =
     let set = rowOf (table (args .rows .now)) 200 .set in
     let at = loop .i in
     let p = parseOf (nth-parse .result) in
-    let few = found-few (args .rows .now) in
-    (put-parse .kept .0 ∙ loop .inv .0, λ l e. put-parse .ensures ∙ ap (λ (m : List ℕ). sets.written m (4 * at) p) (loop .inv .1 l e) ∙ parses-again 256 l set at p (omega (arith, loop-test .taken, parse-count .ensures)) (omega (arith, loop-test .taken, parse-count .ensures, few)) (nth-parse .ensures))
+    let few = found-few (args .rows .now) in (
+      put-parse .kept .0 ∙ loop .inv .0,
+      λ l e. put-parse .ensures ∙ ap (λ (m : List ℕ). sets.putParse m (4 * at) p) (loop .inv .1 l e)
+          ∙ parses-again 256 l set at p (omega (arith, loop-test .taken, parse-count .ensures))
+          (omega (arith, loop-test .taken, parse-count .ensures, few)) (nth-parse .ensures),
+    )
 
 same-length : tie.Need-same-length Inv-loop μ-loop
 same-length c =
@@ -92,22 +107,12 @@ returns c =
     let clear = c .before .before .before .before .before .clear in
     let parse-count = c .before .before .parse-count in
     let loop = c .before .loop in
-    loop .inv .1 _ (clear .ensures) ∙ parses-end 256 _ (rowOf (table (args .rows .now)) 200 .set) (loop .i) (omega (arith, c .loop-test .left, parse-count .ensures))
+    loop .inv .1 _ (clear .ensures) ∙ parses-end 256 _ (rowOf (table (args .rows .now)) 200 .set) (loop .i)
+    (omega (arith, c .loop-test .left, parse-count .ensures))
 
 pub write-parses-spec : {M : Type 1} → statement M
 write-parses-spec =
     tie.close
     (tie.spec
-    Inv-loop
-    μ-loop
-    clear-requires
-    parse-count-requires
-    loop-holds
-    mul-put-parse
-    nth-parse-requires
-    put-parse-requires
-    add-i
-    loop-less
-    loop-again
-    same-length
-    returns)
+    Inv-loop μ-loop clear-requires parse-count-requires loop-holds mul-put-parse nth-parse-requires put-parse-requires
+    add-i loop-less loop-again same-length returns)

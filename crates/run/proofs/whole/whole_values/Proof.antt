@@ -15,7 +15,9 @@ use Rattle.run.proofs.whole.whole_values.Statement.{statement}
 use Rattle.run.proofs.whole.whole_values.Tie as tie
 
 abbrev Inv-loop : tie.InvT-loop
-Inv-loop text rows count values₀ i₀ values i = withValues values (wholeValues text (drop i (rowOf (table rows) 200 .set))) ≡ withValues Values.Nothing (wholeValues text (rowOf (table rows) 200 .set))
+Inv-loop text rows count values₀ i₀ values i =
+    withValues values (wholeValues text (drop i (rowOf (table rows) 200 .set)))
+    ≡ withValues Values.Nothing (wholeValues text (rowOf (table rows) 200 .set))
 
 abbrev μ-loop : tie.MeasureT-loop
 μ-loop text rows count values₀ i₀ values i = count - i
@@ -51,7 +53,8 @@ loop-again c =
     let loop-test = c .before .before .loop-test in
     let nth-parse = c .before .nth-parse in
     let set = rowOf (table (args .rows .now)) 200 .set in
-    values-again (args .text .now) set (loop .i) (loop .values) _ (parseOf (nth-parse .result)) (omega (arith, loop-test .taken, parse-count .ensures)) (nth-parse .ensures) (c .with-parse .ensures) ∙ loop .inv
+    values-again (args .text .now) set (loop .i) (loop .values) _ (parseOf (nth-parse .result))
+    (omega (arith, loop-test .taken, parse-count .ensures)) (nth-parse .ensures) (c .with-parse .ensures) ∙ loop .inv
 
 returns : tie.Need-returns Inv-loop μ-loop
 returns c =
@@ -59,19 +62,12 @@ returns c =
     let parse-count = c .before .before .parse-count in
     let loop = c .before .loop in
     let set = rowOf (table (args .rows .now)) 200 .set in
-    sym (values-end (args .text .now) set (loop .i) (loop .values) (omega (arith, c .loop-test .left, parse-count .ensures))) ∙ loop .inv
+    sym (values-end (args .text .now) set (loop .i) (loop .values)
+    (omega (arith, c .loop-test .left, parse-count .ensures))) ∙ loop .inv
 
 pub whole-values-spec : {M : Type 1} → statement M
 whole-values-spec =
     tie.close
     (tie.spec
-    Inv-loop
-    μ-loop
-    parse-count-requires
-    loop-holds
-    nth-parse-requires
-    with-parse-requires
-    add-i
-    loop-less
-    loop-again
+    Inv-loop μ-loop parse-count-requires loop-holds nth-parse-requires with-parse-requires add-i loop-less loop-again
     returns)

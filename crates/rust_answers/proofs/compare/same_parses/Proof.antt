@@ -54,18 +54,5 @@ pub same-parses-spec : {M : Type 1} → statement M
 same-parses-spec =
     tie.close
     (tie.spec
-    Inv-loop
-    μ-loop
-    returns
-    loop-holds
-    cast-place
-    mul-place
-    cast-first
-    mul-first
-    after-requires
-    same-parse-requires
-    returns-2
-    add-i
-    loop-less
-    loop-again
-    returns-3)
+    Inv-loop μ-loop returns loop-holds cast-place mul-place cast-first mul-first after-requires same-parse-requires
+    returns-2 add-i loop-less loop-again returns-3)

@@ -19,7 +19,12 @@ returns-2 c =
     let args = c .before .before .before .before .before .before .args in
     let if1 = c .before .before .before .before .if1 in
     let character-end = c .before .before .before .character-end in
-    rw (not-false (args .comma) (if1 .left), sym (character-end .ensures) ∙ ap endOf (c .before .enum-told .given .1), afterElement, sym (c .skip .ensures))
+    rw (
+      not-false (args .comma) (if1 .left),
+      sym (character-end .ensures) ∙ ap endOf (c .before .enum-told .given .1),
+      afterElement,
+      sym (c .skip .ensures),
+    )
 
 returns-3 : tie.Need-returns-3
 unfolding afterElement
@@ -27,16 +32,14 @@ returns-3 c =
     let args = c .before .before .before .before .before .before .args in
     let if1 = c .before .before .before .before .if1 in
     let character-end = c .before .before .before .character-end in
-    rw (not-false (args .comma) (if1 .left), sym (character-end .ensures) ∙ ap endOf (c .before .end .given .1), afterElement)
+    rw (
+      not-false (args .comma) (if1 .left),
+      sym (character-end .ensures) ∙ ap endOf (c .before .end .given .1),
+      afterElement,
+    )
 
 pub after-element-spec : {M : Type 1} → statement M
 after-element-spec =
     tie.close
     (tie.spec
-    returns
-    (λ c κs. search needs)
-    (λ c. search needs)
-    (λ c. search needs)
-    (λ c κs. search needs)
-    returns-2
-    returns-3)
+    returns (λ c κs. search needs) (λ c. search needs) (λ c. search needs) (λ c κs. search needs) returns-2 returns-3)

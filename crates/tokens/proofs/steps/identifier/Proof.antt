@@ -19,16 +19,17 @@ returns-2 c =
     let skip = c .before .before .before .before .before .skip in
     let free-end = c .before .before .before .before .free-end in
     let end = c .before .before .end in
-    rw (sym (skip .ensures), sym (free-end .ensures) ∙ ap endOf (end .given .1), stepAt, sym (skip .ensures), sym (c .length .ensures))
+    rw (
+      sym (skip .ensures),
+      sym (free-end .ensures) ∙ ap endOf (end .given .1),
+      stepAt,
+      sym (skip .ensures),
+      sym (c .length .ensures),
+    )
 
 pub identifier-spec : {M : Type 1} → statement M
 identifier-spec =
     tie.close
     (tie.spec
-    (λ c κs. search needs)
-    (λ c κs. search needs)
-    (λ c. search needs)
-    (λ c. search needs)
-    returns
-    (λ c κs. search needs)
+    (λ c κs. search needs) (λ c κs. search needs) (λ c. search needs) (λ c. search needs) returns (λ c κs. search needs)
     returns-2)

@@ -15,35 +15,28 @@ unfolding stepError
 returns-2 c =
     let if1 = c .before .before .before .before .if1 in
     let number-at = c .before .before .before .number-at in
-    λ book. rw (ne-eqb _ _ (if1 .left), sym (number-at .ensures) ∙ c .before .enum-told .given .1) (c .error-at2 .ensures)
+    λ book.
+    rw (ne-eqb _ _ (if1 .left), sym (number-at .ensures) ∙ c .before .enum-told .given .1) (c .error-at2 .ensures)
 
 returns-3 : tie.Need-returns-3
 unfolding stepError
 returns-3 c =
     let if1 = c .before .before .before .before .if1 in
     let number-at = c .before .before .before .number-at in
-    λ book. rw (ne-eqb _ _ (if1 .left), sym (number-at .ensures) ∙ c .before .enum-told2 .given .1) (c .error-at3 .ensures)
+    λ book.
+    rw (ne-eqb _ _ (if1 .left), sym (number-at .ensures) ∙ c .before .enum-told2 .given .1) (c .error-at3 .ensures)
 
 returns-4 : tie.Need-returns-4
 unfolding stepError
 returns-4 c =
     let if1 = c .before .before .before .before .if1 in
     let number-at = c .before .before .before .number-at in
-    λ book. rw (ne-eqb _ _ (if1 .left), sym (number-at .ensures) ∙ c .before .enum-told3 .given .1) (c .error-at4 .ensures)
+    λ book.
+    rw (ne-eqb _ _ (if1 .left), sym (number-at .ensures) ∙ c .before .enum-told3 .given .1) (c .error-at4 .ensures)
 
 pub number-error-spec : {M : Type 1} → statement M
 number-error-spec =
     tie.close
     (tie.spec
-    (λ c κs. search needs)
-    returns
-    (λ c κs. search needs)
-    (λ c. search needs)
-    (λ c κs. search needs)
-    (λ c. search needs)
-    (λ c κs. search needs)
-    (λ c. search needs)
-    (λ c κs. search needs)
-    returns-2
-    returns-3
-    returns-4)
+    (λ c κs. search needs) returns (λ c κs. search needs) (λ c. search needs) (λ c κs. search needs) (λ c. search needs)
+    (λ c κs. search needs) (λ c. search needs) (λ c κs. search needs) returns-2 returns-3 returns-4)

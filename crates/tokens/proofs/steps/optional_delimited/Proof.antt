@@ -10,7 +10,8 @@ returns : tie.Need-returns
 unfolding stepAt
 returns c =
     let character-end = c .before .before .before .character-end in
-    λ book. rw (sym (character-end .ensures) ∙ ap endOf (c .before .enum-told .given .1), stepAt, sym (c .skip .ensures))
+    λ book.
+    rw (sym (character-end .ensures) ∙ ap endOf (c .before .enum-told .given .1), stepAt, sym (c .skip .ensures))
 
 returns-2 : tie.Need-returns-2
 unfolding stepAt

@@ -18,16 +18,12 @@ unfolding stepAt
 returns-2 c =
     let skip = c .before .before .before .before .skip in
     let variable-at = c .before .before .before .variable-at in
-    rw (sym (skip .ensures), sym (variable-at .ensures) ∙ ap variableOf (c .before .enum-told2 .given .1), stepAt) (c .bare .ensures)
+    rw (sym (skip .ensures), sym (variable-at .ensures) ∙ ap variableOf (c .before .enum-told2 .given .1), stepAt)
+    (c .bare .ensures)
 
 pub reject-variable-spec : {M : Type 1} → statement M
 reject-variable-spec =
     tie.close
     (tie.spec
-    (λ c κs. search needs)
-    (λ c κs. search needs)
-    (λ c. search needs)
-    (λ c. search needs)
-    (λ c κs. search needs)
-    returns
+    (λ c κs. search needs) (λ c κs. search needs) (λ c. search needs) (λ c. search needs) (λ c κs. search needs) returns
     returns-2)

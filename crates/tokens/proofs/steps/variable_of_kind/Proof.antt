@@ -14,7 +14,12 @@ returns c =
     let variable-at = c .before .before .before .before .variable-at in
     let end = c .before .before .end in
     let kind = end .given .0 .1 .1 .0 in
-    rw (sym (skip .ensures), sym (variable-at .ensures) ∙ ap variableOf (end .given .1), stepAt, eq-eqb kind _ (c .if1 .taken))
+    rw (
+      sym (skip .ensures),
+      sym (variable-at .ensures) ∙ ap variableOf (end .given .1),
+      stepAt,
+      eq-eqb kind _ (c .if1 .taken),
+    )
 
 returns-2 : tie.Need-returns-2
 unfolding stepAt
@@ -23,7 +28,12 @@ returns-2 c =
     let variable-at = c .before .before .before .before .variable-at in
     let end = c .before .before .end in
     let kind = end .given .0 .1 .1 .0 in
-    rw (sym (skip .ensures), sym (variable-at .ensures) ∙ ap variableOf (end .given .1), stepAt, ne-eqb kind _ (c .if1 .left))
+    rw (
+      sym (skip .ensures),
+      sym (variable-at .ensures) ∙ ap variableOf (end .given .1),
+      stepAt,
+      ne-eqb kind _ (c .if1 .left),
+    )
 
 returns-3 : tie.Need-returns-3
 unfolding stepAt
@@ -36,10 +46,4 @@ pub variable-of-kind-spec : {M : Type 1} → statement M
 variable-of-kind-spec =
     tie.close
     (tie.spec
-    (λ c κs. search needs)
-    (λ c κs. search needs)
-    (λ c. search needs)
-    (λ c. search needs)
-    returns
-    returns-2
-    returns-3)
+    (λ c κs. search needs) (λ c κs. search needs) (λ c. search needs) (λ c. search needs) returns returns-2 returns-3)

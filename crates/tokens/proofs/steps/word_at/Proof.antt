@@ -25,7 +25,16 @@ returns-2 c =
     let same-bytes = c .before .before .same-bytes in
     let ends = sym (identifier-end .ensures) ∙ ap endOf (end .given .1) in
     let test = sym (same-bytes .ensures) ∙ c .before .if1 .taken in
-    rw (sym (skip .ensures), ends, stepAt, sym (skip .ensures), sym (length .ensures), sym (part .ensures), sym (word .ensures), test) (c .bare .ensures)
+    rw (
+      sym (skip .ensures),
+      ends,
+      stepAt,
+      sym (skip .ensures),
+      sym (length .ensures),
+      sym (part .ensures),
+      sym (word .ensures),
+      test,
+    ) (c .bare .ensures)
 
 returns-3 : tie.Need-returns-3
 unfolding stepAt
@@ -38,21 +47,20 @@ returns-3 c =
     let word = c .before .before .word in
     let ends = sym (identifier-end .ensures) ∙ ap endOf (end .given .1) in
     let test = sym (c .before .same-bytes .ensures) ∙ c .if1 .left in
-    rw (sym (skip .ensures), ends, stepAt, sym (skip .ensures), sym (length .ensures), sym (part .ensures), sym (word .ensures), test)
+    rw (
+      sym (skip .ensures),
+      ends,
+      stepAt,
+      sym (skip .ensures),
+      sym (length .ensures),
+      sym (part .ensures),
+      sym (word .ensures),
+      test,
+    )
 
 pub word-at-spec : {M : Type 1} → statement M
 word-at-spec =
     tie.close
     (tie.spec
-    (λ c κs. search needs)
-    (λ c κs. search needs)
-    (λ c. search needs)
-    (λ c. search needs)
-    returns
-    (λ c κs. search needs)
-    (λ c κs. search needs)
-    (λ c κs. search needs)
-    (λ c κs. search needs)
-    (λ c κs. search needs)
-    returns-2
-    returns-3)
+    (λ c κs. search needs) (λ c κs. search needs) (λ c. search needs) (λ c. search needs) returns (λ c κs. search needs)
+    (λ c κs. search needs) (λ c κs. search needs) (λ c κs. search needs) (λ c κs. search needs) returns-2 returns-3)

@@ -27,4 +27,5 @@ returns-3 c = rw (sym (c .before .skip .ensures), le-ltb _ _ (c .if1 .left))
 pub character-end-spec : {M : Type 1} → statement M
 character-end-spec =
     tie.close
-    (tie.spec (λ c κs. search needs) (λ c κs. search needs) (λ c. search needs) (λ c. search needs) returns returns-2 returns-3)
+    (tie.spec (λ c κs. search needs) (λ c κs. search needs) (λ c. search needs) (λ c. search needs)
+    returns returns-2 returns-3)

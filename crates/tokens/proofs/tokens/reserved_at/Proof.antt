@@ -17,16 +17,12 @@ unfolding reservedAt
 returns-2 c =
     let identifier-end = c .before .before .before .before .before .identifier-end in
     let end = c .before .before .before .end in
-    rw (sym (identifier-end .ensures) ∙ ap endOf (end .given .1), reservedAt, sym (c .before .length .ensures)) (c .is-reserved .ensures)
+    rw (sym (identifier-end .ensures) ∙ ap endOf (end .given .1), reservedAt, sym (c .before .length .ensures))
+    (c .is-reserved .ensures)
 
 pub reserved-at-spec : {M : Type 1} → statement M
 reserved-at-spec =
     tie.close
     (tie.spec
-    (λ c κs. search needs)
-    (λ c. search needs)
-    (λ c. search needs)
-    returns
-    (λ c κs. search needs)
-    (λ c κs. search needs)
+    (λ c κs. search needs) (λ c. search needs) (λ c. search needs) returns (λ c κs. search needs) (λ c κs. search needs)
     returns-2)

@@ -19,7 +19,12 @@ returns-2 c =
     let end = c .before .before .before .before .before .before .end in
     let length = c .before .before .before .before .length in
     let lookup = c .before .before .before .lookup in
-    rw (sym (free-end .ensures) ∙ ap endOf (end .given .1), variableAt, sym (length .ensures), sym (lookup .ensures) ∙ c .before .number .given .1)
+    rw (
+      sym (free-end .ensures) ∙ ap endOf (end .given .1),
+      variableAt,
+      sym (length .ensures),
+      sym (lookup .ensures) ∙ c .before .number .given .1,
+    )
 
 returns-3 : tie.Need-returns-3
 unfolding variableAt
@@ -28,19 +33,16 @@ returns-3 c =
     let end = c .before .before .before .before .before .end in
     let length = c .before .before .before .length in
     let lookup = c .before .before .lookup in
-    rw (sym (free-end .ensures) ∙ ap endOf (end .given .1), variableAt, sym (length .ensures), sym (lookup .ensures) ∙ c .enum-told2 .given .1)
+    rw (
+      sym (free-end .ensures) ∙ ap endOf (end .given .1),
+      variableAt,
+      sym (length .ensures),
+      sym (lookup .ensures) ∙ c .enum-told2 .given .1,
+    )
 
 pub variable-at-spec : {M : Type 1} → statement M
 variable-at-spec =
     tie.close
     (tie.spec
-    (λ c κs. search needs)
-    (λ c. search needs)
-    (λ c. search needs)
-    returns
-    (λ c κs. search needs)
-    (λ c κs. search needs)
-    (λ c. search needs)
-    (λ c. search needs)
-    returns-2
-    returns-3)
+    (λ c κs. search needs) (λ c. search needs) (λ c. search needs) returns (λ c κs. search needs) (λ c κs. search needs)
+    (λ c. search needs) (λ c. search needs) returns-2 returns-3)

@@ -9,7 +9,8 @@ returns : tie.Need-returns
 returns c =
     let start = c .before .before .before .before in
     let args = start .args in
-    both-limit (args .text .now) (table (args .rows .now)) (args .here .call) (args .here .place) (args .a) (args .b) (c .if1 .taken)
+    both-limit (args .text .now) (table (args .rows .now)) (args .here .call) (args .here .place) (args .a)
+    (args .b) (c .if1 .taken)
 
 returns-2 : tie.Need-returns-2
 returns-2 c =
@@ -21,7 +22,8 @@ returns-2 c =
     let nonterminal-of = c .before .before .nonterminal-of in
     let skipped = c .before .before .before .skipped in
     let args = start .args in
-    both-chosen (args .text .now) (table (args .rows .now)) (args .here .call) (args .here .place) _ _ (args .a) (args .b) _
+    both-chosen (args .text .now) (table (args .rows .now)) (args .here .call) (args .here .place)
+    _ _ (args .a) (args .b) _
     (failure-of .result) (failure-of2 .result) (chosen .result) (if1 .left) (nonterminal-of .ensures) (skipped .ensures)
     (failure-of .ensures) (failure-of2 .ensures) (chosen .ensures) (c .done .ensures)
 
@@ -29,11 +31,5 @@ pub both-spec : {M : Type 1} → statement M
 both-spec =
     tie.close
     (tie.spec
-    returns
-    (λ c κs. search needs)
-    (λ c κs. search needs)
-    (λ c κs. search needs)
-    (λ c κs. search needs)
-    (λ c κs. search needs)
-    (λ c κs. search needs)
-    returns-2)
+    returns (λ c κs. search needs) (λ c κs. search needs) (λ c κs. search needs) (λ c κs. search needs)
+    (λ c κs. search needs) (λ c κs. search needs) returns-2)

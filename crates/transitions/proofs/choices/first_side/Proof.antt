@@ -36,11 +36,5 @@ pub first-side-spec : {M : Type 1} → statement M
 first-side-spec =
     tie.close
     (tie.spec
-    (λ c. search needs)
-    (λ c κs. search needs)
-    (λ c. search needs)
-    first-stop-requires
-    (λ c. search needs)
-    returns
-    (λ c. search needs)
-    returns-2)
+    (λ c. search needs) (λ c κs. search needs) (λ c. search needs) first-stop-requires (λ c. search needs) returns
+    (λ c. search needs) returns-2)

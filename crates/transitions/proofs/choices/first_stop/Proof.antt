@@ -22,7 +22,8 @@ stop-requires c κs = c .before .before .before .before .before .before .before 
 
 returns-2 : tie.Need-returns-2
 returns-2 c =
-    let args = c .before .before .before .before .before .before .before .before .before .before .before .before .args in
+    let args =
+    c .before .before .before .before .before .before .before .before .before .before .before .before .args in
     let book = bookIn (args .book .now) (args .index .now) in
     let text = args .text .now in
     let store = args .store .now in
@@ -35,4 +36,5 @@ returns-2 c =
 
 pub first-stop-spec : {M : Type 1} → statement M
 first-stop-spec =
-    tie.close (tie.spec (λ c κs. search needs) (λ c κs. search needs) returns stop-requires (λ c. search needs) returns-2)
+    tie.close
+    (tie.spec (λ c κs. search needs) (λ c κs. search needs) returns stop-requires (λ c. search needs) returns-2)

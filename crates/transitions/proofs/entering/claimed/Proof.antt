@@ -11,15 +11,15 @@ returns c =
     let args = c .before .before .before .before .before .before .before .before .args in
     let variable-at = c .before .before .before .variable-at in
     let enum-told = c .before .enum-told in
-    claimed-named (bookIn (args .book .now) (args .index .now)) (args .text .now) (table (args .rows .now)) (args .row) (args .at) _
-    (variable-at .ensures) _ _ _ _ (enum-told .given .1) (c .any-claims .ensures)
+    claimed-named (bookIn (args .book .now) (args .index .now)) (args .text .now) (table (args .rows .now)) (args .row)
+    (args .at) _ (variable-at .ensures) _ _ _ _ (enum-told .given .1) (c .any-claims .ensures)
 
 returns-2 : tie.Need-returns-2
 returns-2 c =
     let args = c .before .before .before .before .before .before .before .args in
     let variable-at = c .before .before .variable-at in
-    claimed-nothing (bookIn (args .book .now) (args .index .now)) (args .text .now) (table (args .rows .now)) (args .row) (args .at) _
-    (variable-at .ensures) (c .enum-told2 .given .1)
+    claimed-nothing (bookIn (args .book .now) (args .index .now)) (args .text .now) (table (args .rows .now))
+    (args .row) (args .at) _ (variable-at .ensures) (c .enum-told2 .given .1)
 
 pub claimed-spec : {M : Type 1} → statement M
 claimed-spec =

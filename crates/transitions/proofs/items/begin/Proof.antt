@@ -25,16 +25,12 @@ returns-2 c =
     let if1 = c .before .before .before .before .before .if1 in
     let empty = c .before .before .before .empty in
     let make = c .before .before .make in
-    begin-made book text (args .j) _ (is-passing .ensures) (args .state) _ store _ _ (if1 .left) (make .ensures) (empty .ensures)
+    begin-made book text (args .j) _ (is-passing .ensures) (args .state) _ store _ _ (if1 .left)
+    (make .ensures) (empty .ensures)
 
 pub begin-spec : {M : Type 1} → statement M
 begin-spec =
     tie.close
     (tie.spec
-    (λ c κs. search needs)
-    (λ c κs. search needs)
-    (λ c κs. search needs)
-    (λ c κs. search needs)
-    returns
-    (λ c. search needs)
-    returns-2)
+    (λ c κs. search needs) (λ c κs. search needs) (λ c κs. search needs) (λ c κs. search needs) returns
+    (λ c. search needs) returns-2)

@@ -1,7 +1,8 @@
 -- `transitions::item_numbers` meets its contract.
 use native.Mathlib.Omega.{arith}
 use borrow.Author.Needs.{needs}
-use Rattle.transitions.specs.OutcomeLaws.{name-fit, variable-fit, item-nothing, item-name, item-number, item-variable}
+use Rattle.transitions.specs.OutcomeLaws.{name-fit, variable-fit, item-nothing, item-name, item-number}
+use Rattle.transitions.specs.OutcomeLaws.{item-variable}
 use Rattle.transitions.proofs.items.item_numbers.Statement.{statement}
 use Rattle.transitions.proofs.items.item_numbers.Tie as tie
 
@@ -61,19 +62,6 @@ pub item-numbers-spec : {M : Type 1} → statement M
 item-numbers-spec =
     tie.close
     (tie.spec
-    (λ c. search needs)
-    (λ c κs. search needs)
-    (λ c. search needs)
-    cast-name
-    cast-name-2
-    (λ c κs. search needs)
-    (λ c. search needs)
-    (λ c κs. search needs)
-    (λ c. search needs)
-    cast-variable
-    cast-variable-2
-    (λ c κs. search needs)
-    returns
-    returns-2
-    returns-3
-    returns-4)
+    (λ c. search needs) (λ c κs. search needs) (λ c. search needs) cast-name cast-name-2 (λ c κs. search needs)
+    (λ c. search needs) (λ c κs. search needs) (λ c. search needs) cast-variable cast-variable-2 (λ c κs. search needs)
+    returns returns-2 returns-3 returns-4)

@@ -13,7 +13,8 @@ returns c =
     let store = args .store .now in
     let is-passing = c .before .before .is-passing in
     let if1 = c .before .if1 in
-    value-passing book text (args .j) _ (is-passing .ensures) (args .state) _ store (args .items) (if1 .taken) (c .got .ensures)
+    value-passing book text (args .j) _ (is-passing .ensures) (args .state) _ store (args .items)
+    (if1 .taken) (c .got .ensures)
 
 returns-2 : tie.Need-returns-2
 returns-2 c =
@@ -25,16 +26,12 @@ returns-2 c =
     let if1 = c .before .before .before .before .before .if1 in
     let variant = c .before .before .before .variant in
     let make = c .before .before .make in
-    value-made book text (args .j) _ (is-passing .ensures) (args .state) _ store _ (args .items) _ (if1 .left) (make .ensures) (variant .ensures)
+    value-made book text (args .j) _ (is-passing .ensures) (args .state) _ store _ (args .items) _ (if1 .left)
+    (make .ensures) (variant .ensures)
 
 pub value-spec : {M : Type 1} → statement M
 value-spec =
     tie.close
     (tie.spec
-    (λ c κs. search needs)
-    (λ c κs. search needs)
-    (λ c κs. search needs)
-    (λ c κs. search needs)
-    returns
-    (λ c. search needs)
-    returns-2)
+    (λ c κs. search needs) (λ c κs. search needs) (λ c κs. search needs) (λ c κs. search needs) returns
+    (λ c. search needs) returns-2)

@@ -8,7 +8,11 @@ use Rattle.transitions.proofs.places.skipped.Tie as tie
 cast-result : tie.Need-cast-result
 cast-result c =
     let start = c .before .before in
-    omega (arith, skip-fits (start .args .text .now) (start .args .place) (start .pre) (omega (arith, start .good)), c .skip .ensures)
+    omega (
+      arith,
+      skip-fits (start .args .text .now) (start .args .place) (start .pre) (omega (arith, start .good)),
+      c .skip .ensures,
+    )
 
 pub skipped-spec : {M : Type 1} → statement M
 skipped-spec = tie.close (tie.spec (λ c κs. search needs) cast-result (λ c. search needs))

@@ -17,16 +17,12 @@ returns-2 c =
     let if1 = c .before .before .before .before .before .before .before .if1 in
     let settle-first = c .before .before .before .before .before .settle-first in
     let failure-of = c .before .before .failure-of in
-    first-settled (table (args .rows .now)) (args .row) (args .o) _ _ _ (if1 .left) (settle-first .ensures) (failure-of .result) (failure-of .ensures) (c .ended-by .ensures)
+    first-settled (table (args .rows .now)) (args .row) (args .o) _ _ _ (if1 .left) (settle-first .ensures)
+    (failure-of .result) (failure-of .ensures) (c .ended-by .ensures)
 
 pub after-first-spec : {M : Type 1} → statement M
 after-first-spec =
     tie.close
     (tie.spec
-    (λ c κs. search needs)
-    returns
-    (λ c κs. search needs)
-    (λ c κs. search needs)
-    (λ c κs. search needs)
-    (λ c. search needs)
-    returns-2)
+    (λ c κs. search needs) returns (λ c κs. search needs) (λ c κs. search needs) (λ c κs. search needs)
+    (λ c. search needs) returns-2)

@@ -17,16 +17,12 @@ returns-2 c =
     let if1 = c .before .before .before .before .before .before .before .if1 in
     let settle = c .before .before .before .before .before .settle in
     let failure-of = c .before .before .failure-of in
-    round-settled (table (args .rows .now)) (args .row) (args .o) _ _ _ (if1 .left) (settle .ensures) (failure-of .result) (failure-of .ensures) (c .ended-by .ensures)
+    round-settled (table (args .rows .now)) (args .row) (args .o) _ _ _ (if1 .left) (settle .ensures)
+    (failure-of .result) (failure-of .ensures) (c .ended-by .ensures)
 
 pub after-round-spec : {M : Type 1} → statement M
 after-round-spec =
     tie.close
     (tie.spec
-    (λ c κs. search needs)
-    returns
-    (λ c κs. search needs)
-    (λ c κs. search needs)
-    (λ c κs. search needs)
-    (λ c. search needs)
-    returns-2)
+    (λ c κs. search needs) returns (λ c κs. search needs) (λ c κs. search needs) (λ c κs. search needs)
+    (λ c. search needs) returns-2)

@@ -8,7 +8,8 @@ use Rattle.transitions.proofs.steps.finish.Tie as tie
 
 returns : tie.Need-returns
 returns c =
-    let args = c .before .before .before .before .before .before .before .before .before .before .before .before .before .args in
+    let args =
+    c .before .before .before .before .before .before .before .before .before .before .before .before .before .args in
     let book = bookIn (args .book .now) (args .index .now) in
     let text = args .text .now in
     let store = args .store .now in
@@ -21,8 +22,10 @@ returns c =
 
 parse-of-requires : tie.Need-parse-of-requires
 parse-of-requires c κs =
-    let args = c .before .before .before .before .before .before .before .before .before .before .before .before .before .before .before .args in
-    let pre = c .before .before .before .before .before .before .before .before .before .before .before .before .before .before .before .pre in
+    let args = c .before .before .before .before .before .before .before .before .before .before .before .before
+    .before .before .before .args in
+    let pre = c .before .before .before .before .before .before .before .before .before .before .before .before
+    .before .before .before .pre in
     let book = bookIn (args .book .now) (args .index .now) in
     let text = args .text .now in
     let here = args .here in
@@ -31,18 +34,21 @@ parse-of-requires c κs =
 
 add-run-requires : tie.Need-add-run-requires
 add-run-requires c κs =
-    let pre = c .before .before .before .before .before .before .before .before .before .before .before .before .before .before .before .before .pre in
+    let pre = c .before .before .before .before .before .before .before .before .before .before .before .before .before
+    .before .before .before .pre in
     (pre .0, pre .1)
 
 returns-2 : tie.Need-returns-2
 returns-2 c =
-    let args = c .before .before .before .before .before .before .before .before .before .before .before .before .before .before .before .before .before .before .before .before .before .args in
+    let args = c .before .before .before .before .before .before .before .before .before .before .before .before .before
+    .before .before .before .before .before .before .before .before .args in
     let book = bookIn (args .book .now) (args .index .now) in
     let text = args .text .now in
     let store = args .store .now in
     let rows = table (args .rows .now) in
     let here = args .here in
-    let value = c .before .before .before .before .before .before .before .before .before .before .before .before .before .before .value in
+    let value = c .before .before .before .before .before .before .before .before .before .before .before .before
+    .before .before .value in
     let if1 = c .before .before .before .before .before .before .before .before .before .if1 in
     let variant = c .before .before .before .before .before .before .before .variant in
     let parse-of = c .before .before .before .before .before .parse-of in
@@ -55,13 +61,15 @@ returns-2 c =
 
 returns-3 : tie.Need-returns-3
 returns-3 c =
-    let args = c .before .before .before .before .before .before .before .before .before .before .before .before .before .before .before .before .before .before .before .before .before .args in
+    let args = c .before .before .before .before .before .before .before .before .before .before .before .before .before
+    .before .before .before .before .before .before .before .before .args in
     let book = bookIn (args .book .now) (args .index .now) in
     let text = args .text .now in
     let store = args .store .now in
     let rows = table (args .rows .now) in
     let here = args .here in
-    let value = c .before .before .before .before .before .before .before .before .before .before .before .before .before .before .value in
+    let value = c .before .before .before .before .before .before .before .before .before .before .before .before
+    .before .before .value in
     let if1 = c .before .before .before .before .before .before .before .before .before .if1 in
     let variant = c .before .before .before .before .before .before .before .variant in
     let parse-of = c .before .before .before .before .before .parse-of in
@@ -76,19 +84,6 @@ pub finish-spec : {M : Type 1} → statement M
 finish-spec =
     tie.close
     (tie.spec
-    (λ c κs. search needs)
-    (λ c κs. search needs)
-    (λ c. search needs)
-    returns
-    (λ c. search needs)
-    (λ c κs. search needs)
-    parse-of-requires
-    add-run-requires
-    (λ c κs. search needs)
-    (λ c κs. search needs)
-    (λ c. search needs)
-    (λ c. search needs)
-    returns-2
-    (λ c. search needs)
-    (λ c. search needs)
-    returns-3)
+    (λ c κs. search needs) (λ c κs. search needs) (λ c. search needs) returns (λ c. search needs) (λ c κs. search needs)
+    parse-of-requires add-run-requires (λ c κs. search needs) (λ c κs. search needs) (λ c. search needs)
+    (λ c. search needs) returns-2 (λ c. search needs) (λ c. search needs) returns-3)

@@ -23,17 +23,12 @@ returns-3 c =
     let first = c .before .before .before .failure-of in
     let second = c .before .before .failure-of2 in
     let either = c .before .either in
-    joined-both (args .i) (args .before) (args .o) _ (first .result) (second .result) (either .result) (if1 .left) (if2 .left) (first .ensures) (second .ensures)
-    (either .ensures) (c .done .ensures)
+    joined-both (args .i) (args .before) (args .o) _ (first .result) (second .result) (either .result) (if1 .left)
+    (if2 .left) (first .ensures) (second .ensures) (either .ensures) (c .done .ensures)
 
 pub joined-spec : {M : Type 1} → statement M
 joined-spec =
     tie.close
     (tie.spec
-    returns
-    returns-2
-    (λ c κs. search needs)
-    (λ c κs. search needs)
-    (λ c κs. search needs)
-    (λ c κs. search needs)
+    returns returns-2 (λ c κs. search needs) (λ c κs. search needs) (λ c κs. search needs) (λ c κs. search needs)
     returns-3)

@@ -11,7 +11,8 @@ next-element-requires c κs = c .before .before .before .before .before .before 
 
 returns : tie.Need-returns
 returns c =
-    let args = c .before .before .before .before .before .before .before .before .before .before .before .before .args in
+    let args =
+    c .before .before .before .before .before .before .before .before .before .before .before .before .args in
     let book = bookIn (args .book .now) (args .index .now) in
     let text = args .text .now in
     let store = args .store .now in
@@ -38,13 +39,5 @@ pub next-of-spec : {M : Type 1} → statement M
 next-of-spec =
     tie.close
     (tie.spec
-    (λ c. search needs)
-    (λ c κs. search needs)
-    (λ c κs. search needs)
-    (λ c κs. search needs)
-    (λ c. search needs)
-    next-element-requires
-    (λ c. search needs)
-    returns
-    (λ c. search needs)
-    returns-2)
+    (λ c. search needs) (λ c κs. search needs) (λ c κs. search needs) (λ c κs. search needs) (λ c. search needs)
+    next-element-requires (λ c. search needs) returns (λ c. search needs) returns-2)

@@ -4,7 +4,8 @@ use native.Mathlib.Omega.{arith}
 use Rattle.book.specs.Index.{bookIn}
 use Rattle.semantics.specs.Errors.{stepError}
 use Rattle.transitions.specs.TakenLaws.{taken-fits, token-fits, list-fits, unopened-fits}
-use Rattle.transitions.specs.StepsLaws.{at-step, step-limit, step-fails, step-reads, step-descends, step-chooses, step-lists, step-unopens}
+use Rattle.transitions.specs.StepsLaws.{at-step, step-limit, step-fails, step-reads, step-descends, step-chooses}
+use Rattle.transitions.specs.StepsLaws.{step-lists, step-unopens}
 use borrow.Author.Needs.{needs}
 use Rattle.transitions.proofs.steps.take_step.Statement.{statement}
 use Rattle.transitions.proofs.steps.take_step.Tie as tie
@@ -19,11 +20,13 @@ returns c =
     let args = start .args in
     let here = args .here in
     at-step _ _ _ _ (here .variant) (args .state) _ (here .place) (here .items) _ _ (step .ensures)
-    (step-limit _ _ _ (here .variant) (args .state) (here .place) (here .items) _ _ (step-unit .ensures) _ _ (if1 .taken) (ended .ensures) (c .then-steps .ensures))
+    (step-limit _ _ _ (here .variant) (args .state) (here .place) (here .items) _ _ (step-unit .ensures) _ _
+    (if1 .taken) (ended .ensures) (c .then-steps .ensures))
 
 cast-take-token : tie.Need-cast-take-token
 cast-take-token c =
-    let start = c .before .before .before .before .before .before .before .before .before .before .before .before .before .before .before .before in
+    let start = c .before .before .before .before .before .before .before .before .before .before .before .before
+    .before .before .before .before in
     let step-at = c .before .before .before .before .step-at in
     let next = c .before .before .next in
     let fits = taken-fits _ _ (start .pre) _ (omega (arith, start .good)) _ (step-at .result) (step-at .ensures) in
@@ -31,7 +34,8 @@ cast-take-token c =
 
 take-token-requires : tie.Need-take-token-requires
 take-token-requires c κs =
-    let start = c .before .before .before .before .before .before .before .before .before .before .before .before .before .before .before .before in
+    let start = c .before .before .before .before .before .before .before .before .before .before .before .before
+    .before .before .before .before in
     let step-at = c .before .before .before .before .step-at in
     let next = c .before .before .next in
     let fits = taken-fits _ _ (start .pre) _ (omega (arith, start .good)) _ (step-at .result) (step-at .ensures) in
@@ -39,7 +43,8 @@ take-token-requires c κs =
 
 cast-begin-list : tie.Need-cast-begin-list
 cast-begin-list c =
-    let start = c .before .before .before .before .before .before .before .before .before .before .before .before .before .before .before .before in
+    let start = c .before .before .before .before .before .before .before .before .before .before .before .before
+    .before .before .before .before in
     let step-at = c .before .before .before .before .step-at in
     let comma = c .before .before .comma in
     let fits = taken-fits _ _ (start .pre) _ (omega (arith, start .good)) _ (step-at .result) (step-at .ensures) in
@@ -47,7 +52,8 @@ cast-begin-list c =
 
 cast-unopened : tie.Need-cast-unopened
 cast-unopened c =
-    let start = c .before .before .before .before .before .before .before .before .before .before .before .before .before .before .before .before in
+    let start = c .before .before .before .before .before .before .before .before .before .before .before .before
+    .before .before .before .before in
     let step-at = c .before .before .before .before .step-at in
     let place = c .before .before .place in
     let fits = taken-fits _ _ (start .pre) _ (omega (arith, start .good)) _ (step-at .result) (step-at .ensures) in
@@ -55,9 +61,12 @@ cast-unopened c =
 
 returns-2 : tie.Need-returns-2
 returns-2 c =
-    let start = c .before .before .before .before .before .before .before .before .before .before .before .before .before .before .before .before .before .before .before in
-    let step = c .before .before .before .before .before .before .before .before .before .before .before .before .before .step in
-    let step-unit = c .before .before .before .before .before .before .before .before .before .before .before .before .step-unit in
+    let start = c .before .before .before .before .before .before .before .before .before .before .before .before
+    .before .before .before .before .before .before .before in
+    let step =
+    c .before .before .before .before .before .before .before .before .before .before .before .before .before .step in
+    let step-unit =
+    c .before .before .before .before .before .before .before .before .before .before .before .before .step-unit in
     let if1 = c .before .before .before .before .before .before .before .before .before .before .if1 in
     let step-at = c .before .before .before .before .before .before .before .step-at in
     let enum-told = c .before .before .before .before .before .enum-told in
@@ -71,14 +80,17 @@ returns-2 c =
     at-step _ _ _ _ (here .variant) (args .state) _ (here .place) (here .items) _ _ (step .ensures)
     (step-fails _ _ _ (here .variant) (args .state) (here .place) (here .items) _ _ (step-unit .ensures)
     (if1 .left) _ (step-at .ensures) _ _ _ _ (enum-told .given .1)
-    (step-error .ensures ∙ ap (λ x. stepError book (args .text .now) (step .result) x) (skipped .ensures)) (done .ensures) (ended2 .ensures)
-    (c .then-steps2 .ensures))
+    (step-error .ensures ∙ ap (λ x. stepError book (args .text .now) (step .result) x) (skipped .ensures))
+    (done .ensures) (ended2 .ensures) (c .then-steps2 .ensures))
 
 returns-3 : tie.Need-returns-3
 returns-3 c =
-    let start = c .before .before .before .before .before .before .before .before .before .before .before .before .before .before .before .before .before .before .before .before in
-    let step = c .before .before .before .before .before .before .before .before .before .before .before .before .before .before .step in
-    let step-unit = c .before .before .before .before .before .before .before .before .before .before .before .before .before .step-unit in
+    let start = c .before .before .before .before .before .before .before .before .before .before .before .before
+    .before .before .before .before .before .before .before .before in
+    let step = c .before .before .before .before .before .before .before .before .before .before .before
+    .before .before .before .step in
+    let step-unit = c .before .before .before .before .before .before .before .before .before .before .before
+    .before .before .step-unit in
     let if1 = c .before .before .before .before .before .before .before .before .before .before .before .if1 in
     let step-at = c .before .before .before .before .before .before .before .before .step-at in
     let next = c .before .before .before .before .before .before .next in
@@ -91,7 +103,8 @@ returns-3 c =
 
 returns-4 : tie.Need-returns-4
 returns-4 c =
-    let start = c .before .before .before .before .before .before .before .before .before .before .before .before .before .before .before .before in
+    let start = c .before .before .before .before .before .before .before .before .before .before .before .before
+    .before .before .before .before in
     let step = c .before .before .before .before .before .before .before .before .before .before .step in
     let step-unit = c .before .before .before .before .before .before .before .before .before .step-unit in
     let if1 = c .before .before .before .before .before .before .before .if1 in
@@ -105,7 +118,8 @@ returns-4 c =
 
 returns-5 : tie.Need-returns-5
 returns-5 c =
-    let start = c .before .before .before .before .before .before .before .before .before .before .before .before .before .before .before .before in
+    let start = c .before .before .before .before .before .before .before .before .before .before .before .before
+    .before .before .before .before in
     let step = c .before .before .before .before .before .before .before .before .before .before .step in
     let step-unit = c .before .before .before .before .before .before .before .before .before .step-unit in
     let if1 = c .before .before .before .before .before .before .before .if1 in
@@ -119,9 +133,12 @@ returns-5 c =
 
 returns-6 : tie.Need-returns-6
 returns-6 c =
-    let start = c .before .before .before .before .before .before .before .before .before .before .before .before .before .before .before .before .before .before .before in
-    let step = c .before .before .before .before .before .before .before .before .before .before .before .before .before .step in
-    let step-unit = c .before .before .before .before .before .before .before .before .before .before .before .before .step-unit in
+    let start = c .before .before .before .before .before .before .before .before .before .before .before .before
+    .before .before .before .before .before .before .before in
+    let step =
+    c .before .before .before .before .before .before .before .before .before .before .before .before .before .step in
+    let step-unit =
+    c .before .before .before .before .before .before .before .before .before .before .before .before .step-unit in
     let if1 = c .before .before .before .before .before .before .before .before .before .before .if1 in
     let step-at = c .before .before .before .before .before .before .before .step-at in
     let comma = c .before .before .before .before .before .comma in
@@ -134,9 +151,12 @@ returns-6 c =
 
 returns-7 : tie.Need-returns-7
 returns-7 c =
-    let start = c .before .before .before .before .before .before .before .before .before .before .before .before .before .before .before .before .before .before .before .before in
-    let step = c .before .before .before .before .before .before .before .before .before .before .before .before .before .before .step in
-    let step-unit = c .before .before .before .before .before .before .before .before .before .before .before .before .before .step-unit in
+    let start = c .before .before .before .before .before .before .before .before .before .before .before .before
+    .before .before .before .before .before .before .before .before in
+    let step = c .before .before .before .before .before .before .before .before .before .before .before
+    .before .before .before .step in
+    let step-unit = c .before .before .before .before .before .before .before .before .before .before .before
+    .before .before .step-unit in
     let if1 = c .before .before .before .before .before .before .before .before .before .before .before .if1 in
     let step-at = c .before .before .before .before .before .before .before .before .step-at in
     let place = c .before .before .before .before .before .before .place in
@@ -151,41 +171,10 @@ pub take-step-spec : {M : Type 1} → statement M
 take-step-spec =
     tie.close
     (tie.spec
-    (λ c. search needs)
-    (λ c κs. search needs)
-    (λ c κs. search needs)
-    (λ c κs. search needs)
-    (λ c κs. search needs)
-    returns
-    (λ c. search needs)
-    (λ c κs. search needs)
-    (λ c. search needs)
-    (λ c κs. search needs)
-    (λ c κs. search needs)
-    (λ c κs. search needs)
-    (λ c κs. search needs)
-    (λ c κs. search needs)
-    (λ c. search needs)
-    cast-take-token
-    take-token-requires
-    (λ c κs. search needs)
-    (λ c. search needs)
-    (λ c κs. search needs)
-    (λ c. search needs)
-    (λ c κs. search needs)
-    (λ c. search needs)
-    cast-begin-list
-    (λ c κs. search needs)
-    (λ c. search needs)
-    cast-unopened
-    (λ c κs. search needs)
-    (λ c κs. search needs)
-    returns-2
-    (λ c. search needs)
-    returns-3
-    returns-4
-    returns-5
-    (λ c. search needs)
-    returns-6
-    (λ c. search needs)
-    returns-7)
+    (λ c. search needs) (λ c κs. search needs) (λ c κs. search needs) (λ c κs. search needs) (λ c κs. search needs)
+    returns (λ c. search needs) (λ c κs. search needs) (λ c. search needs) (λ c κs. search needs) (λ c κs. search needs)
+    (λ c κs. search needs) (λ c κs. search needs) (λ c κs. search needs) (λ c. search needs) cast-take-token
+    take-token-requires (λ c κs. search needs) (λ c. search needs) (λ c κs. search needs) (λ c. search needs)
+    (λ c κs. search needs) (λ c. search needs) cast-begin-list (λ c κs. search needs) (λ c. search needs) cast-unopened
+    (λ c κs. search needs) (λ c κs. search needs) returns-2 (λ c. search needs) returns-3 returns-4 returns-5
+    (λ c. search needs) returns-6 (λ c. search needs) returns-7)

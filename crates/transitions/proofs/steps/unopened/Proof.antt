@@ -8,7 +8,8 @@ use Rattle.transitions.proofs.steps.unopened.Tie as tie
 
 returns : tie.Need-returns
 returns c =
-    let args = c .before .before .before .before .before .before .before .before .before .before .before .before .args in
+    let args =
+    c .before .before .before .before .before .before .before .before .before .before .before .before .args in
     let book = bookIn (args .book .now) (args .index .now) in
     let text = args .text .now in
     let store = args .store .now in
@@ -20,11 +21,13 @@ returns c =
     (args .place) (here .items) _ (if1 .taken) (c .reached-with .ensures)
 
 stop-requires : tie.Need-stop-requires
-stop-requires c κs = c .before .before .before .before .before .before .before .before .before .before .before .before .before .pre
+stop-requires c κs =
+    c .before .before .before .before .before .before .before .before .before .before .before .before .before .pre
 
 returns-2 : tie.Need-returns-2
 returns-2 c =
-    let args = c .before .before .before .before .before .before .before .before .before .before .before .before .before .before .before .before .args in
+    let args = c .before .before .before .before .before .before .before .before .before .before .before .before .before
+    .before .before .before .args in
     let book = bookIn (args .book .now) (args .index .now) in
     let text = args .text .now in
     let store = args .store .now in
@@ -40,11 +43,5 @@ pub unopened-spec : {M : Type 1} → statement M
 unopened-spec =
     tie.close
     (tie.spec
-    (λ c κs. search needs)
-    (λ c κs. search needs)
-    (λ c κs. search needs)
-    (λ c. search needs)
-    returns
-    stop-requires
-    (λ c. search needs)
-    returns-2)
+    (λ c κs. search needs) (λ c κs. search needs) (λ c κs. search needs) (λ c. search needs) returns stop-requires
+    (λ c. search needs) returns-2)
