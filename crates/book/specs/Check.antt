@@ -140,7 +140,7 @@ variant first = do
   })
 
 -- ---- Section 5: "kind, a, b, c; unused bytes 0"
--- which a a kind has: "Characters are 33 to 126"; a word, a kind of names, a nonterminal, or 0
+-- what `a` may be, by the kind: "Characters are 33 to 126"; a word, a kind of names, a nonterminal, or 0
 abbrev pub argument : ℕ → ℕ → ℕ → ℕ → Bool
 argument words nonterminals kind a =
     cond (eqb kind 0) (between firstCharacter lastCharacter a)

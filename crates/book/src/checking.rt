@@ -91,6 +91,7 @@ fn variants(book: &[u8], at: usize, total: usize, index: &mut [usize]) -> Part
     if total <= MOST_VARIANTS {
         section(book, at, total, total, Sort::Variant, index, VARIANTS)
     } else {
+        // from 1 to 0: no count is accepted
         section(book, at, 1, 0, Sort::Variant, index, VARIANTS)
     }
 }
@@ -115,6 +116,7 @@ fn steps(book: &[u8], at: usize, total: usize, index: &mut [usize]) -> Part
             STEPS,
         )
     } else {
+        // from 1 to 0: no count is accepted
         section(
             book,
             at,

@@ -54,7 +54,7 @@ pub fn place(index: &[usize], base: usize, i: usize) -> usize
     }
 }
 
-// What the records before record i have together.
+// The number of record i's first variant, or step: how many the records before it have.
 pub fn first(index: &[usize], base: usize, i: usize) -> usize
     requires { ⌜ base ≤ 580 ⌝ }
     ensures { λ r. ⌜ r ≡ firstIn (atEntry index) base i ⌝ }

@@ -7,7 +7,7 @@
 // field of that book, in constant time. No public function has a `requires`: a number that the book doesn't have gets a
 // fixed answer, whatever the bytes and the index hold.
 //
-// The crate relies on the promises of `characters`, and assumes nothing. specs/ has the definitions (Book, Check), the
+// The crate relies on the promises of `characters`, and assumes nothing. specs/ has the definitions (Numbers, Book, Check), the
 // index (Index), and laws.
 mod checking;
 mod index;

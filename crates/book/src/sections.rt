@@ -91,6 +91,7 @@ pub enum Allowed {
     Refused,
 }
 
+// The numbers below n; from 1 to 0, which is none, where n is 0.
 fn below(n: usize) -> Range
     ensures { λ r. ⌜ r ≡ belowRange n ⌝ }
 {

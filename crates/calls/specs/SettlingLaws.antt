@@ -1,7 +1,7 @@
--- Laws for a stored answer and the end of a run, and what the additions to a row's sets are in the model.
+-- Laws for stored parses and the end of a run, and what the additions to a row's sets are in the model.
 --
 -- Contents:
--- - a stored answer: answer-law
+-- - stored parses: stored-law
 -- - a parse joins the run's set, in the model: run-added-model
 -- - the first run: first-failed, first-again, first-over
 -- - a further run: next-over, next-again, next-full
@@ -23,11 +23,11 @@ use Rattle.calls.specs.declared.Settled.{Settled}
 use Rattle.calls.specs.Table.{RunAdded, RunJoined, withStoredIn, SettledFirst, SettledNext}
 use Rattle.calls.specs.CallLaws.{row-after, then-row}
 
--- ---- A stored answer
-pub answer-law : (T T1 T2 T3 : List Row) (n g : ℕ) → n < length T → g < length T → T1 ≡ onRow T g wasAsked →
+-- ---- Stored parses
+pub stored-law : (T T1 T2 T3 : List Row) (n g : ℕ) → n < length T → g < length T → T1 ≡ onRow T g wasAsked →
     T2 ≡ onRow T1 n (withSet (kept (useAt (rowOf T1 g)) (rowOf T1 g .set))) →
     T3 ≡ onRow T2 n ended → T3 ≡ withStoredIn T n g
-answer-law T T1 T2 T3 n g h k e1 e2 e3 =
+stored-law T T1 T2 T3 n g h k e1 e2 e3 =
     let r : rowOf T1 g ≡ wasAsked (rowOf T g) = rw e1 (row-after T g (wasAsked (rowOf T g)) k) in
     let l : n < length T1 = rw e1 (simp length-set h) in
     let f2 : T2 ≡ set T1 n (withSet (kept (useAt (rowOf T g)) (rowOf T g .set)) (rowOf T1 n)) = rw r at e2 in

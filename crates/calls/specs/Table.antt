@@ -64,7 +64,7 @@ table numbers = rowsFrom numbers 0 rowCount
 abbrev pub InTable : ℕ → Slice → Type 0
 InTable row rows = (row ≤ mostNesting) × (rowsSize ≤ length (now rows))
 
--- the same, with another number besides
+-- the same, and a number of the row by its index
 abbrev pub NumberIn : ℕ → ℕ → Slice → Type 0
 NumberIn row number rows = (row ≤ mostNesting) × (number < fieldCount) × (rowsSize ≤ length (now rows))
 
@@ -115,7 +115,7 @@ abbrev pub governorIn : Governor → RowGovernor
 governorIn (Governor.Minimum m) = minimum m
 governorIn (Governor.SameStart g) = same-start g
 
--- ---- A stored answer
+-- ---- Stored parses
 -- what a row found are the parses that its governor's call has stored, filtered; the governor is asked (`withStored` of
 -- the model)
 abbrev pub withStoredIn : List Row → ℕ → ℕ → List Row
@@ -141,7 +141,7 @@ pub record SettledFirst (r : Settled) (before after : List Row) (row : ℕ) : Ty
       settleFirst book text row again (outcome failure (rowState units cells before)) ≡
       afterRun r row again failure (rowState units cells after)
 
--- a further run of it is over
+-- a further run of it is over. It never ends as failed: it keeps what was stored. So the failure is any
 pub record SettledNext (r : Settled) (before after : List Row) (row : ℕ) : Type 0 where
   pub now : (book : Book) (text : List ℕ) (again : RowState → Result Outcome) (failure : Option Error)
       (units : ℕ) (cells : List Cell) →

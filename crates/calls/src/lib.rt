@@ -227,7 +227,7 @@ pub fn put_child(rows: &mut [u32], row: usize, child: u32)
 }
 
 // The stored parses of a row's call were asked for.
-fn mark(rows: &mut [u32], row: usize)
+fn put_asked(rows: &mut [u32], row: usize)
     requires { ⌜ InTable row rows ⌝ }
     ensures { λ _. ⌜ Changes rows row model.wasAsked ⌝ }
 {
@@ -295,13 +295,13 @@ pub fn governor_of(rows: &[u32], row: usize, nonterminal: u32, at: u32) -> Gover
 }
 
 // The set of row `into` becomes what the use of row `from` keeps of that row's set.
-fn kept_of(rows: &mut [u32], into: usize, from: usize)
+fn put_kept(rows: &mut [u32], into: usize, from: usize)
     requires { ⌜ Below into from rows ⌝ }
     ensures { λ _. ⌜ Changes rows into (withSet (kept (useAt (rowIn rows from)) (rowIn rows from .set))) ⌝ }
 {
     let associativity = sets::associativity_of(get(rows, from, ASSOCIATIVITY));
     let level = get(rows, from, LEVEL);
-    sets::kept(
+    sets::put_kept(
         rows,
         into * ROW_SIZE + STORED_SET,
         from * ROW_SIZE + STORED_SET,
@@ -315,8 +315,8 @@ pub fn take_stored(rows: &mut [u32], row: usize, governor: usize)
     requires { ⌜ Below row governor rows ⌝ }
     ensures { λ _. ⌜ tableAfter rows ≡ withStoredIn (tableAt rows) row governor ⌝ }
 {
-    mark(rows, governor);
-    kept_of(rows, row, governor);
+    put_asked(rows, governor);
+    put_kept(rows, row, governor);
     end_call(rows, row);
 }
 

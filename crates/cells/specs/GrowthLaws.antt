@@ -177,7 +177,7 @@ module _ (text f g : List ℕ) (cells : List Cell) (held : Holds text f cells) (
       rw (link-still m (omega (arith, h)) l) (leads-still (linkAt f m) n d (omega arith)) in
       next h rest
 
-  -- a chain that led from its head does so still
+  -- a cell that its bucket's head led to is led to still
   leads-more : (hash n : ℕ) → hash < 1024 → Leads f (headAt f hash) n → Leads g (headAt g hash) n
   leads-more hash n l d =
       let still = leads-still (headAt f hash) n d (held .heads hash l) in

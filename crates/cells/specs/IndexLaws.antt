@@ -2,7 +2,7 @@
 -- ones stand in a list once.
 --
 -- Contents:
--- - along a chain: find-none, find-end, find-hit, find-less
+-- - along a bucket: find-none, find-end, find-hit, find-less
 -- - the first equal cell in a list: nowhere, first-at
 -- - in a store that holds the cells: not-found, finds
 use mathlib.Core.Path.{_≡_, refl, sym, _∙_}
@@ -22,7 +22,7 @@ use Rattle.cells.specs.Store.{listed, identityIn, sameIn, hashOf, number
 use Rattle.cells.specs.Store.{next, Holds}
 use Rattle.cells.specs.NumbersLaws.{identity-numbers, hash-lt}
 
--- ---- Along a chain
+-- ---- Along a bucket
 module _ (text store : List ℕ) (c : CellNumbers) where
   pub find-none : (k n : ℕ) → k ≡ 0 → findIn text store c k n ≡ 0
   unfolding findIn
@@ -112,7 +112,7 @@ module _ (text store : List ℕ) (cells : List Cell) (held : Holds text store ce
       let older = held .older n (omega (arith, some-cell)) l in
       rw on (hit k (linkAt store n) (omega arith) (λ e. h (on ∙ e)))))
 
-  -- an equal cell on the chain is found
+  -- an equal cell in the bucket is found
   leads-found : (k m n : ℕ) → Leads store m n → m ≤ length cells → m ≤ k → 0 < n →
       sameIn text c (numbersAt store n) ≡ true → findIn text store c k m ≡ 0 → ⊥
   leads-found k m n here l few p t e =

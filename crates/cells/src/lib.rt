@@ -13,10 +13,8 @@
 mod numbers;
 mod store;
 
-pub use numbers::ABSENT_FORM;
 pub use numbers::CHAIN_FORM;
 pub use numbers::CellNumbers;
-pub use numbers::EMPTY_FORM;
 pub use numbers::LIST_FORM;
 pub use numbers::NAME_FORM;
 pub use numbers::NUMBER_FORM;

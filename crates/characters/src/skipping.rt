@@ -40,7 +40,7 @@ fn in_span(table: &[u8], byte: u8, span: Span) -> bool
     }
 }
 
-// Where the longest span at a place ends: at the place itself where no byte of it belongs there.
+// Where the longest span at a place ends: at the place itself where the byte there doesn't belong, or none is there.
 pub fn span_end(text: &[u8], place: usize, span: Span) -> usize
     ensures { λ r. ⌜ r ≡ spanEnd span (atEntry text) place ⌝ }
 {

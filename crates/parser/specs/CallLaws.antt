@@ -22,9 +22,9 @@ use Rattle.run_model.specs.Model.{oneRunRows, roundsRows, runCallRows, enterRow
 use Rattle.transitions.specs.declared.outcomes.Outcome.{Outcome}
 use Rattle.transitions.specs.declared.outcomes.State.{State}
 use Rattle.transitions.specs.declared.entering.Entered.{Entered}
-use Rattle.transitions.specs.declared.runs.Ended.{Ended}
+use Rattle.transitions.specs.declared.runs.RunEnd.{RunEnd}
 use Rattle.transitions.specs.Outcomes.{cellsOf, Held, given, Ran, Runs, withoutFailure}
-use Rattle.transitions.specs.Entering.{innerRunner, goesIn, Enters, goesAgain, FirstEnded, RoundEnded}
+use Rattle.transitions.specs.Entering.{innerRunner, goesIn, BeginsUse, goesAgain, FirstEnded, RoundEnded}
 use Rattle.parser.specs.ResultLaws.{Going, sub-turn, sub-end}
 
 -- ---- Runners
@@ -36,7 +36,7 @@ runner-some book text (suc n) h = rw sub-one
 
 -- ---- A use of a nonterminal
 module _ (book : Book) (text st0 st1 : List ℕ) (T U : List Row) (n N u : ℕ) (s : State) (e : Entered)
-    (E : Enters book text st0 st1 T U n N u s e) where
+    (E : BeginsUse book text st0 st1 T U n N u s e) where
   pub enter-over : e .runs ≡ false →
       Runs text st0 (s .cells) st1 U (e .outcome)
       (λ cells. enterRows book text (runnerRows book text n) n N u (rowState (s .units) cells T))
@@ -57,7 +57,7 @@ module _ (book : Book) (text st0 st1 : List ℕ) (T U : List Row) (n N u : ℕ) 
 
 -- ---- The runs of a call
 module _ (book : Book) (text st0 st1 : List ℕ) (T T1 U U1 : List Row) (n N u m : ℕ) (s : State) (run : RowRunner)
-    (o : Outcome) (e : Ended) (eo : T1 ≡ onRow T n (opened N u))
+    (o : Outcome) (e : RunEnd) (eo : T1 ≡ onRow T n (opened N u))
     (one : Runs text st0 (s .cells) st1 U o (λ cells. oneRunRows book text run n m (rowState (s .units) cells T1)))
     (fe : FirstEnded U U1 n o e) where
   first-run : Held text st0 (s .cells) →
@@ -96,7 +96,7 @@ module _ (book : Book) (text : List ℕ) (run : RowRunner) (n m i : ℕ) (st0 : 
   unfolding roundsRows given
   rounds-none r er h held = let g = inv held in rw er (record { is = rw (sub-end 65 i h) at (g .is); held = g .held })
 
-  module _ (st1 : List ℕ) (U U1 : List Row) (o : Outcome) (e : Ended) (l : i < 65)
+  module _ (st1 : List ℕ) (U U1 : List Row) (o : Outcome) (e : RunEnd) (l : i < 65)
       (one : Runs text st (s .cells) st1 U o (λ cells. oneRunRows book text run n m (rowState (s .units) cells T)))
       (re : RoundEnded U U1 n o e) where
     round : Held text st0 c0 →

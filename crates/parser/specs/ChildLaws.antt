@@ -28,7 +28,7 @@ use Rattle.transitions.specs.declared.outcomes.State.{State}
 use Rattle.transitions.specs.declared.stages.Next.{Next}
 use Rattle.transitions.specs.declared.stages.Stage.{Stage}
 use Rattle.transitions.specs.Outcomes.{cellsOf, Held, given, goesOn, Ran, Runs, failureAt, withoutFailure}
-use Rattle.transitions.specs.Steps.{nextRows, descendsRows, resumes, Stages, Joined}
+use Rattle.transitions.specs.Steps.{nextRows, descendsRows, resumes, StagedFrom, Joined}
 use Rattle.transitions.specs.Entering.{innerRunner}
 use Rattle.parser.specs.Cycle.{followsRows}
 use Rattle.transitions.specs.OutcomeLaws.{given-ok}
@@ -128,7 +128,7 @@ module _ (book : Book) (text : List ℕ) (n c j : ℕ) (rest : List (Todo ℕ)) 
 
   module _ (l : i < k) (h : n ≡ 0 → ⊥) (q : Parse ℕ) (eq : q ≡ getD (rowOf T n .set) i absentParse) (st1 st2 : List ℕ)
       (U : List Row) (g : Stage) (a all : Outcome)
-      (S : Stages book text st (o .state) st1 j g
+      (S : StagedFrom book text st (o .state) st1 j g
       (λ inner n c rest s. nextRows book text c j rest next items q s (stepsRows book text inner n)))
       (R : Runs text st1 (g .outcome .state .cells) st2 U a (λ cells.
       resumes book text (runnerRows book text (n - 1)) (n - 1) c j rest (g .doing) (g .place) (g .items)

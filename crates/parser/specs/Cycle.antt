@@ -29,7 +29,7 @@ use Rattle.transitions.specs.declared.stages.Next.{Next}
 use Rattle.transitions.specs.declared.stages.Progress.{Progress}
 use Rattle.transitions.specs.Outcomes.{failureAt}
 use Rattle.transitions.specs.Entering.{innerRunner}
-use Rattle.transitions.specs.Steps.{todoFrom, nextRows, sideRows, descendsRows, resumes}
+use Rattle.transitions.specs.Steps.{todoFrom, nextRows, firstSideRows, descendsRows, resumes}
 use Rattle.transitions.specs.Contracts.{Fitting, FromState, FromResult}
 
 -- a path's row is one of the table, and its steps are some of the book's, no more than a byte can say
@@ -72,11 +72,11 @@ followsRows book text inner n c j rest next items z =
     z >>= (λ o. followedRows book text inner n (nextRows book text c j rest next items) o)
 
 -- both sides of a choice, whatever the nonterminal of the other side
-unfoldable pub sidesRows : Book → List ℕ → Option RowRunner → ℕ → ℕ → ℕ → List (Todo ℕ) → Next → ℕ → ℕ → ℕ →
+unfoldable pub bothSidesRows : Book → List ℕ → Option RowRunner → ℕ → ℕ → ℕ → List (Todo ℕ) → Next → ℕ → ℕ → ℕ →
     RowState → Result Outcome
-sidesRows book text inner n c j rest next M at items s =
-    sideRows book text inner n c j rest next at items s >>=
-    (λ a. orChild book text inner n c M (nextRows book text c j rest next items) at a)
+bothSidesRows book text inner n c j rest next M x items s =
+    firstSideRows book text inner n c j rest next x items s >>=
+    (λ a. orChild book text inner n c M (nextRows book text c j rest next items) x a)
 
 -- ---- What the contracts ask
 -- the call of row n, which has its level of nesting
@@ -126,7 +126,7 @@ module _ (n : ℕ) where
 
     abbrev pub chooses : Next → ℕ → FromState
     chooses next N book text s =
-        sidesRows book text (runnerRows book text n) n (here .call) (here .variant) (todoAt book here) next N
+        bothSidesRows book text (runnerRows book text n) n (here .call) (here .variant) (todoAt book here) next N
         (here .place) (here .items) s
 
     abbrev pub proceeds : Doing → FromResult

@@ -36,17 +36,17 @@ use Rattle.transitions.specs.declared.stages.Next.{Next}
 use Rattle.transitions.specs.declared.stages.Reached.{Reached}
 use Rattle.transitions.specs.declared.stages.Stage.{Stage}
 use Rattle.transitions.specs.Outcomes.{cellsOf, Held, given, goesOn, Ran, Runs, failureAt}
-use Rattle.transitions.specs.Steps.{todoFrom, nextRows, descendsRows, choosesRows, doesRows, resumes, sideRows, Stages}
-use Rattle.transitions.specs.Steps.{Reaches, Chosen}
-use Rattle.parser.specs.Cycle.{sidesRows, rankOf}
+use Rattle.transitions.specs.Steps.{todoFrom, nextRows, descendsRows, choosesRows, doesRows, resumes, firstSideRows, StagedFrom}
+use Rattle.transitions.specs.Steps.{ReachedFrom, Chosen}
+use Rattle.parser.specs.Cycle.{bothSidesRows, rankOf}
 use Rattle.parser.specs.ResultLaws.{Going, bind-assoc, bind-assoc-in, limit-ends, goes-to, goes-on, ended}
 
 -- ---- Choices
 sides-optional : (book : Book) (text : List ℕ) (inner : Option RowRunner) (n c j : ℕ) (rest : List (Todo ℕ))
     (M x items : ℕ) (s : RowState) →
-    sidesRows book text inner n c j rest Next.Steps M x items s
+    bothSidesRows book text inner n c j rest Next.Steps M x items s
     ≡ choosesRows book text inner n c j rest Next.Steps M x items s
-unfolding sidesRows choosesRows sideRows nextRows orAbsentRows
+unfolding bothSidesRows choosesRows firstSideRows nextRows orAbsentRows
 sides-optional book text inner n c j rest M x items s =
     bind-assoc-in (makes (make text Cell.absent) s)
     (λ absent. makes (withCell book text j items (absent .cell)) (absent .state))
@@ -55,9 +55,9 @@ sides-optional book text inner n c j rest M x items s =
 
 sides-elements : (book : Book) (text : List ℕ) (inner : Option RowRunner) (n c j : ℕ) (rest : List (Todo ℕ))
     (l : list.List) (x items : ℕ) (s : RowState) →
-    sidesRows book text inner n c j rest (Next.Elements l) (l .nonterminal) x items s ≡
+    bothSidesRows book text inner n c j rest (Next.Elements l) (l .nonterminal) x items s ≡
     choosesRows book text inner n c j rest (Next.Elements l) (l .nonterminal) x items s
-unfolding sidesRows choosesRows sideRows nextRows choiceRows
+unfolding bothSidesRows choosesRows firstSideRows nextRows choiceRows
 sides-elements book text inner n c j rest l x items s =
     bind-assoc (spendRows s)
     (λ t. stopsRows book text j (l .values) (closingIn (l .closing)) (stepsRows book text inner n c j rest) x items t)
@@ -65,14 +65,14 @@ sides-elements book text inner n c j rest l x items s =
 
 module _ (book : Book) (text : List ℕ) (inner : Option RowRunner) (n c j : ℕ) (rest : List (Todo ℕ)) (next : Next)
     (M x items : ℕ) (s : State) (st0 st1 st2 : List ℕ) (T U : List Row) (f : Reached) (a : Outcome)
-    (F : Reaches book text st0 s st1 j f (λ inner n c rest s. sideRows book text inner n c j rest next x items s))
+    (F : ReachedFrom book text st0 s st1 j f (λ inner n c rest s. firstSideRows book text inner n c j rest next x items s))
     (G : Runs text st1 (f .outcome .state .cells) st2 U a (λ cells.
     resumes book text inner n c j rest Doing.Steps (f .place) (f .items) (given (f .outcome) cells T))) where
   first-side : Held text st0 (s .cells) →
       (given a (cellsOf st2 (a .state .cells)) U
       >>= (λ y. orChild book text inner n c M (nextRows book text c j rest next items) x y))
-      ≡ sidesRows book text inner n c j rest next M x items (rowState (s .units) (cellsOf st0 (s .cells)) T)
-  unfolding sidesRows
+      ≡ bothSidesRows book text inner n c j rest next M x items (rowState (s .units) (cellsOf st0 (s .cells)) T)
+  unfolding bothSidesRows
   first-side held =
       let d = F held in
       ap (λ (z : Result model.Outcome).
@@ -81,7 +81,7 @@ module _ (book : Book) (text : List ℕ) (inner : Option RowRunner) (n c j : ℕ
 
   pub choice-stopped : (a .limit ≡ 0 → ⊥) →
       Runs text st0 (s .cells) st2 U a
-      (λ cells. sidesRows book text inner n c j rest next M x items (rowState (s .units) cells T))
+      (λ cells. bothSidesRows book text inner n c j rest next M x items (rowState (s .units) cells T))
   choice-stopped h held =
       record {
         is = limit-ends a (cellsOf st2 (a .state .cells)) U _ h ∙ first-side held;
@@ -93,7 +93,7 @@ module _ (book : Book) (text : List ℕ) (inner : Option RowRunner) (n c j : ℕ
       (λ cells. descendsRows book text inner n c j rest next M x items (rowState (a .state .units) cells U)))
       (C : Chosen text U1 c x a b r) where
     pub choice-both : Runs text st0 (s .cells) st3 U1 r
-        (λ cells. sidesRows book text inner n c j rest next M x items (rowState (s .units) cells T))
+        (λ cells. bothSidesRows book text inner n c j rest next M x items (rowState (s .units) cells T))
     unfolding descendsRows orChild
     choice-both held =
         let g = G (F held .held) in
@@ -175,23 +175,23 @@ module _ (book : Book) (text : List ℕ) (inner : Option RowRunner) (n c j : ℕ
 
   resume-optional : (M : ℕ) → doing ≡ Doing.Optional M →
       Runs text st0 (o .state .cells) st1 U r
-      (λ cells. sidesRows book text inner n c j rest Next.Steps M at items (rowState (o .state .units) cells T)) →
+      (λ cells. bothSidesRows book text inner n c j rest Next.Steps M at items (rowState (o .state .units) cells T)) →
       Runs text st0 (o .state .cells) st1 U r
       (λ cells. resumes book text inner n c j rest doing at items (given o cells T))
   unfolding doesRows
   resume-optional M e k =
-      by-part (λ s. sidesRows book text inner n c j rest Next.Steps M at items s)
+      by-part (λ s. bothSidesRows book text inner n c j rest Next.Steps M at items s)
       (λ s. rw e (sides-optional book text inner n c j rest M at items s)) k
 
   resume-elements : (l : list.List) → doing ≡ Doing.Elements l →
       Runs text st0 (o .state .cells) st1 U r (λ cells.
-      sidesRows book text inner n c j rest (Next.Elements l) (l .nonterminal) at items
+      bothSidesRows book text inner n c j rest (Next.Elements l) (l .nonterminal) at items
       (rowState (o .state .units) cells T)) →
       Runs text st0 (o .state .cells) st1 U r
       (λ cells. resumes book text inner n c j rest doing at items (given o cells T))
   unfolding doesRows
   resume-elements l e k =
-      by-part (λ s. sidesRows book text inner n c j rest (Next.Elements l) (l .nonterminal) at items s)
+      by-part (λ s. bothSidesRows book text inner n c j rest (Next.Elements l) (l .nonterminal) at items s)
       (λ s. rw e (sides-elements book text inner n c j rest l at items s)) k
 
 -- ---- Steps
@@ -248,7 +248,7 @@ module _ (book : Book) (text : List ℕ) (inner : Option RowRunner) (n c j step 
 
     pub path-optional : (st1 : List ℕ) (U : List Row) (r : Outcome) (M : ℕ) → doing ≡ Doing.Optional M →
         Runs text st (o .state .cells) st1 U r (λ cells.
-        sidesRows book text inner n c j (todoFrom book step left) Next.Steps M at items
+        bothSidesRows book text inner n c j (todoFrom book step left) Next.Steps M at items
         (rowState (o .state .units) cells T)) → Held text st0 c0 → Ran text st1 U r z
     path-optional st1 U r M e k =
         then-whole st1 U r
@@ -256,7 +256,7 @@ module _ (book : Book) (text : List ℕ) (inner : Option RowRunner) (n c j step 
 
     pub path-elements : (st1 : List ℕ) (U : List Row) (r : Outcome) (l : list.List) → doing ≡ Doing.Elements l →
         Runs text st (o .state .cells) st1 U r (λ cells.
-        sidesRows book text inner n c j (todoFrom book step left) (Next.Elements l) (l .nonterminal) at items
+        bothSidesRows book text inner n c j (todoFrom book step left) (Next.Elements l) (l .nonterminal) at items
         (rowState (o .state .units) cells T)) → Held text st0 c0 → Ran text st1 U r z
     path-elements st1 U r l e k =
         then-whole st1 U r
@@ -281,7 +281,7 @@ module _ (book : Book) (text : List ℕ) (inner : Option RowRunner) (n c j step 
       resumes-steps cells = rw (goes-on o cells T h, e)
 
       pub path-step : (st1 : List ℕ) (g : Stage) → (left ≡ 0 → ⊥) → step + left ≤ length (book .steps) →
-          Stages book text st (o .state) st1 j g (λ inner n c rest s.
+          StagedFrom book text st (o .state) st1 j g (λ inner n c rest s.
           stepsRows book text inner n c j (taking (nthStep (book .steps) step) ∷ rest) at items s) →
           Held text st0 c0 → Going text st1 (g .outcome .state .cells)
           (resumes book text inner n c j (todoFrom book (step + 1) (left - 1)) (g .doing) (g .place) (g .items)

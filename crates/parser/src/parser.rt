@@ -1,8 +1,9 @@
 // A call runs its variants; a variant runs its steps; a step calls a nonterminal again.
 //
-// The functions of the cycle (here and in left_recursion.rt) take the first free row, whose number is the levels of
-// nesting left, and how far the path through a variant is. A parse joins the run's set of its call's row as its path
-// ends.
+// A row's number is the levels of nesting left. `variant` and `one_run`, and `rounds` and `run_call` of
+// left_recursion.rt, take the row of the call at hand; `enter`, `descend`, `follow`, `choice` and `steps` take the first
+// free row, which the next call gets. A path's own call has the row `here.call`, and its parse joins that row's set of
+// the run as the path ends.
 //
 // What ends the cycle: a call runs its variants, and a parse is followed, with one level less; on one level the steps
 // that remain become fewer.
@@ -114,47 +115,47 @@ fn descend(
     text: &[u8],
     store: &mut [u32],
     rows: &mut [u32],
-    row: usize,
+    free: usize,
     here: Progress,
     next: Next,
     nonterminal: u32,
     state: State,
 ) -> Outcome
-    requires { ⌜ OnPath book index text rows row here ⌝ }
-    ensures { λ r. ⌜ Does book index text store rows state r (descends row here next nonterminal) ⌝ }
+    requires { ⌜ OnPath book index text rows free here ⌝ }
+    ensures { λ r. ⌜ Does book index text store rows state r (descends free here next nonterminal) ⌝ }
 {
     let at = begin_child(text, rows, here);
-    let o = enter(book, index, text, store, rows, row, nonterminal, at, state);
-    follow(book, index, text, store, rows, row, here, next, o)
+    let o = enter(book, index, text, store, rows, free, nonterminal, at, state);
+    follow(book, index, text, store, rows, free, here, next, o)
 }
 
-// What follows each parse that a row found, one level further in.
+// What follows each parse that the row found, one level further in.
 fn follow(
     book: &[u8],
     index: &[usize],
     text: &[u8],
     store: &mut [u32],
     rows: &mut [u32],
-    row: usize,
+    free: usize,
     here: Progress,
     next: Next,
     child: Outcome,
 ) -> Outcome
-    requires { ⌜ OnPath book index text rows row here ⌝ }
-    ensures { λ r. ⌜ Continues book index text store rows child r (followsEach row here next) ⌝ }
+    requires { ⌜ OnPath book index text rows free here ⌝ }
+    ensures { λ r. ⌜ Continues book index text store rows child r (followsEach free here next) ⌝ }
 {
     if !goes_on(child) {
         return child;
     }
-    let parses = calls::parse_count(rows, row);
+    let parses = calls::parse_count(rows, free);
     let mut all = child;
     let mut i = 0;
     while i < parses {
         let s = all.state;
-        if row == 0 {
+        if free == 0 {
             return without_failure(TOO_DEEP, s);
         }
-        let q = calls::nth_parse(rows, row, i);
+        let q = calls::nth_parse(rows, free, i);
         let g = next_of(book, index, text, store, here, next, q, s);
         let doing = g.doing;
         let there = Progress {
@@ -165,7 +166,7 @@ fn follow(
             place: g.place,
             items: g.items,
         };
-        let inner = row - 1;
+        let inner = free - 1;
         let o = steps(
             book,
             index,
@@ -194,14 +195,14 @@ fn choice(
     text: &[u8],
     store: &mut [u32],
     rows: &mut [u32],
-    row: usize,
+    free: usize,
     here: Progress,
     next: Next,
     nonterminal: u32,
     state: State,
 ) -> Outcome
-    requires { ⌜ OnPath book index text rows row here ⌝ }
-    ensures { λ r. ⌜ Does book index text store rows state r (chooses row here next nonterminal) ⌝ }
+    requires { ⌜ OnPath book index text rows free here ⌝ }
+    ensures { λ r. ⌜ Does book index text store rows state r (chooses free here next nonterminal) ⌝ }
 {
     let f = first_side(book, index, text, store, here, next, state);
     let there = Progress {
@@ -218,7 +219,7 @@ fn choice(
         text,
         store,
         rows,
-        row,
+        free,
         there,
         Doing::Steps,
         f.outcome,
@@ -232,7 +233,7 @@ fn choice(
         text,
         store,
         rows,
-        row,
+        free,
         here,
         next,
         nonterminal,
@@ -249,13 +250,13 @@ fn steps(
     text: &[u8],
     store: &mut [u32],
     rows: &mut [u32],
-    row: usize,
+    free: usize,
     from: Progress,
     first: Doing,
     begun: Outcome,
 ) -> Outcome
-    requires { ⌜ OnPath book index text rows row from ⌝ }
-    ensures { λ r. ⌜ Continues book index text store rows begun r (proceeds row from first) ⌝ }
+    requires { ⌜ OnPath book index text rows free from ⌝ }
+    ensures { λ r. ⌜ Continues book index text store rows begun r (proceeds free from first) ⌝ }
 {
     // Four numbers, and not a copy of the struct: that would be read in larger parts than it was written in, and wait.
     let mut step = from.step;
@@ -286,38 +287,49 @@ fn steps(
                 doing = g.doing;
                 o = g.outcome;
             }
-            Doing::Child(m) => {
+            Doing::Child(nonterminal) => {
                 return descend(
                     book,
                     index,
                     text,
                     store,
                     rows,
-                    row,
+                    free,
                     here,
                     Next::Steps,
-                    m,
+                    nonterminal,
                     o.state,
                 );
             }
-            Doing::Optional(m) => {
+            Doing::Optional(nonterminal) => {
                 return choice(
                     book,
                     index,
                     text,
                     store,
                     rows,
-                    row,
+                    free,
                     here,
                     Next::Steps,
-                    m,
+                    nonterminal,
                     o.state,
                 );
             }
             Doing::Elements(list) => {
-                let m = list.nonterminal;
+                let nonterminal = list.nonterminal;
                 let next = Next::Elements(list);
-                return choice(book, index, text, store, rows, row, here, next, m, o.state);
+                return choice(
+                    book,
+                    index,
+                    text,
+                    store,
+                    rows,
+                    free,
+                    here,
+                    next,
+                    nonterminal,
+                    o.state,
+                );
             }
         }
     }

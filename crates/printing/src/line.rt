@@ -3,6 +3,7 @@ ghost use mathlib.Core.Path.{_≡_};
 ghost use mathlib.Core.List.{_++_};
 ghost use lib.ListN.{take};
 ghost use Rattle.characters.specs.Slices.{atEntry, atExit};
+ghost use Rattle.semantics.specs.Numbers.{cellsSize};
 ghost use Rattle.printing.specs.Printing.{decimal, lineOf, columnOf, hasLine, refusedLine};
 ghost use Rattle.printing.specs.Laying.{Lays};
 ghost use Rattle.run.specs.Promise.{answerIn};
@@ -26,7 +27,7 @@ pub enum Length {
 
 // The numbers of the cells that a run can make.
 fn cell_numbers(cells: &[u32]) -> &[u32]
-    ensures { λ r. ⌜ now r ≡ take 12288 (atEntry cells) ⌝ }
+    ensures { λ r. ⌜ now r ≡ take cellsSize (atEntry cells) ⌝ }
 {
     if cells.len() < CELLS_SIZE {
         &cells[..]

@@ -29,7 +29,7 @@ use Rattle.run_model.specs.Rows.{rowOf}
 use Rattle.calls.specs.Table.{table}
 use Rattle.calls.specs.TableLaws.{read-set}
 use Rattle.run.specs.declared.whole.Values.{Values}
-use Rattle.run.specs.Reading.{placeIn, withValue, withValues, withParse, endAnswer}
+use Rattle.run.specs.Reading.{placeOrNone, withValue, withValues, withParse, endAnswer}
 
 -- ---- Zeros
 zeros-taken : (m k : ℕ) → m ≤ k → take {A = ℕ} m (replicate k 0) ≡ replicate m 0
@@ -183,7 +183,7 @@ by-values-is cells parses (v ∷ vs) work r = rw (one-value v vs) (by (allAre v 
 
 -- ---- High bytes
 module _ (text : List ℕ) (i : ℕ) where
-  pub high-hit : i < length text → 128 ≤ getD text i 0 → placeIn text i ≡ firstHigh i (drop i text)
+  pub high-hit : i < length text → 128 ≤ getD text i 0 → placeOrNone text i ≡ firstHigh i (drop i text)
   unfolding firstHigh
   high-hit h l = rw (drop-cons text i 0 h, le-leb 128 (getD text i 0) l, lt-ltb i (length text) h)
 
@@ -192,7 +192,7 @@ module _ (text : List ℕ) (i : ℕ) where
   unfolding firstHigh
   high-on h l = rw (add-one i, drop-cons text i 0 h, lt-leb 128 (getD text i 0) l)
 
-  pub high-end : length text ≤ i → placeIn text i ≡ firstHigh i (drop i text)
+  pub high-end : length text ≤ i → placeOrNone text i ≡ firstHigh i (drop i text)
   unfolding firstHigh
   high-end h = rw (drop-of-length-le text h, le-ltb i (length text) h)
 

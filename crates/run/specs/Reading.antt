@@ -39,8 +39,8 @@ abbrev pub noAllowance : ℕ → Bool
 noAllowance allowance = eqb allowance 0 || ltb mostUnits allowance
 
 -- a place of the text, where it is one
-abbrev pub placeIn : List ℕ → ℕ → Option ℕ
-placeIn text i = cond (ltb i (length text)) (some i) none
+abbrev pub placeOrNone : List ℕ → ℕ → Option ℕ
+placeOrNone text i = cond (ltb i (length text)) (some i) none
 
 -- ---- Whole parses
 -- one value more

@@ -46,7 +46,7 @@ use Rattle.transitions.specs.Fit.{Fits, Fit}
 use Rattle.run.specs.declared.reader.Answer as parse
 use Rattle.run.specs.declared.whole.Values.{Values}
 use Rattle.run.specs.Promise.{answerIn, answered, noRoom, Reads, answerWith}
-use Rattle.run.specs.Reading.{short, noAllowance, placeIn, withValues, endAnswer, seenOf, RunsText}
+use Rattle.run.specs.Reading.{short, noAllowance, placeOrNone, withValues, endAnswer, seenOf, RunsText}
 use Rattle.run.specs.ListLaws.{by-values-is}
 
 -- the three parts of what is answered
@@ -158,7 +158,7 @@ module _ (cells parses text : List ℕ) (book : Book) (start allowance : ℕ) wh
         with-lists {a = a} q refl refl
         ∙ rw (lt-leb (length (book .nonterminals)) start (omega arith), lt-ltb 4096 (length text) h)
 
-    module _ (few : length text ≤ 4096) (high : ℕ) (told : placeIn text high ≡ firstHigh 0 text) where
+    module _ (few : length text ≤ 4096) (high : ℕ) (told : placeOrNone text high ≡ firstHigh 0 text) where
       pub high-found : (a : parse.Answer) → high < length text → answerIn a ≡ answer 11 high 0 0 0 0 0 →
           answered a cells parses ≡ onBook cells parses book text start allowance
       unfolding onBook

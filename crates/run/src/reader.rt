@@ -12,7 +12,7 @@ ghost use Rattle.semantics.specs.Answer as answers;
 ghost use Rattle.semantics.specs.Answer.{answer, firstHigh, answerOf};
 ghost use Rattle.transitions.specs.Fit.{Fits};
 ghost use Rattle.run.specs.Promise.{answerIn, noRoom, Read, ReadIn};
-ghost use Rattle.run.specs.Reading.{short, noAllowance, placeIn, endAnswer, seenOf, Gives};
+ghost use Rattle.run.specs.Reading.{short, noAllowance, placeOrNone, endAnswer, seenOf, Gives};
 ghost use Rattle.run.specs.Reading.{CanEnd, CanStart, CanRead, HasRoom, RunsText};
 use crate::lists::clear_lists;
 use crate::lists::fill_lists;
@@ -193,7 +193,7 @@ fn run(
 // ---- The text and the start
 // The place of the first byte of 128 or more, or the text's length.
 fn first_high(text: &[u8]) -> usize
-    ensures { λ r. ⌜ placeIn (atEntry text) r ≡ firstHigh 0 (atEntry text) ⌝ }
+    ensures { λ r. ⌜ placeOrNone (atEntry text) r ≡ firstHigh 0 (atEntry text) ⌝ }
 {
     let mut i = 0;
     while i < text.len() {

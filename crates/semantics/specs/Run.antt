@@ -1,8 +1,8 @@
 -- Document 01, "The run".
 --
--- Letters that stand for one thing throughout: c is a call (in `make` a cell), s and t are states, j a variant's
--- number, N a use's nonterminal and u the skipped place where it begins, M a child's nonterminal, m the minimum of a
--- level, x a place that a path has reached, e an error, p and q parses.
+-- Letters: c is a call (in `make` a cell), s and t are states, j a variant's number, N a use's nonterminal and u the
+-- skipped place where it begins, M a child's nonterminal, m the minimum of a level, x a place that a path has reached, e
+-- an error, p and q parses. What was made is m too, of an empty chain e, of a list l.
 use mathlib.Core.Bool.{Bool, true, false, cond, _&&_}
 use mathlib.Core.List.{List, [], _∷_, _++_}
 use mathlib.Core.Option.{Option, none, some}

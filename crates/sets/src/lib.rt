@@ -260,7 +260,13 @@ fn keep(numbers: &mut [u32], place: usize, associativity: Associativity, level: 
 }
 
 // The set at `into` becomes what a use of this associativity and level keeps of the set at `from`.
-pub fn kept(numbers: &mut [u32], into: usize, from: usize, associativity: Associativity, level: u32)
+pub fn put_kept(
+    numbers: &mut [u32],
+    into: usize,
+    from: usize,
+    associativity: Associativity,
+    level: u32,
+)
     requires { ⌜ HasSet into numbers × HasSet from numbers × Apart into from ⌝ }
     ensures { λ _. ⌜ Kept (atEntry numbers) (atExit numbers) into from associativity level ⌝ }
 {

@@ -4,7 +4,7 @@
 // Every public function equals a definition of `semantics` (Tokens, Steps, Errors) on every book, index, text and
 // place, a place beyond the end included; the book is the one that the index gives (`bookIn`). specs/Maps.antt says
 // what each struct and enum stands for. No public function has a `requires`. A place that is called `at` is skipped,
-// one that is called `x` or `place` isn't.
+// one that is called `x` isn't; `place` is either.
 //
 // The crate relies on the promises of `characters`, `book` and `errors` and on the definitions of `semantics`, and
 // assumes nothing.

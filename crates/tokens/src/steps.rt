@@ -6,6 +6,7 @@ ghost use Rattle.characters.specs.Slices.{atEntry};
 ghost use Rattle.book.specs.Book.{Book};
 ghost use Rattle.book.specs.Index.{bookAt};
 ghost use Rattle.book.specs.declared.records.Step.{Step};
+ghost use Rattle.semantics.specs.Numbers.{characterWanted, unknownName, wrongKind};
 ghost use Rattle.semantics.specs.Errors.{error, identifierError, stepError};
 ghost use Rattle.semantics.specs.Run.{closingOf};
 ghost use Rattle.semantics.specs.Tokens.{when, isSome, variableAt};
@@ -311,7 +312,7 @@ fn error_at(place: u32, kind: u32, argument: u32) -> Error
 
 // The closing of a list is missing: 1, with its code.
 pub fn closing_error(closing: Closing, at: u32) -> Error
-    ensures { λ r. ⌜ errorOf r ≡ error at 1 (closingOf (closingIn closing)) ⌝ }
+    ensures { λ r. ⌜ errorOf r ≡ error at characterWanted (closingOf (closingIn closing)) ⌝ }
 {
     match closing {
         Closing::Character(c) => error_at(at, CHARACTER_WANTED, c),
@@ -354,7 +355,7 @@ fn number_error(text: &[u8], at: u32) -> Error
 // No variable of the kind: a name of another kind, or none.
 fn kind_error(book: &[u8], index: &[usize], text: &[u8], kind: u32, at: u32) -> Error
     ensures { λ r. ⌜ errorOf r ≡ when (isSome (variableAt (bookAt book index) (atEntry text) at))
-        (λ _. error at 8 kind) (λ _. error at 7 0) ⌝ }
+        (λ _. error at wrongKind kind) (λ _. error at unknownName 0) ⌝ }
 {
     match variable_at(book, index, text, at as usize) {
         Variable::Named {

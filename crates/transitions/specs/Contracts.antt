@@ -3,7 +3,7 @@
 -- of document 01.
 --
 -- What is asked: Short, Fitting, Ready. What is promised: MakesCell of a cell, Does of a part of the run, Continues of
--- one that goes on from an outcome, Stages and Reaches of a part that calls nothing. Then the parts of the model, from
+-- one that goes on from an outcome, Stages, StagesAll and Reaches of a part that calls nothing. Then the parts of the model, from
 -- where a path is.
 use mathlib.Core.Bool.{Bool}
 use mathlib.Core.List.{List, _∷_}
@@ -34,7 +34,7 @@ use Rattle.transitions.specs.declared.stages.Stage.{Stage}
 use Rattle.transitions.specs.Outcomes.{Runs, MadeBy, given}
 use Rattle.transitions.specs.Fit.{Fit}
 use Rattle.transitions.specs.Steps as steps
-use Rattle.transitions.specs.Steps.{ModelPart, nextRows, sideRows, unopenedRows, tokenRows}
+use Rattle.transitions.specs.Steps.{ModelPart, nextRows, firstSideRows, unopenedRows, tokenRows}
 
 -- ---- What is asked
 -- "above 4,096 bytes" is a refusal, so that a text's places fit into 32 bits
@@ -77,19 +77,19 @@ Continues book index text store rows before r part =
 -- a part that calls nothing, and what the path does next
 abbrev pub Stages : Lent → Lent → Lent → Lent → Progress → State → Stage → (Book → List ℕ → ModelPart) → Type 0
 Stages book index text store here s g part =
-    steps.Stages (bookAt book index) (atEntry text) (atEntry store) s (atExit store) (here .variant) g
+    steps.StagedFrom (bookAt book index) (atEntry text) (atEntry store) s (atExit store) (here .variant) g
     (part (bookAt book index) (atEntry text))
 
 -- the same of a part that reads no book
 abbrev pub StagesAll : Lent → Lent → Progress → State → Stage → (Book → List ℕ → ModelPart) → Type 0
 StagesAll text store here s g part =
     (book : Book) →
-    steps.Stages book (atEntry text) (atEntry store) s (atExit store) (here .variant) g (part book (atEntry text))
+    steps.StagedFrom book (atEntry text) (atEntry store) s (atExit store) (here .variant) g (part book (atEntry text))
 
 -- the same where the steps left come next
 abbrev pub Reaches : Lent → Lent → Lent → Lent → Progress → State → Reached → (Book → List ℕ → ModelPart) → Type 0
 Reaches book index text store here s g part =
-    steps.Reaches (bookAt book index) (atEntry text) (atEntry store) s (atExit store) (here .variant) g
+    steps.ReachedFrom (bookAt book index) (atEntry text) (atEntry store) s (atExit store) (here .variant) g
     (part (bookAt book index) (atEntry text))
 
 -- ---- Parts of the model
@@ -131,9 +131,9 @@ stops values closing place here book text inner n c rest s =
     (stepsRows book text inner n c (here .variant) rest) place (here .items) s
 
 -- the first side of a choice
-abbrev pub sides : Next → Progress → Book → List ℕ → ModelPart
-sides next here book text inner n c rest s =
-    sideRows book text inner n c (here .variant) rest next (here .place) (here .items) s
+abbrev pub firstSide : Next → Progress → Book → List ℕ → ModelPart
+firstSide next here book text inner n c rest s =
+    firstSideRows book text inner n c (here .variant) rest next (here .place) (here .items) s
 
 -- what follows a parse
 abbrev pub follows : Next → Parse ℕ → Progress → Book → List ℕ → ModelPart

@@ -32,23 +32,23 @@ use Rattle.errors.specs.declared.Failure.{Failure}
 use Rattle.transitions.specs.declared.outcomes.Outcome as outcomes
 use Rattle.transitions.specs.declared.outcomes.State.{State}
 use Rattle.transitions.specs.declared.items.CellOutcome.{CellOutcome}
-use Rattle.transitions.specs.declared.runs.Ended.{Ended}
+use Rattle.transitions.specs.declared.runs.RunEnd.{RunEnd}
 use Rattle.transitions.specs.declared.stages.Reached.{Reached}
 use Rattle.transitions.specs.Outcomes.{cellsOf, given, Runs, MadeBy, withoutFailure, doneWith, failureAt}
 use Rattle.transitions.specs.Steps.{reachedWith, resumes, doesRows}
-use Rattle.transitions.specs.Entering.{goesAgain, EndedBy, FirstEnded, RoundEnded, Begins, VariantEnded}
+use Rattle.transitions.specs.Entering.{goesAgain, SettledAs, FirstEnded, RoundEnded, Begins, VariantEnded}
 use Rattle.transitions.specs.OutcomeLaws.{given-ok, given-met, cell-ok, cell-met}
 use Rattle.transitions.specs.ResumeLaws.{bind-met, bind-ok}
 use Rattle.transitions.specs.GivenLaws.{given-done, makes-met, makes-ok}
 
 -- ---- Runs
-abbrev pub stops : outcomes.Outcome → Ended
+abbrev pub stops : outcomes.Outcome → RunEnd
 stops o = record { again = false; outcome = o }
 
-module _ (T : List Row) (n : ℕ) (failure : Failure) (s : State) (o : outcomes.Outcome) (e : Ended) where
+module _ (T : List Row) (n : ℕ) (failure : Failure) (s : State) (o : outcomes.Outcome) (e : RunEnd) where
   pub ended-failed : (how : Settled) (start N : ℕ) (x : code.Error) → how ≡ Settled.Failed → start ≡ rowOf T n .start →
       N ≡ rowOf T n .nonterminal → errorOf x ≡ failures.failedCall start N (failureOf failure) →
-      o ≡ doneWith (Failure.At x) s → e ≡ stops o → EndedBy T n how failure s e
+      o ≡ doneWith (Failure.At x) s → e ≡ stops o → SettledAs T n how failure s e
   unfolding goesAgain
   ended-failed how start N x h eu en ex eo ee =
       record {
@@ -62,7 +62,7 @@ module _ (T : List Row) (n : ℕ) (failure : Failure) (s : State) (o : outcomes.
       }
 
   pub ended-over : (how : Settled) → how ≡ Settled.Over → o ≡ doneWith Failure.None s → e ≡ stops o →
-      EndedBy T n how failure s e
+      SettledAs T n how failure s e
   unfolding goesAgain
   ended-over how h eo ee =
       record {
@@ -71,7 +71,7 @@ module _ (T : List Row) (n : ℕ) (failure : Failure) (s : State) (o : outcomes.
       }
 
   pub ended-full : (how : Settled) → how ≡ Settled.Full → o ≡ withoutFailure 22 s → e ≡ stops o →
-      EndedBy T n how failure s e
+      SettledAs T n how failure s e
   unfolding goesAgain
   ended-full how h eo ee =
       record {
@@ -80,7 +80,7 @@ module _ (T : List Row) (n : ℕ) (failure : Failure) (s : State) (o : outcomes.
       }
 
   pub ended-again : (how : Settled) → how ≡ Settled.Again → o ≡ doneWith Failure.None s →
-      e ≡ record { again = true; outcome = o } → EndedBy T n how failure s e
+      e ≡ record { again = true; outcome = o } → SettledAs T n how failure s e
   unfolding goesAgain
   ended-again how h eo ee =
       record {
@@ -88,7 +88,7 @@ module _ (T : List Row) (n : ℕ) (failure : Failure) (s : State) (o : outcomes.
         cells = ap (λ e. e .outcome .state .cells) ee ∙ ap (λ o. o .state .cells) eo;
       }
 
-module _ (T : List Row) (n : ℕ) (o : outcomes.Outcome) (e : Ended) where
+module _ (T : List Row) (n : ℕ) (o : outcomes.Outcome) (e : RunEnd) where
   limit-ends : (again : RowState → Result Outcome) (F : Outcome → Result Outcome) (cells : List Cell) →
       (o .limit ≡ 0 → ⊥) → e ≡ stops o → goesAgain again e cells T ≡ (given o cells T >>= F)
   unfolding goesAgain
@@ -109,7 +109,7 @@ module _ (T : List Row) (n : ℕ) (o : outcomes.Outcome) (e : Ended) where
       }
 
   pub first-settled : (U : List Row) (how : Settled) → o .limit ≡ 0 → SettledFirst how T U n → (f : Failure) →
-      f ≡ failureAt o → EndedBy U n how f (o .state) e → FirstEnded T U n o e
+      f ≡ failureAt o → SettledAs U n how f (o .state) e → FirstEnded T U n o e
   first-settled U how h settled f ef ended =
       record {
         is = λ book text again cells.
@@ -122,7 +122,7 @@ module _ (T : List Row) (n : ℕ) (o : outcomes.Outcome) (e : Ended) where
       }
 
   pub round-settled : (U : List Row) (how : Settled) → o .limit ≡ 0 → SettledNext how T U n → (f : Failure) →
-      f ≡ failureAt o → EndedBy U n how f (o .state) e → RoundEnded T U n o e
+      f ≡ failureAt o → SettledAs U n how f (o .state) e → RoundEnded T U n o e
   round-settled U how h settled f ef ended =
       record {
         is = λ book text again cells.

@@ -1,5 +1,7 @@
 -- What the code promises of a call before and after its runs, by the model of the crate run_model. Scaffolding: no
 -- definition of document 01.
+--
+-- The letters are the model's; n is the row of the use or call, T and U are the tables before and after.
 use mathlib.Core.Path.{_≡_}
 use mathlib.Core.Bool.{Bool, true, false}
 use mathlib.Core.List.{List}
@@ -24,14 +26,14 @@ use Rattle.errors.specs.declared.Failure.{Failure}
 use Rattle.transitions.specs.declared.outcomes.Outcome as code
 use Rattle.transitions.specs.declared.outcomes.State.{State}
 use Rattle.transitions.specs.declared.entering.Entered.{Entered}
-use Rattle.transitions.specs.declared.runs.Ended.{Ended}
+use Rattle.transitions.specs.declared.runs.RunEnd.{RunEnd}
 use Rattle.transitions.specs.declared.stages.Doing.{Doing}
 use Rattle.transitions.specs.declared.stages.Reached.{Reached}
 use Rattle.transitions.specs.Outcomes.{cellsOf, Held, given, failureAt}
 use Rattle.transitions.specs.Steps.{resumes}
 
 -- ---- Entering
--- a stored answer
+-- stored parses
 pub record Stores (T U : List Row) (g n N u : ℕ) (s : State) (r : code.Outcome) : Type 0 where
   pub is : (book : Book) (text : List ℕ) (inner : Option RowRunner) (cells : List Cell) →
       given r cells U ≡ ok (storedRows book text inner n g N u (rowState (s .units) cells T))
@@ -49,7 +51,7 @@ goesIn book text n N u e cells T =
     runCallRows book text (innerRunner book text n) n N u (e .minimum) (rowState (e .outcome .state .units) cells T))
     (λ _. given (e .outcome) cells T)
 
--- the store holds its cells, and a use that is to be run has a level of nesting left
+-- what a use comes to is what the model gives, and the store holds its cells
 pub record Entering (book : Book) (text store : List ℕ) (T : List Row) (n N u : ℕ) (e : Entered)
     (z : Result Outcome) : Type 0 where
   pub is : goesIn book text n N u e (cellsOf store (e .outcome .state .cells)) T ≡ z
@@ -62,49 +64,51 @@ pub record Opens (book : Book) (text before after : List ℕ) (T U : List Row) (
       (let t = rowState (s .units) (cellsOf before (s .cells)) T in
       nestedRows book text (runnerRows book text n) n t (λ run.
       when (hasMark book 2 N) (λ _. runIdentifierRows book text n N u t) (λ _. runCallRows book text run n N u m t)))
+  -- a use that is to be run has a level of nesting left
   pub above : e .runs ≡ true → 0 < n
 
 -- a use of a nonterminal
-pub record Enters (book : Book) (text before after : List ℕ) (T U : List Row) (n N u : ℕ) (s : State)
+pub record BeginsUse (book : Book) (text before after : List ℕ) (T U : List Row) (n N u : ℕ) (s : State)
     (e : Entered) : Type 0 where
   pub does : Held text before (s .cells) → Entering book text after U n N u e
       (enterRows book text (runnerRows book text n) n N u (rowState (s .units) (cellsOf before (s .cells)) T))
+  -- a use that is to be run has a level of nesting left
   pub above : e .runs ≡ true → 0 < n
 
 -- ---- Runs
 -- a call is run again, or over
-unfoldable pub goesAgain : (RowState → Result Outcome) → Ended → List Cell → List Row → Result Outcome
+unfoldable pub goesAgain : (RowState → Result Outcome) → RunEnd → List Cell → List Row → Result Outcome
 goesAgain again e cells T =
     when (e .again) (λ _. again (rowState (e .outcome .state .units) cells T)) (λ _. given (e .outcome) cells T)
 
-pub record EndedBy (T : List Row) (n : ℕ) (how : Settled) (failure : Failure) (s : State) (e : Ended) : Type 0 where
+pub record SettledAs (T : List Row) (n : ℕ) (how : Settled) (failure : Failure) (s : State) (e : RunEnd) : Type 0 where
   pub is : (again : RowState → Result Outcome) (cells : List Cell) →
       goesAgain again e cells T ≡ afterRun how n again (failureOf failure) (rowState (s .units) cells T)
   pub cells : e .outcome .state .cells ≡ s .cells
 
 -- the first run is over
-pub record FirstEnded (T U : List Row) (n : ℕ) (o : code.Outcome) (e : Ended) : Type 0 where
+pub record FirstEnded (T U : List Row) (n : ℕ) (o : code.Outcome) (e : RunEnd) : Type 0 where
   pub is : (book : Book) (text : List ℕ) (again : RowState → Result Outcome) (cells : List Cell) →
       goesAgain again e cells U ≡ (given o cells T >>= (λ y. settleFirst book text n again y))
   pub cells : e .outcome .state .cells ≡ o .state .cells
 
 -- a further run is over
-pub record RoundEnded (T U : List Row) (n : ℕ) (o : code.Outcome) (e : Ended) : Type 0 where
+pub record RoundEnded (T U : List Row) (n : ℕ) (o : code.Outcome) (e : RunEnd) : Type 0 where
   pub is : (book : Book) (text : List ℕ) (again : RowState → Result Outcome) (cells : List Cell) →
       goesAgain again e cells U ≡ (given o cells T >>= (λ y. settle book text n again (y .state)))
   pub cells : e .outcome .state .cells ≡ o .state .cells
 
 -- ---- Variants
 -- a variant has begun, whatever runs its steps
-pub record Begun (book : Book) (text store : List ℕ) (T U : List Row) (n j units : ℕ) (cells : List Cell)
+pub record Begun (book : Book) (text store : List ℕ) (T U : List Row) (c j units : ℕ) (cells : List Cell)
     (r : Reached) : Type 0 where
-  pub is : (inner : Option RowRunner) (m : ℕ) (rest : List (Todo ℕ)) →
-      resumes book text inner m n j rest Doing.Steps (r .place) (r .items)
+  pub is : (inner : Option RowRunner) (n : ℕ) (rest : List (Todo ℕ)) →
+      resumes book text inner n c j rest Doing.Steps (r .place) (r .items)
       (given (r .outcome) (cellsOf store (r .outcome .state .cells)) U)
       ≡ (makes (begin book text j) (rowState units cells T) >>= (λ b.
-      stepsRows book text inner m n j rest (rowOf T n .start) (b .cell) (atRow n (takeVariant book text j) (b .state))))
+      stepsRows book text inner n c j rest (rowOf T c .start) (b .cell) (atRow c (takeVariant book text j) (b .state))))
   pub held : Held text store (r .outcome .state .cells)
-  pub start : r .place ≡ rowOf T n .start
+  pub start : r .place ≡ rowOf T c .start
 
 abbrev pub Begins : Book → List ℕ → List ℕ → List ℕ → List Row → List Row → ℕ → ℕ → State → Reached → Type 0
 Begins book text before after T U n j s r =

@@ -2,7 +2,7 @@
 -- there.
 --
 -- Contents:
--- - a stored answer: stored-none, stored-some
+-- - stored parses: stored-none, stored-some
 -- - claims: claimed-named, claimed-nothing
 -- - a use of mark 2: identifier-claimed, identifier-nothing, identifier-full, identifier-named, is-marked
 -- - one level of nesting: ends, opens-deep, opens-identifier, opens-runs
@@ -47,12 +47,12 @@ use Rattle.transitions.specs.declared.items.CellOutcome.{CellOutcome}
 use Rattle.transitions.specs.declared.entering.Entered.{Entered}
 use Rattle.transitions.specs.Outcomes.{cellsOf, Held, bare, given, Ran, Runs, Spent, MadeBy, withoutFailure}
 use Rattle.transitions.specs.Outcomes.{doneWith}
-use Rattle.transitions.specs.Entering.{Stores, innerRunner, goesIn, Entering, Opens, Enters}
+use Rattle.transitions.specs.Entering.{Stores, innerRunner, goesIn, Entering, Opens, BeginsUse}
 use Rattle.transitions.specs.OutcomeLaws.{given-ok, given-met, cell-ok, cell-met}
 use Rattle.transitions.specs.ResumeLaws.{bind-met, bind-ok, unit-met, unit-ok}
 use Rattle.transitions.specs.GivenLaws.{given-done, ran-with, makes-met, makes-ok}
 
--- ---- A stored answer
+-- ---- Stored parses
 none-fails : (l : List (Parse ℕ)) (x : Error) → length l ≡ 0 → failsEmpty l x ≡ some x
 unfolding failsEmpty
 none-fails [] x h = refl
@@ -275,7 +275,7 @@ module _ (book : Book) (text : List ℕ) (n N u m : ℕ) (s : State) (e : Entere
 module _ (book : Book) (text : List ℕ) (T : List Row) (n N u : ℕ) (s : State) (e : Entered) (spent : outcomes.Outcome)
     (es : Spent spent s) where
   pub enters-spent : (store : List ℕ) → (spent .limit ≡ 0 → ⊥) → e ≡ ends spent →
-      Enters book text store store T T n N u s e
+      BeginsUse book text store store T T n N u s e
   unfolding enterRows
   enters-spent store h ee =
       let cells = cellsOf store (s .cells) in
@@ -305,7 +305,7 @@ module _ (book : Book) (text : List ℕ) (T : List Row) (n N u : ℕ) (s : State
 
   pub enters-stored : (store : List ℕ) (U : List Row) (r : Governor) (g : ℕ) (o : outcomes.Outcome) → spent .limit ≡ 0 →
       governorIn r ≡ governorOf T n N u → r ≡ Governor.SameStart g → Stores T U g n N u (spent .state) o → e ≡ ends o →
-      Enters book text store store T U n N u s e
+      BeginsUse book text store store T U n N u s e
   enters-stored store U r g o h er eg stores ee =
       let cells = cellsOf store (s .cells) in
       record {
@@ -318,7 +318,7 @@ module _ (book : Book) (text : List ℕ) (T : List Row) (n N u : ℕ) (s : State
 
   pub enters-open : (before after : List ℕ) (U : List Row) (r : Governor) (m : ℕ) → spent .limit ≡ 0 →
       governorIn r ≡ governorOf T n N u → r ≡ Governor.Minimum m →
-      Opens book text before after T U n N u m (spent .state) e → Enters book text before after T U n N u s e
+      Opens book text before after T U n N u m (spent .state) e → BeginsUse book text before after T U n N u s e
   enters-open before after U r m h er em opens =
       record {
         does = λ held.

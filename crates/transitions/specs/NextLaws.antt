@@ -34,7 +34,7 @@ use Rattle.transitions.specs.declared.stages.Reached.{Reached}
 use Rattle.transitions.specs.declared.stages.Stage.{Stage}
 use Rattle.transitions.specs.Outcomes.{cellsOf, Spent, MadeBy, withoutFailure, doneWith, failureAt}
 use Rattle.transitions.specs.OutcomeLaws.{given-ok, given-met, failure-done}
-use Rattle.transitions.specs.Steps.{nextRows, choosesRows, doesRows, sideRows, ModelPart, Stages, Reaches, Chosen}
+use Rattle.transitions.specs.Steps.{nextRows, choosesRows, doesRows, firstSideRows, ModelPart, StagedFrom, ReachedFrom, Chosen}
 use Rattle.transitions.specs.Steps.{Joined}
 use Rattle.transitions.specs.Steps.{endedBy, reachedWith, thenSteps}
 use Rattle.transitions.specs.ResumeLaws.{stateIn, bind-met, bind-ok, unit-met, unit-ok, makes-ok, makes-met}
@@ -49,7 +49,7 @@ nextPart book text j next items q inner n c rest s =
 pub plain-next : (book : Book) (text before after : List ℕ) (j items : ℕ) (next : Next) (q : Parse ℕ) (s : State)
     (m : CellOutcome) (r : Reached) (g : Stage) → next ≡ Next.Steps →
     MadeBy text before after s m (run.withCell book text j items (q .value)) → r ≡ reachedWith m (q .rest) →
-    g ≡ thenSteps r → Stages book text before s after j g (nextPart book text j next items q)
+    g ≡ thenSteps r → StagedFrom book text before s after j g (nextPart book text j next items q)
 unfolding nextRows plainNextRows doesRows
 plain-next book text before after j items next q s m r g en w er eg h =
     let v = w h in
@@ -63,8 +63,8 @@ plain-next book text before after j items next q s m r g en w er eg h =
 
 pub list-next : (book : Book) (text before after : List ℕ) (j items : ℕ) (next : Next) (l : lists.List) (q : Parse ℕ)
     (s : State) (g : Stage) → next ≡ Next.Elements l →
-    Stages book text before s after j g (nextPart book text j (Next.Elements l) items q) →
-    Stages book text before s after j g (nextPart book text j next items q)
+    StagedFrom book text before s after j g (nextPart book text j (Next.Elements l) items q) →
+    StagedFrom book text before s after j g (nextPart book text j next items q)
 list-next book text before after j items next l q s g en w = rw en w
 
 -- an element was added, in the model
@@ -88,7 +88,7 @@ module _ (book : Book) (text : List ℕ) (inner : Option RowRunner) (n c j : ℕ
 module _ (book : Book) (text before middle : List ℕ) (j items : ℕ) (l : lists.List) (q : Parse ℕ) (s : State)
     (m : CellOutcome) (w : MadeBy text before middle s m (run.make text (Cell.chain (l .values) (q .value)))) where
   pub element-limit : (r : Reached) (g : Stage) → (m .limit ≡ 0 → ⊥) → r ≡ reachedWith m 0 → g ≡ thenSteps r →
-      Stages book text before s middle j g (nextPart book text j (Next.Elements l) items q)
+      StagedFrom book text before s middle j g (nextPart book text j (Next.Elements l) items q)
   unfolding nextRows listNextRows
   element-limit r g b er eg h =
       let v = w h in
@@ -103,7 +103,7 @@ module _ (book : Book) (text before middle : List ℕ) (j items : ℕ) (l : list
 
   module _ (b : m .limit ≡ 0) (a : After) (ea : afterOf a ≡ afterElement text (l .comma) (q .rest)) where
     pub element-on : (y : ℕ) (o : Outcome) → a ≡ After.Goes y → o ≡ doneWith Failure.None (m .state) →
-        Stages book text before s middle j
+        StagedFrom book text before s middle j
         (record {
           outcome = o;
           place = y;
@@ -129,8 +129,8 @@ module _ (book : Book) (text before middle : List ℕ) (j items : ℕ) (l : list
         })
 
     pub element-last : (after : List ℕ) (y : ℕ) (r : Reached) (g : Stage) → a ≡ After.Halts y →
-        Reaches book text middle (m .state) after j r (stopsPart book text j (m .cell) (l .closing) y items) →
-        g ≡ thenSteps r → Stages book text before s after j g (nextPart book text j (Next.Elements l) items q)
+        ReachedFrom book text middle (m .state) after j r (stopsPart book text j (m .cell) (l .closing) y items) →
+        g ≡ thenSteps r → StagedFrom book text before s after j g (nextPart book text j (Next.Elements l) items q)
     element-last after y r g k z eg h =
         let v = w h in
         let u = z (v .held) in
@@ -179,13 +179,13 @@ joined-both i before o r a b f l h ea eb e q =
 
 -- ---- Choices
 abbrev sidePart : Book → List ℕ → ℕ → Next → ℕ → ℕ → ModelPart
-sidePart book text j next at items inner n c rest s = sideRows book text inner n c j rest next at items s
+sidePart book text j next at items inner n c rest s = firstSideRows book text inner n c j rest next at items s
 
 module _ (book : Book) (text before middle : List ℕ) (j at items : ℕ) (s : State) (m : CellOutcome)
     (w : MadeBy text before middle s m (run.make text Cell.absent)) where
   pub absent-limit : (g : Reached) → (m .limit ≡ 0 → ⊥) → g ≡ reachedWith m 0 →
-      Reaches book text before s middle j g (sidePart book text j Next.Steps at items)
-  unfolding sideRows
+      ReachedFrom book text before s middle j g (sidePart book text j Next.Steps at items)
+  unfolding firstSideRows
   absent-limit g l e h =
       let v = w h in
       rw e (record {
@@ -199,8 +199,8 @@ module _ (book : Book) (text before middle : List ℕ) (j at items : ℕ) (s : S
 
   pub absent-goes : (after : List ℕ) (g : Reached) (r : CellOutcome) → m .limit ≡ 0 →
       MadeBy text middle after (m .state) r (run.withCell book text j items (m .cell)) →
-      g ≡ reachedWith r at → Reaches book text before s after j g (sidePart book text j Next.Steps at items)
-  unfolding sideRows doesRows
+      g ≡ reachedWith r at → ReachedFrom book text before s after j g (sidePart book text j Next.Steps at items)
+  unfolding firstSideRows doesRows
   absent-goes after g r l k e h =
       let v = w h in
       let u = k (v .held) in
@@ -229,8 +229,8 @@ module _ (s : State) (spent : Outcome) (p : Spent spent s) (cells : List Cell) (
 module _ (book : Book) (text before : List ℕ) (j at items : ℕ) (l : lists.List) (s : State) (spent : Outcome)
     (p : Spent spent s) where
   pub side-limit : (g : Reached) → (spent .limit ≡ 0 → ⊥) → g ≡ endedBy spent →
-      Reaches book text before s before j g (sidePart book text j (Next.Elements l) at items)
-  unfolding sideRows
+      ReachedFrom book text before s before j g (sidePart book text j (Next.Elements l) at items)
+  unfolding firstSideRows
   side-limit g b e h =
       rw e (record {
         is = λ inner n c rest T.
@@ -240,9 +240,9 @@ module _ (book : Book) (text before : List ℕ) (j at items : ℕ) (l : lists.Li
       })
 
   pub side-stops : (after : List ℕ) (g : Reached) → spent .limit ≡ 0 →
-      Reaches book text before (spent .state) after j g (stopsPart book text j (l .values) (l .closing) at items) →
-      Reaches book text before s after j g (sidePart book text j (Next.Elements l) at items)
-  unfolding sideRows
+      ReachedFrom book text before (spent .state) after j g (stopsPart book text j (l .values) (l .closing) at items) →
+      ReachedFrom book text before s after j g (sidePart book text j (Next.Elements l) at items)
+  unfolding firstSideRows
   side-stops after g b k h =
       let u = k (rw (p .cells) h) in
       record {
@@ -256,8 +256,8 @@ module _ (book : Book) (text before : List ℕ) (j at items : ℕ) (l : lists.Li
 
 pub first-next :
     (book : Book) (text before after : List ℕ) (j at items : ℕ) (next other : Next) (s : State) (g : Reached) →
-    next ≡ other → Reaches book text before s after j g (sidePart book text j other at items) →
-    Reaches book text before s after j g (sidePart book text j next at items)
+    next ≡ other → ReachedFrom book text before s after j g (sidePart book text j other at items) →
+    ReachedFrom book text before s after j g (sidePart book text j next at items)
 first-next book text before after j at items next other s g e w = rw e w
 
 -- both sides

@@ -49,7 +49,7 @@ abbrev errorBy : Failure → Error
 errorBy Failure.None = noError
 errorBy (Failure.At e) = e
 
--- the code's outcome at a limit, and without one
+-- the code's outcome without a failure, of the limit that was met or 0; and the one of a failure or none
 abbrev pub withoutFailure : ℕ → State → Outcome
 withoutFailure limit s = record { limit = limit; failed = 0; state = s; error = noError }
 

@@ -62,47 +62,47 @@ nextRows book text c j rest (Next.Elements l) items =
 module _ (book : Book) (text : List ℕ) (inner : Option RowRunner) (n c j : ℕ) (rest : List (Todo ℕ)) where
   -- a child of nonterminal M at a place, and what follows its parses
   unfoldable pub descendsRows : Next → ℕ → ℕ → ℕ → RowState → Result Outcome
-  descendsRows next M at items s =
-      enterChildRows book text inner n c M at s >>= (λ o.
+  descendsRows next M x items s =
+      enterChildRows book text inner n c M x s >>= (λ o.
       followedRows book text inner n (nextRows book text c j rest next items) o)
 
   -- an optional child, or the elements of a list
   unfoldable pub choosesRows : Next → ℕ → ℕ → ℕ → RowState → Result Outcome
-  choosesRows Next.Steps M at items s =
-      orAbsentRows book text inner n c j M rest (stepsRows book text inner n c j rest) at items s
-  choosesRows (Next.Elements l) M at items s =
+  choosesRows Next.Steps M x items s =
+      orAbsentRows book text inner n c j M rest (stepsRows book text inner n c j rest) x items s
+  choosesRows (Next.Elements l) M x items s =
       choiceRows book text inner n c j (l .comma) M (l .values) (closingIn (l .closing)) rest
-      (stepsRows book text inner n c j rest) at items s
+      (stepsRows book text inner n c j rest) x items s
 
   unfoldable pub doesRows : Doing → ℕ → ℕ → RowState → Result Outcome
-  doesRows Doing.Steps at items s = stepsRows book text inner n c j rest at items s
-  doesRows (Doing.Child M) at items s = descendsRows Next.Steps M at items s
-  doesRows (Doing.Optional M) at items s = choosesRows Next.Steps M at items s
-  doesRows (Doing.Elements l) at items s = choosesRows (Next.Elements l) (l .nonterminal) at items s
+  doesRows Doing.Steps x items s = stepsRows book text inner n c j rest x items s
+  doesRows (Doing.Child M) x items s = descendsRows Next.Steps M x items s
+  doesRows (Doing.Optional M) x items s = choosesRows Next.Steps M x items s
+  doesRows (Doing.Elements l) x items s = choosesRows (Next.Elements l) (l .nonterminal) x items s
 
   -- what is done next, if neither a limit nor a failure ended the path
   unfoldable pub resumes : Doing → ℕ → ℕ → Result Outcome → Result Outcome
-  resumes doing at items z =
+  resumes doing x items z =
       z >>= (λ o. elim (o .failure) [
         | some e ↦ ok (outcome (some e) (o .state))
-        | none ↦ doesRows doing at items (o .state)
+        | none ↦ doesRows doing x items (o .state)
       ])
 
   -- the first side of a choice: an optional child is absent, or a list stops
-  unfoldable pub sideRows : Next → ℕ → ℕ → RowState → Result Outcome
-  sideRows Next.Steps at items s =
+  unfoldable pub firstSideRows : Next → ℕ → ℕ → RowState → Result Outcome
+  firstSideRows Next.Steps x items s =
       makes (make text Cell.absent) s >>= (λ absent.
       makes (withCell book text j items (absent .cell)) (absent .state) >>= (λ m.
-      stepsRows book text inner n c j rest at (m .cell) (m .state)))
-  sideRows (Next.Elements l) at items s =
+      stepsRows book text inner n c j rest x (m .cell) (m .state)))
+  firstSideRows (Next.Elements l) x items s =
       spendRows s >>= (λ t.
-      stopsRows book text j (l .values) (closingIn (l .closing)) (stepsRows book text inner n c j rest) at items t)
+      stopsRows book text j (l .values) (closingIn (l .closing)) (stepsRows book text inner n c j rest) x items t)
 
   -- kind 13 without its opening: the empty list
   unfoldable pub unopenedRows : ℕ → ℕ → RowState → Result Outcome
-  unopenedRows at items s =
+  unopenedRows x items s =
       makes (make text Cell.empty) s >>= (λ e.
-      stopsRows book text j (e .cell) none (stepsRows book text inner n c j rest) at items (e .state))
+      stopsRows book text j (e .cell) none (stepsRows book text inner n c j rest) x items (e .state))
 
   -- a token that ends at a place
   unfoldable pub tokenRows : Option Item → ℕ → ℕ → RowState → Result Outcome
@@ -115,20 +115,20 @@ module _ (book : Book) (text : List ℕ) (inner : Option RowRunner) (n c j : ℕ
 abbrev pub ModelPart : Type 0
 ModelPart = Option RowRunner → ℕ → ℕ → List (Todo ℕ) → RowState → Result Outcome
 
-pub record Staged (book : Book) (text store : List ℕ) (j : ℕ) (o : code.Outcome) (doing : Doing) (at items units : ℕ)
+pub record Staged (book : Book) (text store : List ℕ) (j : ℕ) (o : code.Outcome) (doing : Doing) (x items units : ℕ)
     (cells : List Cell) (z : ModelPart) : Type 0 where
   pub is : (inner : Option RowRunner) (n c : ℕ) (rest : List (Todo ℕ)) (T : List Row) →
-      resumes book text inner n c j rest doing at items (given o (cellsOf store (o .state .cells)) T) ≡
+      resumes book text inner n c j rest doing x items (given o (cellsOf store (o .state .cells)) T) ≡
       z inner n c rest (rowState units cells T)
   pub held : Held text store (o .state .cells)
 
-abbrev pub Stages : Book → List ℕ → List ℕ → State → List ℕ → ℕ → Stage → ModelPart → Type 0
-Stages book text before s after j g z =
+abbrev pub StagedFrom : Book → List ℕ → List ℕ → State → List ℕ → ℕ → Stage → ModelPart → Type 0
+StagedFrom book text before s after j g z =
     Held text before (s .cells) →
     Staged book text after j (g .outcome) (g .doing) (g .place) (g .items) (s .units) (cellsOf before (s .cells)) z
 
-abbrev pub Reaches : Book → List ℕ → List ℕ → State → List ℕ → ℕ → Reached → ModelPart → Type 0
-Reaches book text before s after j g z =
+abbrev pub ReachedFrom : Book → List ℕ → List ℕ → State → List ℕ → ℕ → Reached → ModelPart → Type 0
+ReachedFrom book text before s after j g z =
     Held text before (s .cells) →
     Staged book text after j (g .outcome) Doing.Steps (g .place) (g .items) (s .units) (cellsOf before (s .cells)) z
 
@@ -140,10 +140,10 @@ pub record StepSpent (r : code.Outcome) (step : Step) (s : State) : Type 0 where
   pub cells : r .state .cells ≡ s .cells
 
 -- both sides of a choice at a place
-pub record Chosen (text : List ℕ) (T : List Row) (c at : ℕ) (a b r : code.Outcome) : Type 0 where
+pub record Chosen (text : List ℕ) (T : List Row) (c x : ℕ) (a b r : code.Outcome) : Type 0 where
   pub is : (book : Book) (inner : Option RowRunner) (n : ℕ) (cells : List Cell) →
       given r cells T ≡ (given b cells T >>= (λ y.
-      ok (chosenRows book text inner n c (skipFrom text at) (failureOf (failureAt a)) y)))
+      ok (chosenRows book text inner n c (skipFrom text x) (failureOf (failureAt a)) y)))
   pub cells : r .state .cells ≡ b .state .cells
 
 -- what follows the i-th parse, after those before it

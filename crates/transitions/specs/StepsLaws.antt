@@ -56,7 +56,7 @@ use Rattle.transitions.specs.Outcomes.{cellsOf, Held, bare, given, Runs,
 use Rattle.transitions.specs.Outcomes.{doneWith, failureAt}
 use Rattle.transitions.specs.OutcomeLaws.{given-ok, given-met}
 use Rattle.transitions.specs.Steps.{nextRows, descendsRows, choosesRows, doesRows, unopenedRows, tokenRows}
-use Rattle.transitions.specs.Steps.{ModelPart, Stages, Reaches, StepSpent}
+use Rattle.transitions.specs.Steps.{ModelPart, StagedFrom, ReachedFrom, StepSpent}
 use Rattle.transitions.specs.Steps.{endedBy, reachedWith, thenSteps, thenDoes}
 use Rattle.transitions.specs.ResumeLaws.{stateIn, bind-met, bind-ok, unit-met, unit-ok, makes-ok, makes-met}
 use Rattle.transitions.specs.ResumeLaws.{resumes-met, resumes-on, resumes-failed, made-resumes}
@@ -140,7 +140,7 @@ stopsPart book text j values closing at items inner n c rest s =
 module _ (book : Book) (text before middle : List ℕ) (j values : ℕ) (closing : Closing) (at items : ℕ) (s : State)
     (m : CellOutcome) (w : MadeBy text before middle s m (run.make text (Cell.list values))) where
   pub stop-limit : (g : Reached) → (m .limit ≡ 0 → ⊥) → g ≡ reachedWith m 0 →
-      Reaches book text before s middle j g (stopsPart book text j values closing at items)
+      ReachedFrom book text before s middle j g (stopsPart book text j values closing at items)
   unfolding stopsRows
   stop-limit g l e h =
       let v = w h in
@@ -157,7 +157,7 @@ module _ (book : Book) (text before middle : List ℕ) (j values : ℕ) (closing
     pub stop-unclosed : (g : Reached) (e : code.Error) (o : Outcome) → end ≡ End.Nothing →
         errorOf e ≡ error (skipFrom text at) 1 (closingOf (closingIn closing)) →
         o ≡ doneWith (Failure.At e) (m .state) → g ≡ endedBy o →
-        Reaches book text before s middle j g (stopsPart book text j values closing at items)
+        ReachedFrom book text before s middle j g (stopsPart book text j values closing at items)
     stop-unclosed g e o n d eo q h =
         let v = w h in
         rw (q, eo) (record {
@@ -175,7 +175,7 @@ module _ (book : Book) (text before middle : List ℕ) (j values : ℕ) (closing
 
     pub stop-closed : (after : List ℕ) (g : Reached) (r : CellOutcome) (next : ℕ) → end ≡ End.At next →
         MadeBy text middle after (m .state) r (run.withCell book text j items (m .cell)) →
-        g ≡ reachedWith r next → Reaches book text before s after j g (stopsPart book text j values closing at items)
+        g ≡ reachedWith r next → ReachedFrom book text before s after j g (stopsPart book text j values closing at items)
     unfolding doesRows
     stop-closed after g r next n k q h =
         let v = w h in
@@ -244,7 +244,7 @@ module _ (r : Outcome) (step : Step) (s : State) (p : StepSpent r step s) (book 
 module _ (book : Book) (text before after : List ℕ) (j : ℕ) (s : State) (m : CellOutcome)
     (w : MadeBy text before after s m (run.make text Cell.empty)) (place items : ℕ) where
   pub list-begun : (comma : Bool) (M : ℕ) (closing : Closing) (o : Outcome) → o ≡ withoutFailure (m .limit) (m .state) →
-      Stages book text before s after j
+      StagedFrom book text before s after j
       (record {
         outcome = o;
         place = place;
@@ -268,7 +268,7 @@ module _ (book : Book) (text before after : List ℕ) (j : ℕ) (s : State) (m :
       })
 
   pub unopened-limit : (g : Reached) → (m .limit ≡ 0 → ⊥) → g ≡ reachedWith m 0 →
-      Reaches book text before s after j g (λ inner n c rest s. unopenedRows book text inner n c j rest place items s)
+      ReachedFrom book text before s after j g (λ inner n c rest s. unopenedRows book text inner n c j rest place items s)
   unfolding unopenedRows
   unopened-limit g l e h =
       let v = w h in
@@ -282,8 +282,8 @@ module _ (book : Book) (text before after : List ℕ) (j : ℕ) (s : State) (m :
       })
 
   pub unopened-stops : (last : List ℕ) (g : Reached) → m .limit ≡ 0 →
-      Reaches book text after (m .state) last j g (stopsPart book text j (m .cell) Closing.Nothing place items) →
-      Reaches book text before s last j g (λ inner n c rest s. unopenedRows book text inner n c j rest place items s)
+      ReachedFrom book text after (m .state) last j g (stopsPart book text j (m .cell) Closing.Nothing place items) →
+      ReachedFrom book text before s last j g (λ inner n c rest s. unopenedRows book text inner n c j rest place items s)
   unfolding unopenedRows
   unopened-stops last g l k h =
       let v = w h in
@@ -299,7 +299,7 @@ module _ (book : Book) (text before after : List ℕ) (j : ℕ) (s : State) (m :
 pub token-taken : (book : Book) (text before after : List ℕ) (j items : ℕ) (o : Option steps.Item) (next : ℕ)
     (s : State) (m : CellOutcome) (g : Reached) →
     MadeBy text before after s m (run.withToken book text j items o) → g ≡ reachedWith m next →
-    Reaches book text before s after j g (λ inner n c rest s. tokenRows book text inner n c j rest o next items s)
+    ReachedFrom book text before s after j g (λ inner n c rest s. tokenRows book text inner n c j rest o next items s)
 unfolding tokenRows doesRows
 token-taken book text before after j items o next s m g w e h =
     let v = w h in
@@ -360,7 +360,7 @@ module _ (book : Book) (text store : List ℕ) (j : ℕ) (s : State) (x items : 
   spent-held h = rw (p .cells) h
 
   pub step-limit : (r : Reached) (g : Stage) → (spent .limit ≡ 0 → ⊥) → r ≡ endedBy spent → g ≡ thenSteps r →
-      Stages book text store s store j g (stepPart book text j step x items)
+      StagedFrom book text store s store j g (stepPart book text j step x items)
   unfolding stepsRows
   step-limit r g l er eg h =
       rw (eg, er) (record {
@@ -381,7 +381,7 @@ module _ (book : Book) (text store : List ℕ) (j : ℕ) (s : State) (x items : 
 
     pub step-fails : (e : code.Error) (o : Outcome) (r : Reached) (g : Stage) → t ≡ Taken.Nothing →
         errorOf e ≡ stepError book text step (skipFrom text x) → o ≡ doneWith (Failure.At e) (spent .state) →
-        r ≡ endedBy o → g ≡ thenSteps r → Stages book text store s store j g (stepPart book text j step x items)
+        r ≡ endedBy o → g ≡ thenSteps r → StagedFrom book text store s store j g (stepPart book text j step x items)
     step-fails e o r g k d eo er eg h =
         rw (eg, er, eo) (record {
           is = λ inner n c rest T.
@@ -395,9 +395,9 @@ module _ (book : Book) (text store : List ℕ) (j : ℕ) (s : State) (x items : 
         })
 
     pub step-reads : (after : List ℕ) (next : ℕ) (item : Item) (r : Reached) (g : Stage) → t ≡ Taken.Token next item →
-        Reaches book text store (spent .state) after j r
+        ReachedFrom book text store (spent .state) after j r
         (λ inner n c rest s. tokenRows book text inner n c j rest (itemOf item) next items s) →
-        g ≡ thenSteps r → Stages book text store s after j g (stepPart book text j step x items)
+        g ≡ thenSteps r → StagedFrom book text store s after j g (stepPart book text j step x items)
     step-reads after next item r g k w eg h =
         let u = w (spent-held h) in
         rw eg (record {
@@ -410,7 +410,7 @@ module _ (book : Book) (text store : List ℕ) (j : ℕ) (s : State) (x items : 
         })
 
     pub step-descends : (M : ℕ) (g : Stage) → t ≡ Taken.Child M → g ≡ thenDoes x items (Doing.Child M) (spent .state) →
-        Stages book text store s store j g (stepPart book text j step x items)
+        StagedFrom book text store s store j g (stepPart book text j step x items)
     step-descends M g k eg h =
         rw eg (record {
           is = λ inner n c rest T.
@@ -423,7 +423,7 @@ module _ (book : Book) (text store : List ℕ) (j : ℕ) (s : State) (x items : 
 
     pub step-chooses : (M : ℕ) (g : Stage) → t ≡ Taken.Optional M →
         g ≡ thenDoes x items (Doing.Optional M) (spent .state) →
-        Stages book text store s store j g (stepPart book text j step x items)
+        StagedFrom book text store s store j g (stepPart book text j step x items)
     step-chooses M g k eg h =
         rw eg (record {
           is = λ inner n c rest T.
@@ -436,10 +436,10 @@ module _ (book : Book) (text store : List ℕ) (j : ℕ) (s : State) (x items : 
         })
 
     pub step-lists : (after : List ℕ) (comma : Bool) (M : ℕ) (closing : Closing) (y : ℕ) (g : Stage) →
-        t ≡ Taken.List comma M closing y → Stages book text store (spent .state) after j g
+        t ≡ Taken.List comma M closing y → StagedFrom book text store (spent .state) after j g
         (λ inner n c rest s. listingRows book text inner n c j comma M (closingIn closing) rest
         (stepsRows book text inner n c j rest) y items s) →
-        Stages book text store s after j g (stepPart book text j step x items)
+        StagedFrom book text store s after j g (stepPart book text j step x items)
     step-lists after comma M closing y g k w h =
         let u = w (spent-held h) in
         record {
@@ -452,9 +452,9 @@ module _ (book : Book) (text store : List ℕ) (j : ℕ) (s : State) (x items : 
         }
 
     pub step-unopens : (after : List ℕ) (y : ℕ) (r : Reached) (g : Stage) → t ≡ Taken.Unopened y →
-        Reaches book text store (spent .state) after j r
+        ReachedFrom book text store (spent .state) after j r
         (λ inner n c rest s. unopenedRows book text inner n c j rest y items s) → g ≡ thenSteps r →
-        Stages book text store s after j g (stepPart book text j step x items)
+        StagedFrom book text store s after j g (stepPart book text j step x items)
     step-unopens after y r g k w eg h =
         let u = w (spent-held h) in
         rw eg (record {
@@ -469,6 +469,6 @@ module _ (book : Book) (text store : List ℕ) (j : ℕ) (s : State) (x items : 
 -- the step that the code has read
 pub at-step :
     (book : Book) (text before after : List ℕ) (j : ℕ) (s : State) (g : Stage) (x items : ℕ) (step other : Step) →
-    step ≡ other → Stages book text before s after j g (stepPart book text j step x items) →
-    Stages book text before s after j g (stepPart book text j other x items)
+    step ≡ other → StagedFrom book text before s after j g (stepPart book text j step x items) →
+    StagedFrom book text before s after j g (stepPart book text j other x items)
 at-step book text before after j s g x items step other e w = rw (← e) w

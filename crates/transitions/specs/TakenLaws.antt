@@ -7,7 +7,7 @@
 -- - names: name-fits
 -- - variables: variable-fits
 -- - what a step takes: taken-fits
--- - the same by what was taken: token-fits, child-fits, optional-fits, list-fits, unopened-fits
+-- - the same by what was taken: token-fits, list-fits, unopened-fits
 use mathlib.Core.Path.{_≡_, refl}
 use mathlib.Core.Bool.{Bool, true, false, cond}
 use mathlib.Core.List.{List, [], _∷_}

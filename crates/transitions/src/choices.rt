@@ -2,7 +2,7 @@
 ghost use Rattle.characters.specs.Slices.{atEntry};
 ghost use Rattle.calls.specs.Table.{InTable, tableAt};
 ghost use Rattle.transitions.specs.Steps.{Chosen};
-ghost use Rattle.transitions.specs.Contracts.{Short, Fitting, Reaches, sides};
+ghost use Rattle.transitions.specs.Contracts.{Short, Fitting, Reaches, firstSide};
 ghost use Rattle.transitions.specs.declared.stages.Next.{Next};
 use crate::items::make;
 use crate::items::with_cell;
@@ -29,7 +29,7 @@ fn absent(
     here: Progress,
     state: State,
 ) -> Reached
-    ensures { λ r. ⌜ Reaches book index text store here state r (sides Next.Steps here) ⌝ }
+    ensures { λ r. ⌜ Reaches book index text store here state r (firstSide Next.Steps here) ⌝ }
 {
     let m = make(text, store, cells::absent(), state);
     if m.limit != 0 {
@@ -62,7 +62,7 @@ fn first_stop(
     state: State,
 ) -> Reached
     requires { ⌜ Fitting book index text ⌝ }
-    ensures { λ r. ⌜ Reaches book index text store here state r (sides (Next.Elements list) here) ⌝ }
+    ensures { λ r. ⌜ Reaches book index text store here state r (firstSide (Next.Elements list) here) ⌝ }
 {
     let spent = spend(state);
     if spent.limit != 0 {
@@ -94,7 +94,7 @@ pub fn first_side(
     state: State,
 ) -> Reached
     requires { ⌜ Fitting book index text ⌝ }
-    ensures { λ r. ⌜ Reaches book index text store here state r (sides next here) ⌝ }
+    ensures { λ r. ⌜ Reaches book index text store here state r (firstSide next here) ⌝ }
 {
     match next {
         Next::Steps => absent(book, index, text, store, here, state),

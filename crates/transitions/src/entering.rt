@@ -1,4 +1,4 @@
-// What a use of a nonterminal does up to its runs: one unit, the governor, a stored answer, one level of nesting, a use
+// What a use of a nonterminal does up to its runs: one unit, the governor, stored parses, one level of nesting, a use
 // of mark 2.
 ghost use mathlib.Core.Path.{_≡_};
 ghost use mathlib.Core.Bool.{false};
@@ -11,7 +11,7 @@ ghost use Rattle.semantics.specs.Errors.{error};
 ghost use Rattle.run_model.specs.Model.{claimedRows};
 ghost use Rattle.calls.specs.Table.{InTable, Below, tableAt, tableAfter};
 ghost use Rattle.errors.specs.Maps.{failureOf};
-ghost use Rattle.transitions.specs.Entering.{Stores, Opens, Enters};
+ghost use Rattle.transitions.specs.Entering.{Stores, Opens, BeginsUse};
 ghost use Rattle.transitions.specs.Contracts.{Ready, Does, identifies};
 use crate::items::make;
 use crate::outcomes::Outcome;
@@ -189,7 +189,7 @@ fn open(
     }
 }
 
-// One unit; the governor; a stored answer, or one level of nesting.
+// One unit; the governor; its stored parses, or one level of nesting.
 pub fn begin_use(
     book: &[u8],
     index: &[usize],
@@ -202,7 +202,7 @@ pub fn begin_use(
     state: State,
 ) -> Entered
     requires { ⌜ Ready book index text rows row ⌝ }
-    ensures { λ r. ⌜ Enters (bookAt book index) (atEntry text) (atEntry store) (atExit store)
+    ensures { λ r. ⌜ BeginsUse (bookAt book index) (atEntry text) (atEntry store) (atExit store)
         (tableAt rows) (tableAfter rows) row nonterminal at state r ⌝ }
 {
     let spent = spend(state);

@@ -2,7 +2,7 @@
 ghost use mathlib.Core.Path.{_≡_};
 ghost use mathlib.Core.Bool.{false};
 ghost use Rattle.calls.specs.Table.{InTable, tableAt, tableAfter};
-ghost use Rattle.transitions.specs.Entering.{EndedBy, FirstEnded, RoundEnded};
+ghost use Rattle.transitions.specs.Entering.{SettledAs, FirstEnded, RoundEnded};
 use crate::outcomes::Outcome;
 use crate::outcomes::State;
 use crate::outcomes::TOO_MANY_PARSES;
@@ -13,24 +13,24 @@ use calls::Settled;
 use errors::Failure;
 
 // How a call stands after a run: it is to be run again, or it is over.
-pub struct Ended {
+pub struct RunEnd {
     pub again: bool,
     pub outcome: Outcome,
 }
 
-fn over(outcome: Outcome) -> Ended
+fn over(outcome: Outcome) -> RunEnd
     ensures { λ r. ⌜ r ≡ record { again = false; outcome = outcome } ⌝ }
 {
-    Ended {
+    RunEnd {
         again: false,
         outcome,
     }
 }
 
 // How a run leaves the call of a row, whose variants failed with `failure`.
-fn ended_by(rows: &[u32], row: usize, how: Settled, failure: Failure, state: State) -> Ended
+fn settled_as(rows: &[u32], row: usize, how: Settled, failure: Failure, state: State) -> RunEnd
     requires { ⌜ InTable row rows ⌝ }
-    ensures { λ r. ⌜ EndedBy (tableAt rows) row how failure state r ⌝ }
+    ensures { λ r. ⌜ SettledAs (tableAt rows) row how failure state r ⌝ }
 {
     match how {
         Settled::Failed => {
@@ -45,7 +45,7 @@ fn ended_by(rows: &[u32], row: usize, how: Settled, failure: Failure, state: Sta
         Settled::Full => over(without_failure(TOO_MANY_PARSES, state)),
         Settled::Again => {
             let outcome = done(Failure::None, state);
-            Ended {
+            RunEnd {
                 again: true,
                 outcome,
             }
@@ -54,7 +54,7 @@ fn ended_by(rows: &[u32], row: usize, how: Settled, failure: Failure, state: Sta
 }
 
 // After the first run of the call of a row.
-pub fn after_first(rows: &mut [u32], row: usize, o: Outcome) -> Ended
+pub fn after_first(rows: &mut [u32], row: usize, o: Outcome) -> RunEnd
     requires { ⌜ InTable row rows ⌝ }
     ensures { λ r. ⌜ FirstEnded (tableAt rows) (tableAfter rows) row o r ⌝ }
 {
@@ -63,11 +63,11 @@ pub fn after_first(rows: &mut [u32], row: usize, o: Outcome) -> Ended
     }
     let how = calls::settle_first(rows, row);
     let failure = failure_of(o);
-    ended_by(rows, row, how, failure, o.state)
+    settled_as(rows, row, how, failure, o.state)
 }
 
 // After a further run.
-pub fn after_round(rows: &mut [u32], row: usize, o: Outcome) -> Ended
+pub fn after_round(rows: &mut [u32], row: usize, o: Outcome) -> RunEnd
     requires { ⌜ InTable row rows ⌝ }
     ensures { λ r. ⌜ RoundEnded (tableAt rows) (tableAfter rows) row o r ⌝ }
 {
@@ -76,5 +76,5 @@ pub fn after_round(rows: &mut [u32], row: usize, o: Outcome) -> Ended
     }
     let how = calls::settle(rows, row);
     let failure = failure_of(o);
-    ended_by(rows, row, how, failure, o.state)
+    settled_as(rows, row, how, failure, o.state)
 }

@@ -1,13 +1,10 @@
 // What a call does before and after a variant's steps, and where a child of it begins.
 ghost use mathlib.Core.Path.{_≡_};
-ghost use Prim.Native.Nat.{_≤_};
-ghost use lib.ListN.{length};
 ghost use Rattle.characters.specs.Slices.{atEntry, atExit};
 ghost use Rattle.characters.specs.Skipping.{skipFrom};
 ghost use Rattle.book.specs.Index.{bookAt};
-ghost use Rattle.semantics.specs.Numbers.{mostNesting};
 ghost use Rattle.run_model.specs.Rows.{withChild};
-ghost use Rattle.calls.specs.Table.{rowsSize, tableAt, tableAfter, Changes};
+ghost use Rattle.calls.specs.Table.{InTable, tableAt, tableAfter, Changes};
 ghost use Rattle.transitions.specs.Entering.{Begins, VariantEnded};
 ghost use Rattle.transitions.specs.Contracts.{Short, Ready};
 use crate::items::begin;
@@ -68,7 +65,7 @@ pub fn after_variant(
 
 // The child of the path's call begins where skipping leads.
 pub fn begin_child(text: &[u8], rows: &mut [u32], here: Progress) -> u32
-    requires { ⌜ (here .call ≤ mostNesting) × (rowsSize ≤ length (now rows)) × Short text ⌝ }
+    requires { ⌜ InTable (here .call) rows × Short text ⌝ }
     ensures { λ r. ⌜ (r ≡ skipFrom (atEntry text) (here .place)) × Changes rows (here .call) (withChild r) ⌝ }
 {
     let at = skipped(text, here.place);

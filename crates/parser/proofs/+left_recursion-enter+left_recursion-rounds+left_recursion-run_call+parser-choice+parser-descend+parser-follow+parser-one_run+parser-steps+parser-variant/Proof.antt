@@ -730,7 +730,7 @@ parser·descend-begin-child-requires : (t : ℕ) →
     parser·descend-lts.Need-begin-child-requires (parser·descend-callees t) (parser·descend-at t) parser·descend.Post
 parser·descend-begin-child-requires t c κs =
     let start = c .before .before .before .before .before .before in
-    (start .pre .1 .3 .0, start .pre .1 .1, start .pre .1 .2 .short)
+    ((start .pre .1 .3 .0, start .pre .1 .1), start .pre .1 .2 .short)
 
 parser·descend-enter-requires : (t : ℕ) →
     parser·descend-lts.Need-enter-requires (parser·descend-callees t) (parser·descend-at t) parser·descend.Post

@@ -18,7 +18,7 @@ returns-2 c =
     let settle = c .before .before .before .before .before .settle in
     let failure-of = c .before .before .failure-of in
     round-settled (table (args .rows .now)) (args .row) (args .o) _ _ _ (if1 .left) (settle .ensures)
-    (failure-of .result) (failure-of .ensures) (c .ended-by .ensures)
+    (failure-of .result) (failure-of .ensures) (c .settled-as .ensures)
 
 pub after-round-spec : {M : Type 1} → statement M
 after-round-spec =

@@ -1,10 +1,10 @@
--- `transitions::ended_by` meets its contract.
+-- `transitions::settled_as` meets its contract.
 use mathlib.Core.Path.{refl}
 use borrow.Author.Needs.{needs}
 use Rattle.calls.specs.Table.{table}
 use Rattle.transitions.specs.EndingLaws.{ended-failed, ended-over, ended-full, ended-again}
-use Rattle.transitions.proofs.runs.ended_by.Statement.{statement}
-use Rattle.transitions.proofs.runs.ended_by.Tie as tie
+use Rattle.transitions.proofs.runs.settled_as.Statement.{statement}
+use Rattle.transitions.proofs.runs.settled_as.Tie as tie
 
 returns : tie.Need-returns
 returns c =
@@ -41,8 +41,8 @@ returns-4 c =
     ended-again (table (args .rows .now)) (args .row) (args .failure) (args .state) _ _ (args .how)
     (enum-told4 .given .1) (c .done3 .ensures) refl
 
-pub ended-by-spec : {M : Type 1} → statement M
-ended-by-spec =
+pub settled-as-spec : {M : Type 1} → statement M
+settled-as-spec =
     tie.close
     (tie.spec
     (λ c. search needs) (λ c κs. search needs) (λ c κs. search needs) (λ c κs. search needs) (λ c κs. search needs)

@@ -1,11 +1,11 @@
--- `sets::kept` meets its contract. The invariant (`Keeping` of SetLaws): what is kept so far, and what is kept of the
+-- `sets::put_kept` meets its contract. The invariant (`Keeping` of SetLaws): what is kept so far, and what is kept of the
 -- rest, make the whole.
 use mathlib.Core.Path.{_≡_, refl, _∙_}
 use native.Mathlib.Omega.{arith}
 use lib.ListN.{length}
 use Rattle.sets.specs.SetLaws.{Keeping, keeping-start, keeping-again, keeping-end}
-use Rattle.sets.proofs.kept.Statement.{statement}
-use Rattle.sets.proofs.kept.Tie as tie
+use Rattle.sets.proofs.put_kept.Statement.{statement}
+use Rattle.sets.proofs.put_kept.Tie as tie
 
 abbrev Inv-loop : tie.InvT-loop
 Inv-loop numbers₀ into from associativity level at₀ left₀ numbers at left = (length numbers ≡ length numbers₀)
@@ -66,8 +66,8 @@ returns c =
     let clear = c .before .before .before .before .before .before .clear in
     keeping-end _ _ _ _ _ _ _ _ _ (pre .2) (clear .ensures) (c .before .loop .inv .1) (c .loop-test .left)
 
-pub kept-spec : {M : Type 1} → statement M
-kept-spec =
+pub put-kept-spec : {M : Type 1} → statement M
+put-kept-spec =
     tie.close
     (tie.spec
     Inv-loop μ-loop clear-requires add-at size-requires loop-holds parse-at-requires keep-requires add-at-2 sub-left

@@ -1,13 +1,13 @@
--- `calls::kept_of` meets its contract.
+-- `calls::put_kept` meets its contract.
 use mathlib.Core.Logic.{inl}
 use native.Mathlib.Omega.{arith}
 use borrow.Author.Needs.{needs}
 use Rattle.calls.specs.TableLaws.{kept-law}
-use Rattle.calls.proofs.kept_of.Statement.{statement}
-use Rattle.calls.proofs.kept_of.Tie as tie
+use Rattle.calls.proofs.put_kept.Statement.{statement}
+use Rattle.calls.proofs.put_kept.Tie as tie
 
-kept-requires : tie.Need-kept-requires
-kept-requires c κs =
+put-kept-requires : tie.Need-put-kept-requires
+put-kept-requires c κs =
     let pre = c .before .before .before .before .before .before .before .pre in
     (omega (arith, pre), omega (arith, pre), inl (omega (arith, pre)))
 
@@ -17,13 +17,13 @@ returns c =
     let get = c .before .before .before .before .before .before .before .get in
     let associativity-of = c .before .before .before .before .before .before .associativity-of in
     let get2 = c .before .before .before .before .get2 in
-    let kept = c .before .before .kept in
+    let put-kept = c .before .before .put-kept in
     kept-law _ _ _ _ (omega (arith, pre)) (pre .1) _ _ _ (get .ensures) (associativity-of .ensures)
-    (get2 .ensures) (kept .ensures)
+    (get2 .ensures) (put-kept .ensures)
 
-pub kept-of-spec : {M : Type 1} → statement M
-kept-of-spec =
+pub put-kept-spec : {M : Type 1} → statement M
+put-kept-spec =
     tie.close
     (tie.spec
     (λ c κs. search needs) (λ c κs. search needs) (λ c κs. search needs) (λ c. search needs) (λ c. search needs)
-    (λ c. search needs) (λ c. search needs) kept-requires (λ c. search needs) returns)
+    (λ c. search needs) (λ c. search needs) put-kept-requires (λ c. search needs) returns)
