@@ -258,7 +258,8 @@ fn steps(
     requires { ⌜ OnPath book index text rows free from ⌝ }
     ensures { λ r. ⌜ Continues book index text store rows begun r (proceeds free from first) ⌝ }
 {
-    // Four numbers, and not a copy of the struct: that would be read in larger parts than it was written in, and wait.
+    // Four numbers, and not a copy of the struct: that would be read in larger parts than it was written in, and wait. The
+    // struct is made where it is handed on, so that a step that calls nothing stores none.
     let mut step = from.step;
     let mut remaining = from.remaining;
     let mut place = from.place;
@@ -266,16 +267,16 @@ fn steps(
     let mut doing = first;
     let mut o = begun;
     while goes_on(o) {
-        let here = Progress {
-            call: from.call,
-            variant: from.variant,
-            step,
-            remaining,
-            place,
-            items,
-        };
         match doing {
             Doing::Steps => {
+                let here = Progress {
+                    call: from.call,
+                    variant: from.variant,
+                    step,
+                    remaining,
+                    place,
+                    items,
+                };
                 if remaining == 0 {
                     return finish(book, index, text, store, rows, here, o.state);
                 }
@@ -288,6 +289,14 @@ fn steps(
                 o = g.outcome;
             }
             Doing::Child(nonterminal) => {
+                let here = Progress {
+                    call: from.call,
+                    variant: from.variant,
+                    step,
+                    remaining,
+                    place,
+                    items,
+                };
                 return descend(
                     book,
                     index,
@@ -302,6 +311,14 @@ fn steps(
                 );
             }
             Doing::Optional(nonterminal) => {
+                let here = Progress {
+                    call: from.call,
+                    variant: from.variant,
+                    step,
+                    remaining,
+                    place,
+                    items,
+                };
                 return choice(
                     book,
                     index,
@@ -318,6 +335,14 @@ fn steps(
             Doing::Elements(list) => {
                 let nonterminal = list.nonterminal;
                 let next = Next::Elements(list);
+                let here = Progress {
+                    call: from.call,
+                    variant: from.variant,
+                    step,
+                    remaining,
+                    place,
+                    items,
+                };
                 return choice(
                     book,
                     index,

@@ -23,13 +23,13 @@ pub struct Progress {
     pub items: u32,
 }
 
-// A list that is being read: with commas or not, of a nonterminal, the chain of the elements already read, and the
-// closing.
+// A list that is being read: of a nonterminal, the chain of the elements already read, the closing, and with commas or
+// not. The nonterminal comes first, so that in `Doing` it lies where a child's does.
 pub struct List {
-    pub comma: bool,
     pub nonterminal: u32,
     pub values: u32,
     pub closing: Closing,
+    pub comma: bool,
 }
 
 // What a path does next: the steps that are left, a child, perhaps a child, or the elements of a list.
