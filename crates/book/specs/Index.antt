@@ -12,7 +12,7 @@ use Rattle.characters.specs.Classes.{between}
 use Rattle.characters.specs.Spelling.{partOf}
 use Rattle.book.specs.Book.{Entry, Book}
 use Rattle.book.specs.Numbers.{shortLists, mostWords, mostNames, mostNonterminals, reserved, lastKind}
-use Rattle.book.specs.Numbers.{lastStepKind, firstCharacter, lastCharacter}
+use Rattle.book.specs.Numbers.{largestByte, lastStepKind, firstCharacter, lastCharacter}
 use Rattle.book.specs.Check.{Checked, refused, accepted, andThen, Reader, row, section, placed, entry, markOf}
 use Rattle.book.specs.Check.{nonterminal, associativityOf, variant, stepOf, step, total, variantsFit}
 use Rattle.book.specs.Check.{Outcome, outcomeRefusal, outcomePlace, checkBook}
@@ -171,7 +171,7 @@ Valued (Part.Refused number place) n = Unit {0}
 
 -- the code's value, where there is one, is a byte's
 abbrev pub Small : Part → Type 0
-Small (Part.Read value next) = value ≤ 255
+Small (Part.Read value next) = value ≤ largestByte
 Small (Part.Refused number place) = Unit {0}
 
 -- a list is as it was, but for the numbers from `low` up to, and not including, `high`

@@ -68,9 +68,13 @@ identifierMark = 2
 abbrev pub variantsEach : ℕ
 variantsEach = 16
 
--- "Level 255 is Rust's default and needs Both"; a byte is no greater
+-- "Level 255 is Rust's default and needs Both"
 abbrev pub defaultLevel : ℕ
 defaultLevel = 255
+
+-- no byte is greater
+abbrev pub largestByte : ℕ
+largestByte = 255
 
 abbrev pub both : ℕ
 both = 3

@@ -6,7 +6,7 @@ ghost use lib.Dec.{ltb, eqb};
 ghost use lib.ListN.{length, getD};
 ghost use Rattle.characters.specs.Slices.{atEntry, atExit};
 ghost use Rattle.book.specs.Book.{stepNumber, nthVariant};
-ghost use Rattle.book.specs.Numbers.{mostVariants};
+ghost use Rattle.book.specs.Numbers.{mostVariants, largestByte};
 ghost use Rattle.book.specs.Check.{passes as passesIn, allPass, checkBook, variantsFit};
 ghost use Rattle.book.specs.Index.{wordsAt, nonterminalsAt, variantsAt, stepsAt, indexSize};
 ghost use Rattle.book.specs.Index.{readingOf, Section, countIn, placedIn, bookAt, HeadsRead, SectionsRead};
@@ -101,7 +101,7 @@ fn steps(book: &[u8], at: usize, total: usize, index: &mut [usize]) -> Part
     requires { ⌜ indexSize ≤ length (now index) ⌝ }
     ensures { λ r. ⌜ Section
         (Sort.Step (countIn (atEntry index) wordsAt) (countIn (atEntry index) nonterminalsAt)) (eqb total)
-        (atEntry book) at 255 stepsAt (atEntry index) (atExit index) r ⌝ }
+        (atEntry book) at largestByte stepsAt (atEntry index) (atExit index) r ⌝ }
 {
     let words = count(index, WORDS);
     let nonterminals = count(index, NONTERMINALS);

@@ -5,19 +5,25 @@ ghost use mathlib.Core.Path.{_≡_};
 ghost use Prim.Native.Nat.{_≤_};
 ghost use lib.ListN.{getD, set};
 ghost use Rattle.characters.specs.Slices.{atEntry, atExit};
-ghost use Rattle.book.specs.Index.{countIn, placeIn, firstIn};
+ghost use Rattle.book.specs.Index.{stepsAt, countIn, placeIn, firstIn};
+use crate::limits::LARGEST_BYTE;
+use crate::limits::MOST_NAMES;
+use crate::limits::MOST_NONTERMINALS;
+use crate::limits::MOST_VARIANTS;
+use crate::limits::MOST_WORDS;
 
+// Where the regions begin: each has a count and two numbers for each record that a section can have.
 pub const WORDS: usize = 0;
 
-pub const NAMES: usize = 129;
+pub const NAMES: usize = WORDS + 1 + 2 * MOST_WORDS;
 
-pub const NONTERMINALS: usize = 258;
+pub const NONTERMINALS: usize = NAMES + 1 + 2 * MOST_NAMES;
 
-pub const VARIANTS: usize = 323;
+pub const VARIANTS: usize = NONTERMINALS + 1 + 2 * MOST_NONTERMINALS;
 
-pub const STEPS: usize = 580;
+pub const STEPS: usize = VARIANTS + 1 + 2 * MOST_VARIANTS;
 
-pub const INDEX_SIZE: usize = 1091;
+pub const INDEX_SIZE: usize = STEPS + 1 + 2 * LARGEST_BYTE;
 
 // The number at i, and 0 past the end.
 fn get(index: &[usize], i: usize) -> usize
@@ -44,7 +50,7 @@ pub fn count(index: &[usize], base: usize) -> usize
 
 // Where record i of a section begins.
 pub fn place(index: &[usize], base: usize, i: usize) -> usize
-    requires { ⌜ base ≤ 580 ⌝ }
+    requires { ⌜ base ≤ stepsAt ⌝ }
     ensures { λ r. ⌜ r ≡ placeIn (atEntry index) base i ⌝ }
 {
     if i < index.len() {
@@ -56,7 +62,7 @@ pub fn place(index: &[usize], base: usize, i: usize) -> usize
 
 // The number of record i's first variant, or step: how many the records before it have.
 pub fn first(index: &[usize], base: usize, i: usize) -> usize
-    requires { ⌜ base ≤ 580 ⌝ }
+    requires { ⌜ base ≤ stepsAt ⌝ }
     ensures { λ r. ⌜ r ≡ firstIn (atEntry index) base i ⌝ }
 {
     if i < index.len() {

@@ -7,8 +7,8 @@
 // field of that book, in constant time. No public function has a `requires`: a number that the book doesn't have gets a
 // fixed answer, whatever the bytes and the index hold.
 //
-// The crate relies on the promises of `characters`, and assumes nothing. specs/ has the definitions (Numbers, Book, Check), the
-// index (Index), and laws.
+// The crate relies on the promises of `characters`, and assumes nothing. specs/ has the definitions (Numbers, Book,
+// Check), the index (Index), and laws.
 mod checking;
 mod index;
 mod limits;

@@ -5,7 +5,7 @@ ghost use lib.ListN.{getD, length};
 ghost use Rattle.characters.specs.Slices.{atEntry};
 ghost use Rattle.characters.specs.Spelling.{partOf, same};
 ghost use Rattle.book.specs.Book.{nthEntry, reservedAs, isReserved, lookupName};
-ghost use Rattle.book.specs.Index.{entriesIn, entryFrom, bookAt};
+ghost use Rattle.book.specs.Index.{stepsAt, entriesIn, entryFrom, bookAt};
 use crate::index::NAMES;
 use crate::index::WORDS;
 use crate::index::count;
@@ -32,7 +32,7 @@ fn spelling_from(book: &[u8], at: usize) -> &[u8]
 
 // The spelling of entry i of a section, a part of the book.
 fn spelling<'a>(book: &'a [u8], index: &[usize], base: usize, i: usize) -> &'a [u8]
-    requires { ⌜ base ≤ 580 ⌝ }
+    requires { ⌜ base ≤ stepsAt ⌝ }
     ensures { λ r. ⌜ now r ≡ nthEntry (entriesIn (atEntry book) (atEntry index) base) i .spelling ⌝ }
 {
     if i < count(index, base) {
@@ -44,7 +44,7 @@ fn spelling<'a>(book: &'a [u8], index: &[usize], base: usize, i: usize) -> &'a [
 
 // The number that stands before the spelling of entry i.
 fn label(book: &[u8], index: &[usize], base: usize, i: usize) -> usize
-    requires { ⌜ base ≤ 580 ⌝ }
+    requires { ⌜ base ≤ stepsAt ⌝ }
     ensures { λ r. ⌜ r ≡ nthEntry (entriesIn (atEntry book) (atEntry index) base) i .label ⌝ }
 {
     if i < count(index, base) {
@@ -81,7 +81,7 @@ pub fn name_kind(book: &[u8], index: &[usize], i: usize) -> usize
 
 // Whether entry i is spelled as a part of the text.
 fn spelled(book: &[u8], index: &[usize], base: usize, i: usize, wanted: &[u8]) -> bool
-    requires { ⌜ base ≤ 580 ⌝ }
+    requires { ⌜ base ≤ stepsAt ⌝ }
     ensures { λ r. ⌜ r ≡ same (atEntry wanted)
         (nthEntry (entriesIn (atEntry book) (atEntry index) base) i .spelling) ⌝ }
 {

@@ -7,6 +7,7 @@ ghost use lib.ListN.{length};
 ghost use Rattle.characters.specs.Slices.{atEntry, atExit};
 ghost use Rattle.characters.specs.Classes.{between};
 ghost use Rattle.book.specs.Numbers.{identifierMark, variantsEach, defaultLevel, both};
+ghost use Rattle.book.specs.Numbers.{largestByte};
 ghost use Rattle.book.specs.Index.{belowRange, allowed, One, Row, Section};
 use crate::index::put;
 use crate::limits::BOTH;
@@ -212,7 +213,7 @@ fn row(
     index: &mut [usize],
     base: usize,
 ) -> Part
-    requires { ⌜ (base + 1 + 2 * count ≤ length (now index)) × (count ≤ 255) ⌝ }
+    requires { ⌜ (base + 1 + 2 * count ≤ length (now index)) × (count ≤ largestByte) ⌝ }
     ensures { λ r. ⌜ Row sort (atEntry book) place count base (atEntry index) (atExit index) r ⌝ }
 {
     let mut i = 0;
@@ -246,7 +247,7 @@ pub fn section(
     index: &mut [usize],
     base: usize,
 ) -> Part
-    requires { ⌜ (base + 1 + 2 * high ≤ length (now index)) × (high ≤ 255) ⌝ }
+    requires { ⌜ (base + 1 + 2 * high ≤ length (now index)) × (high ≤ largestByte) ⌝ }
     ensures { λ r. ⌜ Section sort (between low high) (atEntry book) place high base
         (atEntry index) (atExit index) r ⌝ }
 {

@@ -66,7 +66,7 @@ InTable row rows = (row ≤ mostNesting) × (rowsSize ≤ length (now rows))
 
 -- the same, and a number of the row by its index
 abbrev pub NumberIn : ℕ → ℕ → Slice → Type 0
-NumberIn row number rows = (row ≤ mostNesting) × (number < fieldCount) × (rowsSize ≤ length (now rows))
+NumberIn row column rows = (row ≤ mostNesting) × (column < fieldCount) × (rowsSize ≤ length (now rows))
 
 -- row `from` is one of the table, and `into` one below it
 abbrev pub Below : ℕ → ℕ → Slice → Type 0

@@ -82,18 +82,18 @@ pub enum Settled {
 }
 
 // ---- Numbers of a row
-fn get(rows: &[u32], row: usize, number: usize) -> u32
-    requires { ⌜ NumberIn row number rows ⌝ }
-    ensures { λ r. ⌜ r ≡ fieldOf number (rowIn rows row) ⌝ }
+fn get(rows: &[u32], row: usize, column: usize) -> u32
+    requires { ⌜ NumberIn row column rows ⌝ }
+    ensures { λ r. ⌜ r ≡ fieldOf column (rowIn rows row) ⌝ }
 {
-    rows[row * ROW_SIZE + number]
+    rows[row * ROW_SIZE + column]
 }
 
-fn put(rows: &mut [u32], row: usize, number: usize, x: u32)
-    requires { ⌜ NumberIn row number rows ⌝ }
-    ensures { λ _. ⌜ Changes rows row (field number x) ⌝ }
+fn put(rows: &mut [u32], row: usize, column: usize, x: u32)
+    requires { ⌜ NumberIn row column rows ⌝ }
+    ensures { λ _. ⌜ Changes rows row (field column x) ⌝ }
 {
-    rows[row * ROW_SIZE + number] = x;
+    rows[row * ROW_SIZE + column] = x;
 }
 
 pub fn nonterminal_of(rows: &[u32], row: usize) -> u32

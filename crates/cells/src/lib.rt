@@ -15,6 +15,7 @@ mod store;
 
 pub use numbers::CHAIN_FORM;
 pub use numbers::CellNumbers;
+pub use numbers::HALF;
 pub use numbers::LIST_FORM;
 pub use numbers::NAME_FORM;
 pub use numbers::NUMBER_FORM;

@@ -1,7 +1,8 @@
 // The three numbers of a cell by its form, whether two cells are equal, and the hash of a cell.
 ghost use mathlib.Core.Path.{_≡_};
-ghost use Prim.Native.Nat.{_<_, _/_, _%_, _^_};
+ghost use Prim.Native.Nat.{_<_, _/_, _%_};
 ghost use Rattle.characters.specs.Slices.{atEntry};
+ghost use Rattle.semantics.specs.Numbers.{half};
 ghost use Rattle.semantics.specs.Cells.{Cell, numbersOf};
 ghost use Rattle.cells.specs.Store.{hashes, listed, sameIn, mixed, hashFrom, hashOf};
 use characters::part;
@@ -31,6 +32,9 @@ pub const VARIABLE_FORM: u32 = 6;
 pub const ABSENT_FORM: u32 = 7;
 
 pub const LIST_FORM: u32 = 8;
+
+// "5 number high, low half", of 64 bits
+pub const HALF: u64 = 4294967296;
 
 // how many hashes there are, and so buckets of cells with one hash
 pub const HASHES: usize = 1024;
@@ -79,12 +83,12 @@ pub fn name(place: u32, size: u32) -> CellNumbers
 }
 
 pub fn number(value: u64) -> CellNumbers
-    ensures { λ r. ⌜ listed r ≡ numbersOf (Cell.number (value / 2 ^ 32) (value % 2 ^ 32)) ⌝ }
+    ensures { λ r. ⌜ listed r ≡ numbersOf (Cell.number (value / half) (value % half)) ⌝ }
 {
     CellNumbers {
         form: NUMBER_FORM,
-        a: (value / 4294967296) as u32,
-        b: (value % 4294967296) as u32,
+        a: (value / HALF) as u32,
+        b: (value % HALF) as u32,
     }
 }
 
@@ -143,7 +147,7 @@ pub fn same_cell(text: &[u8], c: CellNumbers, d: CellNumbers) -> bool
 
 // One number more in a hash.
 fn mix(hash: usize, x: usize) -> usize
-    requires { ⌜ (hash < hashes) × (x < 4294967296) ⌝ }
+    requires { ⌜ (hash < hashes) × (x < half) ⌝ }
     ensures { λ r. ⌜ (r ≡ mixed hash x) × (r < hashes) ⌝ }
 {
     (hash * MULTIPLIER + x) % HASHES

@@ -1,5 +1,5 @@
-// The cells of a run in a lent slice of numbers, with an index of buckets: the cells of one hash, linked from the newest
-// on.
+// The cells of a run in a lent slice of numbers, with an index of buckets: the cells of one hash, linked from the
+// newest on.
 ghost use mathlib.Core.Path.{_≡_};
 ghost use mathlib.Core.List.{List, []};
 ghost use Prim.Native.Nat.{ℕ, _≤_, _<_};

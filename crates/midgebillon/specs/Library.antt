@@ -18,6 +18,10 @@ use Rattle.printing.specs.Printing.{lineBytes}
 use Rattle.printing.specs.declared.line.Length.{Length}
 
 -- ---- The seven numbers
+-- "refusal (0 if none), place, kind, argument, work, number of parses, value cell"
+abbrev pub answerSize : ℕ
+answerSize = 7
+
 -- the answer that the first seven numbers of a list are
 abbrev pub answerAt : List ℕ → Answer
 answerAt l = answer (getD l 0 0) (getD l 1 0) (getD l 2 0) (getD l 3 0) (getD l 4 0) (getD l 5 0) (getD l 6 0)
@@ -33,11 +37,11 @@ storing a l =
 -- promises, and the numbers behind stay
 pub record ReadInto (bytes text : List ℕ) (start allowance : ℕ)
     (cells cells′ parses parses′ numbers numbers′ : List ℕ) : Type 0 where
-  pub few : length numbers < 7 → (cells′ ≡ cells) × (parses′ ≡ parses) × (numbers′ ≡ numbers)
-  pub reads : 7 ≤ length numbers →
+  pub few : length numbers < answerSize → (cells′ ≡ cells) × (parses′ ≡ parses) × (numbers′ ≡ numbers)
+  pub reads : answerSize ≤ length numbers →
       Reads bytes text start (answerOf cells parses bytes text start allowance)
       (record { answer = answerAt numbers′; cells = cells′; parses = parses′ })
-  pub behind : drop 7 numbers′ ≡ drop 7 numbers
+  pub behind : drop answerSize numbers′ ≡ drop answerSize numbers
 
 -- ---- Numbers that are an answer
 -- a refusal of the table of "The answer"
@@ -66,7 +70,7 @@ namesOf (Outcome.refusal number place) = []
 -- the line, or nothing where the numbers are no answer. No line is empty (`some-line` of LibraryLaws)
 abbrev pub lineFor : List ℕ → List ℕ → List ℕ → List ℕ → List ℕ
 lineFor bytes text cells numbers =
-    cond (leb 7 (length numbers) && isAnswer (verdict (checkBook bytes)) cells (answerAt numbers))
+    cond (leb answerSize (length numbers) && isAnswer (verdict (checkBook bytes)) cells (answerAt numbers))
     (lineBytes (namesOf (checkBook bytes)) text cells (answerAt numbers)) []
 
 -- a line, or nothing where a list has no room for all of it

@@ -5,7 +5,8 @@ ghost use lib.ListN.{length};
 ghost use Rattle.characters.specs.Slices.{atEntry, atExit};
 ghost use Rattle.characters.specs.Classes.{between};
 ghost use Rattle.run.specs.Promise.{answerIn};
-ghost use Rattle.midgebillon.specs.Library.{answerAt, storing, hasCell, isRefusal, isAnswer, lengthOf};
+ghost use Rattle.midgebillon.specs.Library.{answerSize, answerAt, storing, hasCell};
+ghost use Rattle.midgebillon.specs.Library.{isRefusal, isAnswer, lengthOf};
 use book::Verdict;
 use cells::MOST_CELLS;
 use printing::Length;
@@ -17,11 +18,11 @@ use run::SHORT_LISTS;
 use transitions::NO_UNIT;
 use transitions::TOO_MANY_CELLS;
 
-pub const NUMBERS: usize = 7;
+pub const ANSWER_SIZE: usize = 7;
 
 // The numbers of an answer, at the front of a lent list.
 pub fn put_answer(numbers: &mut [u32], a: Answer)
-    requires { ⌜ 7 ≤ length (now numbers) ⌝ }
+    requires { ⌜ answerSize ≤ length (now numbers) ⌝ }
     ensures { λ _. ⌜ atExit numbers ≡ storing a (atEntry numbers) ⌝ }
 {
     numbers[0] = a.refusal;
@@ -35,7 +36,7 @@ pub fn put_answer(numbers: &mut [u32], a: Answer)
 
 // The answer that stands at the front of a list.
 pub fn answer_in(numbers: &[u32]) -> Answer
-    requires { ⌜ 7 ≤ length (now numbers) ⌝ }
+    requires { ⌜ answerSize ≤ length (now numbers) ⌝ }
     ensures { λ r. ⌜ answerIn r ≡ answerAt (atEntry numbers) ⌝ }
 {
     Answer {

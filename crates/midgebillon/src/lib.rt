@@ -16,7 +16,7 @@ mod answer;
 
 ghost use Rattle.characters.specs.Slices.{atEntry, atExit};
 ghost use Rattle.midgebillon.specs.Library.{ReadInto, PrintsInto, lineFor};
-use answer::NUMBERS;
+use answer::ANSWER_SIZE;
 use answer::answer_in;
 use answer::is_answer;
 use answer::length_of;
@@ -41,7 +41,7 @@ pub extern "C" fn midgebillon_read(
         (atEntry cells) (atExit cells) (atEntry parses) (atExit parses)
         (atEntry answer) (atExit answer) ⌝ }
 {
-    if answer.len() < NUMBERS {
+    if answer.len() < ANSWER_SIZE {
         return;
     }
     let a = read(book, text, start, allowance, cells, parses);
@@ -62,7 +62,7 @@ pub extern "C" fn midgebillon_print<'a>(
         (lineFor (atEntry book) (atEntry text) (atEntry cells) (atEntry answer))
         (atEntry out) (atExit out) r ⌝ }
 {
-    if answer.len() < NUMBERS {
+    if answer.len() < ANSWER_SIZE {
         return 0;
     }
     let a = answer_in(answer);

@@ -10,6 +10,7 @@ use lib.Dec.{leb}
 use lib.ListN.{length}
 use denote.Ref.{now}
 use Rattle.characters.specs.Slices.{Slice}
+use Rattle.book.specs.Numbers.{largestByte}
 use Rattle.book.specs.Book.{Book, nthVariant}
 use Rattle.book.specs.Index.{bookIn}
 use Rattle.semantics.specs.Numbers.{mostNesting, mostRounds}
@@ -35,7 +36,7 @@ use Rattle.transitions.specs.Contracts.{Fitting, FromState, FromResult}
 -- a path's row is one of the table, and its steps are some of the book's, no more than a byte can say
 abbrev pub InRange : Book → Progress → Type 0
 InRange book here =
-    (here .call ≤ mostNesting) × (here .remaining ≤ 255) × (here .step + here .remaining ≤ length (book .steps))
+    (here .call ≤ mostNesting) × (here .remaining ≤ largestByte) × (here .step + here .remaining ≤ length (book .steps))
 
 -- the steps that are left
 abbrev pub todoAt : Book → Progress → List (Todo ℕ)

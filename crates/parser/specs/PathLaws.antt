@@ -36,7 +36,8 @@ use Rattle.transitions.specs.declared.stages.Next.{Next}
 use Rattle.transitions.specs.declared.stages.Reached.{Reached}
 use Rattle.transitions.specs.declared.stages.Stage.{Stage}
 use Rattle.transitions.specs.Outcomes.{cellsOf, Held, given, goesOn, Ran, Runs, failureAt}
-use Rattle.transitions.specs.Steps.{todoFrom, nextRows, descendsRows, choosesRows, doesRows, resumes, firstSideRows, StagedFrom}
+use Rattle.transitions.specs.Steps.{todoFrom, nextRows, descendsRows, choosesRows, doesRows, resumes, firstSideRows}
+use Rattle.transitions.specs.Steps.{StagedFrom}
 use Rattle.transitions.specs.Steps.{ReachedFrom, Chosen}
 use Rattle.parser.specs.Cycle.{bothSidesRows, rankOf}
 use Rattle.parser.specs.ResultLaws.{Going, bind-assoc, bind-assoc-in, limit-ends, goes-to, goes-on, ended}
@@ -65,7 +66,8 @@ sides-elements book text inner n c j rest l x items s =
 
 module _ (book : Book) (text : List ℕ) (inner : Option RowRunner) (n c j : ℕ) (rest : List (Todo ℕ)) (next : Next)
     (M x items : ℕ) (s : State) (st0 st1 st2 : List ℕ) (T U : List Row) (f : Reached) (a : Outcome)
-    (F : ReachedFrom book text st0 s st1 j f (λ inner n c rest s. firstSideRows book text inner n c j rest next x items s))
+    (F : ReachedFrom book text st0 s st1 j f
+    (λ inner n c rest s. firstSideRows book text inner n c j rest next x items s))
     (G : Runs text st1 (f .outcome .state .cells) st2 U a (λ cells.
     resumes book text inner n c j rest Doing.Steps (f .place) (f .items) (given (f .outcome) cells T))) where
   first-side : Held text st0 (s .cells) →

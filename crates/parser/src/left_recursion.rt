@@ -2,8 +2,8 @@
 // until a run adds none.
 //
 // `E = E + E | number` on `1+2`: the first run of E at 0 meets E at 0, which has stored nothing, so that only `number`
-// gives a parse, `1`. The call's parses were asked for, so `1` is stored, and a second run finds `1+2` through it. A third finds nothing
-// new, and the call is over.
+// gives a parse, `1`. The call's parses were asked for, so `1` is stored, and a second run finds `1+2` through it. A
+// third finds nothing new, and the call is over.
 ghost use Rattle.transitions.specs.Contracts.{Ready, Does};
 ghost use Rattle.parser.specs.Cycle.{CanRun, runsAgain, runsCall, enters};
 use crate::parser::one_run;

@@ -1,9 +1,9 @@
 // A call runs its variants; a variant runs its steps; a step calls a nonterminal again.
 //
 // A row's number is the levels of nesting left. `variant` and `one_run`, and `rounds` and `run_call` of
-// left_recursion.rt, take the row of the call at hand; `enter`, `descend`, `follow`, `choice` and `steps` take the first
-// free row, which the next call gets. A path's own call has the row `here.call`, and its parse joins that row's set of
-// the run as the path ends.
+// left_recursion.rt, take the row of the call at hand; `enter`, `descend`, `follow`, `choice` and `steps` take the
+// first free row, which the next call gets. A path's own call has the row `here.call`, and its parse joins that row's
+// set of the run as the path ends.
 //
 // What ends the cycle: a call runs its variants, and a parse is followed, with one level less; on one level the steps
 // that remain become fewer.
@@ -258,8 +258,8 @@ fn steps(
     requires { ⌜ OnPath book index text rows free from ⌝ }
     ensures { λ r. ⌜ Continues book index text store rows begun r (proceeds free from first) ⌝ }
 {
-    // Four numbers, and not a copy of the struct: that would be read in larger parts than it was written in, and wait. The
-    // struct is made where it is handed on, so that a step that calls nothing stores none.
+    // Four numbers, and not a copy of the struct: that would be read in larger parts than it was written in, and wait.
+    // The struct is made where it is handed on, so that a step that calls nothing stores none.
     let mut step = from.step;
     let mut remaining = from.remaining;
     let mut place = from.place;

@@ -14,13 +14,12 @@ use crate::laying::is_full;
 use crate::laying::number;
 use cells::CHAIN_FORM;
 use cells::CellNumbers;
+use cells::HALF;
 use cells::LIST_FORM;
 use cells::NAME_FORM;
 use cells::NUMBER_FORM;
 use cells::VARIABLE_FORM;
 use cells::VARIANT_FORM;
-
-const HALF: u64 = 4294967296;
 
 // An item that has no items itself: a name, a number, a variable, or absent.
 fn plain<'a>(

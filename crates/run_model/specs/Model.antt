@@ -29,7 +29,7 @@ use Rattle.semantics.specs.Steps.{todoOf}
 use Rattle.semantics.specs.Cells.{Cell}
 use Rattle.semantics.specs.Errors.{Error, error, joinWith, chosenFailure, stepError}
 use Rattle.semantics.specs.Run.{Result, met, ok, _>>=_, State, Made, made, Call, call, allIn, kept, add, addAll, spend}
-use Rattle.semantics.specs.Run.{make, failedCall, either, closingOf, begin, withCell, withToken, counted}
+use Rattle.semantics.specs.Run.{make, failedCall, either, closingCode, begin, withCell, withToken, counted}
 use Rattle.run_model.specs.Rows.{Row, opened, ended, withVariant, withChild, wasAsked, withSet, withRun, copied}
 use Rattle.run_model.specs.Rows.{rowOf, onRow, useAt, minimum, same-start, governorOf, anyClaims}
 
@@ -210,7 +210,7 @@ module _ (book : Book) (text : List ℕ) where
   stopsRows j values close go x items s = do
     l ← makes (make text (Cell.list values)) s
     elim (closed text close x) [
-      | none ↦ ok (outcome (some (error (skipFrom text x) characterWanted (closingOf close))) (l .state))
+      | none ↦ ok (outcome (some (error (skipFrom text x) characterWanted (closingCode close))) (l .state))
       | some y ↦ makes (withCell book text j items (l .cell)) (l .state) >>= (λ m. go y (m .cell) (m .state))
     ]
 

@@ -22,7 +22,7 @@ use Rattle.semantics.specs.Cells.{numbersOf, cellsIn, identityOf, findCe
 use Rattle.semantics.specs.Cells.{treeAt}
 use Rattle.semantics.specs.Errors.{join, beyond, joinWith, choiceError, identifierError, stepError}
 use Rattle.semantics.specs.Run.{_>>=_, sameParse, has, allIn, kept, add, addAll, ask, newest, others, spend, make}
-use Rattle.semantics.specs.Run.{itemCell, withCell, withToken, nested, closingOf, begin, complete, counted}
+use Rattle.semantics.specs.Run.{itemCell, withCell, withToken, nested, closingCode, begin, complete, counted}
 use Rattle.semantics.specs.Run.{variants, oneRun, rounds as roundsRun, failedCall, runCall, named, runIdentifier}
 use Rattle.semantics.specs.Run.{reentry, enter, enterChild, either, followMore, follow, followed, plainNext}
 use Rattle.semantics.specs.Run.{listNext, chosen, stops, stepUnit, orAbsent, choice, listing, steps, runner, run}
@@ -80,7 +80,7 @@ unfolding classOf leading spanEnd commentAt commentEnd roundEnd skipRounds skipF
     entireBook checkBook outwards govern governor isSome characterEnd identifierEnd reservedAt freeEnd variableAt stepAt
     hasClaimant afterElement closed numbersOf cellsIn identityOf findCell treeIn treesIn meaningOf meanings join
     beyond joinWith choiceError identifierError stepError _>>=_ sameParse has allIn kept add addAll ask newest others
-    spend make itemCell withCell withToken nested closingOf begin complete counted variants oneRun roundsRun
+    spend make itemCell withCell withToken nested closingCode begin complete counted variants oneRun roundsRun
     failedCall runCall named runIdentifier reentry enter enterChild either followMore follow followed plainNext
     listNext chosen stops stepUnit orAbsent choice listing steps runner run cellNumbers parseNumbers written
     wholeValues allAre firstHigh byValues atEnd onBook answerOf

@@ -1,8 +1,8 @@
 -- Document 01, "The run".
 --
 -- Letters: c is a call (in `make` a cell), s and t are states, j a variant's number, N a use's nonterminal and u the
--- skipped place where it begins, M a child's nonterminal, m the minimum of a level, x a place that a path has reached, e
--- an error, p and q parses. What was made is m too, of an empty chain e, of a list l.
+-- skipped place where it begins, M a child's nonterminal, m the minimum of a level, x a place that a path has reached,
+-- e an error, p and q parses. What was made is m too, of an empty chain e, of a list l.
 use mathlib.Core.Bool.{Bool, true, false, cond, _&&_}
 use mathlib.Core.List.{List, [], _∷_, _++_}
 use mathlib.Core.Option.{Option, none, some}
@@ -187,9 +187,9 @@ chosen c at (some a) b =
     ]
 
 -- the closing that is missing; a list without one is never asked for it
-unfoldable pub closingOf : Option ℕ → ℕ
-closingOf none = 0
-closingOf (some c) = c
+unfoldable pub closingCode : Option ℕ → ℕ
+closingCode none = 0
+closingCode (some c) = c
 
 module _ (book : Book) (text : List ℕ) where
   -- ---- A variant's cells
@@ -297,7 +297,7 @@ module _ (book : Book) (text : List ℕ) where
   stops j values close go x items set s = do
     l ← make text (Cell.list values) s
     elim (closed text close x) [
-      | none ↦ ok (parsed set (some (error (skipFrom text x) characterWanted (closingOf close))) (l .state))
+      | none ↦ ok (parsed set (some (error (skipFrom text x) characterWanted (closingCode close))) (l .state))
       | some y ↦ withCell j items (l .cell) (l .state) >>= (λ m. go y (m .cell) set (m .state))
     ]
 

@@ -8,7 +8,7 @@ ghost use Rattle.book.specs.Index.{bookAt};
 ghost use Rattle.book.specs.declared.records.Step.{Step};
 ghost use Rattle.semantics.specs.Numbers.{characterWanted, unknownName, wrongKind};
 ghost use Rattle.semantics.specs.Errors.{error, identifierError, stepError};
-ghost use Rattle.semantics.specs.Run.{closingOf};
+ghost use Rattle.semantics.specs.Run.{closingCode};
 ghost use Rattle.semantics.specs.Tokens.{when, isSome, variableAt};
 ghost use Rattle.semantics.specs.Steps.{read, stepAt, afterElement, closed as closedAt};
 ghost use Rattle.errors.specs.Maps.{errorOf};
@@ -312,7 +312,7 @@ fn error_at(place: u32, kind: u32, argument: u32) -> Error
 
 // The closing of a list is missing: 1, with its code.
 pub fn closing_error(closing: Closing, at: u32) -> Error
-    ensures { λ r. ⌜ errorOf r ≡ error at characterWanted (closingOf (closingIn closing)) ⌝ }
+    ensures { λ r. ⌜ errorOf r ≡ error at characterWanted (closingCode (closingIn closing)) ⌝ }
 {
     match closing {
         Closing::Character(c) => error_at(at, CHARACTER_WANTED, c),

@@ -3,8 +3,8 @@
 -- of document 01.
 --
 -- What is asked: Short, Fitting, Ready. What is promised: MakesCell of a cell, Does of a part of the run, Continues of
--- one that goes on from an outcome, Stages, StagesAll and Reaches of a part that calls nothing. Then the parts of the model, from
--- where a path is.
+-- one that goes on from an outcome, Stages, StagesAll and Reaches of a part that calls nothing. Then the parts of the
+-- model, from where a path is.
 use mathlib.Core.Bool.{Bool}
 use mathlib.Core.List.{List, _∷_}
 use mathlib.Core.Option.{Option}

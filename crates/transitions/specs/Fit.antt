@@ -5,6 +5,7 @@ use mathlib.Core.Option.{Option, none, some}
 use Prim.Native.Nat.{ℕ, _+_, _≤_, _<_}
 use lib.ListN.{length}
 use Rattle.semantics.specs.Numbers.{longestText}
+use Rattle.book.specs.Numbers.{largestByte}
 use Rattle.book.specs.Book.{Book, nthEntry, nthNonterminal, nthVariant}
 use Rattle.tokens.specs.declared.steps.Item.{Item}
 use Rattle.tokens.specs.declared.steps.Taken.{Taken}
@@ -22,7 +23,7 @@ pub record Fit (book : Book) (text : List ℕ) : Type 0 where
   pub variants : (N : ℕ) → Fits (nthNonterminal book N .first + nthNonterminal book N .count)
   -- the level and the steps of a variant
   pub levels : (j : ℕ) → Fits (nthVariant book j .level)
-  pub few : (j : ℕ) → nthVariant book j .count ≤ 255
+  pub few : (j : ℕ) → nthVariant book j .count ≤ largestByte
   pub steps : (j : ℕ) → nthVariant book j .first + nthVariant book j .count ≤ length (book .steps)
   pub all : Fits (length (book .steps))
 

@@ -34,7 +34,8 @@ use Rattle.transitions.specs.declared.stages.Reached.{Reached}
 use Rattle.transitions.specs.declared.stages.Stage.{Stage}
 use Rattle.transitions.specs.Outcomes.{cellsOf, Spent, MadeBy, withoutFailure, doneWith, failureAt}
 use Rattle.transitions.specs.OutcomeLaws.{given-ok, given-met, failure-done}
-use Rattle.transitions.specs.Steps.{nextRows, choosesRows, doesRows, firstSideRows, ModelPart, StagedFrom, ReachedFrom, Chosen}
+use Rattle.transitions.specs.Steps.{nextRows, choosesRows, doesRows, firstSideRows, ModelPart, StagedFrom}
+use Rattle.transitions.specs.Steps.{ReachedFrom, Chosen}
 use Rattle.transitions.specs.Steps.{Joined}
 use Rattle.transitions.specs.Steps.{endedBy, reachedWith, thenSteps}
 use Rattle.transitions.specs.ResumeLaws.{stateIn, bind-met, bind-ok, unit-met, unit-ok, makes-ok, makes-met}

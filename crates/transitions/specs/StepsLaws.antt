@@ -28,7 +28,7 @@ use Rattle.semantics.specs.Steps.{Todo, taking, stepAt, closed}
 use Rattle.semantics.specs.Errors.{Error, error, stepError}
 use Rattle.semantics.specs.Cells.{Cell}
 use Rattle.semantics.specs.Run as run
-use Rattle.semantics.specs.Run.{met, ok, _>>=_, closingOf}
+use Rattle.semantics.specs.Run.{met, ok, _>>=_, closingCode}
 use Rattle.run_model.specs.Rows.{Row}
 use Rattle.run_model.specs.Model as model
 use Rattle.run_model.specs.Model.{RowState, rowState, outcome, RowRunner, RowGo, RowMade, rowMade, makes, valueCell}
@@ -122,7 +122,7 @@ module _ (book : Book) (text : List ℕ) (j values : ℕ) (close : Option ℕ) (
     (l : RowMade) (e : makes (run.make text (Cell.list values)) s ≡ ok l) where
   stops-unclosed : closed text close x ≡ none →
       stopsRows book text j values close go x items s
-      ≡ ok (outcome (some (error (skipFrom text x) 1 (closingOf close))) (l .state))
+      ≡ ok (outcome (some (error (skipFrom text x) 1 (closingCode close))) (l .state))
   unfolding stopsRows _>>=_
   stops-unclosed n = rw (e, stopsRows, _>>=_) (rw n)
 
@@ -155,7 +155,7 @@ module _ (book : Book) (text before middle : List ℕ) (j values : ℕ) (closing
 
   module _ (l : m .limit ≡ 0) (end : End) (ee : endOf end ≡ closed text (closingIn closing) at) where
     pub stop-unclosed : (g : Reached) (e : code.Error) (o : Outcome) → end ≡ End.Nothing →
-        errorOf e ≡ error (skipFrom text at) 1 (closingOf (closingIn closing)) →
+        errorOf e ≡ error (skipFrom text at) 1 (closingCode (closingIn closing)) →
         o ≡ doneWith (Failure.At e) (m .state) → g ≡ endedBy o →
         ReachedFrom book text before s middle j g (stopsPart book text j values closing at items)
     stop-unclosed g e o n d eo q h =
@@ -175,7 +175,8 @@ module _ (book : Book) (text before middle : List ℕ) (j values : ℕ) (closing
 
     pub stop-closed : (after : List ℕ) (g : Reached) (r : CellOutcome) (next : ℕ) → end ≡ End.At next →
         MadeBy text middle after (m .state) r (run.withCell book text j items (m .cell)) →
-        g ≡ reachedWith r next → ReachedFrom book text before s after j g (stopsPart book text j values closing at items)
+        g ≡ reachedWith r next →
+        ReachedFrom book text before s after j g (stopsPart book text j values closing at items)
     unfolding doesRows
     stop-closed after g r next n k q h =
         let v = w h in
@@ -268,7 +269,8 @@ module _ (book : Book) (text before after : List ℕ) (j : ℕ) (s : State) (m :
       })
 
   pub unopened-limit : (g : Reached) → (m .limit ≡ 0 → ⊥) → g ≡ reachedWith m 0 →
-      ReachedFrom book text before s after j g (λ inner n c rest s. unopenedRows book text inner n c j rest place items s)
+      ReachedFrom book text before s after j g
+      (λ inner n c rest s. unopenedRows book text inner n c j rest place items s)
   unfolding unopenedRows
   unopened-limit g l e h =
       let v = w h in
@@ -283,7 +285,8 @@ module _ (book : Book) (text before after : List ℕ) (j : ℕ) (s : State) (m :
 
   pub unopened-stops : (last : List ℕ) (g : Reached) → m .limit ≡ 0 →
       ReachedFrom book text after (m .state) last j g (stopsPart book text j (m .cell) Closing.Nothing place items) →
-      ReachedFrom book text before s last j g (λ inner n c rest s. unopenedRows book text inner n c j rest place items s)
+      ReachedFrom book text before s last j g
+      (λ inner n c rest s. unopenedRows book text inner n c j rest place items s)
   unfolding unopenedRows
   unopened-stops last g l k h =
       let v = w h in

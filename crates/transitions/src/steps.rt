@@ -3,7 +3,7 @@ ghost use mathlib.Core.Path.{_≡_};
 ghost use Prim.Native.Nat.{_<_};
 ghost use Rattle.sets.specs.Sets.{parse, parseOf};
 ghost use Rattle.tokens.specs.Maps.{itemOf};
-ghost use Rattle.transitions.specs.Fit.{ItemFits};
+ghost use Rattle.transitions.specs.Fit.{Fits, ItemFits};
 ghost use Rattle.transitions.specs.Steps.{thenDoes, StepSpent, Joined};
 ghost use Rattle.transitions.specs.Contracts.{Fitting, Ready, Does, Stages, StagesAll, Reaches};
 ghost use Rattle.transitions.specs.Contracts.{completes, takes, reads, lists, unopens, stops, follows};
@@ -41,7 +41,7 @@ use tokens::Taken;
 
 // ---- The end of a variant
 fn parse_of(w: Variant, rest: u32, value: u32) -> Parse
-    requires { ⌜ w .level < 4294967296 ⌝ }
+    requires { ⌜ Fits (w .level) ⌝ }
     ensures { λ r. ⌜ parseOf r ≡ parse rest (w .level) (w .associativity) value ⌝ }
 {
     let associativity = w.associativity;

@@ -18,7 +18,8 @@ returns c =
     let end-call = c .before .before .end-call in
     stored-law (table (args .rows .now)) _ _ _ (args .row) (args .governor)
     (table-below (args .rows .now) (args .row) (omega (arith, pre)))
-    (table-below (args .rows .now) (args .governor) (pre .1)) (put-asked .ensures) (put-kept .ensures) (end-call .ensures)
+    (table-below (args .rows .now) (args .governor) (pre .1)) (put-asked .ensures)
+    (put-kept .ensures) (end-call .ensures)
 
 pub take-stored-spec : {M : Type 1} → statement M
 take-stored-spec =

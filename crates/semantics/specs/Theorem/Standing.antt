@@ -3,8 +3,8 @@
 -- (`table-stands`).
 --
 -- The plan. What a cell stands for follows from its numbers and from cells before it, and so does its meaning, in the
--- same way (`stands-means`, of a chain `chain-means`): one induction over `StandsFor`. The other way round goes by the table: a cell that is made
--- fits the cells before it, which already stand for their meanings.
+-- same way (`stands-means`, of a chain `chain-means`): one induction over `StandsFor`. The other way round goes by the
+-- table: a cell that is made fits the cells before it, which already stand for their meanings.
 use mathlib.Core.Path.{_≡_, refl, sym, _∙_, ap}
 use mathlib.Core.List.{List, [], _∷_, _++_}
 use mathlib.Core.Logic.{_⊎_, inl, inr}

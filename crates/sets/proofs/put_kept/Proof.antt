@@ -1,5 +1,5 @@
--- `sets::put_kept` meets its contract. The invariant (`Keeping` of SetLaws): what is kept so far, and what is kept of the
--- rest, make the whole.
+-- `sets::put_kept` meets its contract. The invariant (`Keeping` of SetLaws): what is kept so far, and what is kept of
+-- the rest, make the whole.
 use mathlib.Core.Path.{_≡_, refl, _∙_}
 use native.Mathlib.Omega.{arith}
 use lib.ListN.{length}

@@ -1,6 +1,6 @@
 -- `transitions::stop` meets its contract.
 use Rattle.semantics.specs.Errors.{error}
-use Rattle.semantics.specs.Run.{closingOf}
+use Rattle.semantics.specs.Run.{closingCode}
 use mathlib.Core.Path.{sym, ap, _∙_}
 use native.Mathlib.Omega.{arith}
 use Rattle.book.specs.Index.{bookIn}
@@ -42,7 +42,7 @@ returns-2 c =
     (args .here .variant) (args .values) (args .closing) (args .place) (args .here .items) (args .state) _
     (make .ensures (Cell.list (args .values)) (list .ensures))
     (if1 .left) _ (closed .ensures) _ _ _ (enum-told .given .1)
-    (closing-error .ensures ∙ ap (λ x. error x 1 (closingOf (closingIn (args .closing)))) (skipped .ensures))
+    (closing-error .ensures ∙ ap (λ x. error x 1 (closingCode (closingIn (args .closing)))) (skipped .ensures))
     (done .ensures) (c .ended .ensures)
 
 cast-reached-with : tie.Need-cast-reached-with
