@@ -23,8 +23,8 @@ use borrow.Author.Tests.{lt-ltb, le-ltb, ltb-true, ltb-false}
 use Rattle.characters.specs.Cases.{by-test}
 use Rattle.characters.specs.Classes.{between}
 use Rattle.book.specs.Book.{Book}
-use Rattle.book.specs.Check.{Checked, refused, accepted, andThen, Reader, checked, row, section, placed, spelling}
-use Rattle.book.specs.Check.{entry, nonterminal, variant, step, passes, allPass, ended, total, entireBook}
+use Rattle.book.specs.Check.{Checked, refused, accepted, andThen, Reader, checked, records, section, placed}
+use Rattle.book.specs.Check.{spelling, entry, nonterminal, variant, step, passes, allPass, ended, total, entireBook}
 use Rattle.book.specs.Check.{Outcome, outcome, checkBook}
 use Rattle.book.specs.ReaderLaws.{between-high, checked-bad, checked-good, checked-short}
 use Rattle.book.specs.declared.records.Step.{Step}
@@ -104,16 +104,16 @@ module _ (some bytes : List ℕ) (agree : Agree some bytes) (small : Bytes bytes
   module _ {A : Type 0} (size : A → ℕ) (one : ℕ → Reader A) (P : A → Type 0) (k : ℕ)
       (each : (sum place m : ℕ) → place + k ≤ longest → place + k ≤ m →
       Alike P m (one sum some place) (one sum bytes place)) where
-    row-alike : (n sum place m : ℕ) → place + n * k ≤ longest → place + n * k ≤ m →
-        Alike (All P) m (row size one n sum some place) (row size one n sum bytes place)
-    unfolding row All
-    row-alike zero sum place m h l = read {next = place} tt (omega arith) refl
-    row-alike (suc n) sum place m h l =
+    records-alike : (n sum place m : ℕ) → place + n * k ≤ longest → place + n * k ≤ m →
+        Alike (All P) m (records size one n sum some place) (records size one n sum bytes place)
+    unfolding records All
+    records-alike zero sum place m h l = read {next = place} tt (omega arith) refl
+    records-alike (suc n) sum place m h l =
         let e : suc n * k ≡ n * k + k = suc-mul n k in
         then-alike P (All P) (place + k) m (one sum some place) (one sum bytes place) _ _
         (each sum place (place + k) (omega arith) (omega arith)) (λ x at p low.
-        then-alike (All P) (All P) m m (row size one n (sum + size x) some at) (row size one n (sum + size x) bytes at)
-        _ _ (row-alike n (sum + size x) at m (omega arith) (omega arith)) (λ xs end all high.
+        then-alike (All P) (All P) m m (records size one n (sum + size x) some at)
+        (records size one n (sum + size x) bytes at) _ _ (records-alike n (sum + size x) at m (omega arith) (omega arith)) (λ xs end all high.
         read (p, all) high refl))
 
     -- a count that passes its test is at most `greatest`
@@ -126,7 +126,7 @@ module _ (some bytes : List ℕ) (agree : Agree some bytes) (small : Bytes bytes
         (checked-alike fits 4 place place (place + 1) (omega arith) (omega arith) (omega arith) (omega arith))
         (λ n at fit low.
         let b : n * k ≤ greatest * k = mul-le-mul-right k (bound n (fit .0) (fit .1)) in
-        row-alike n 0 at m (omega arith) (omega arith))
+        records-alike n 0 at m (omega arith) (omega arith))
 
   -- a field, and what follows it
   field-alike : {B : Type 0} (fits : ℕ → Bool) (place m n : ℕ) (g f : ℕ → ℕ → Checked B) → place + 1 ≤ longest →
@@ -146,7 +146,7 @@ module _ (some bytes : List ℕ) (agree : Agree some bytes) (small : Bytes bytes
       (checked-alike (between 1 15) 5 place place (place + 1) (omega arith) (omega arith) (omega arith) (omega arith))
       (λ size at fit low.
       let few : size ≤ 15 = between-high 1 15 size (fit .0) in
-      row-alike (λ b. 1) _ Any 1
+      records-alike (λ b. 1) _ Any 1
       (λ sum at m near low. forget _ _ (checked-alike _ 5 place at m (omega arith) (omega (arith, h)) (omega arith)
       (omega arith))) size 0 at m (omega arith) (omega arith)))
 

@@ -64,20 +64,20 @@ field fits = do
   at ← here
   checked fits badField at
 
--- n records in a row. Each is told the sum of the sizes of those before it
+-- n records one after another. Each is told the sum of the sizes of those before it
 module _ {A : Type 0} (size : A → ℕ) (one : ℕ → Reader A) where
-  unfoldable pub row : ℕ → ℕ → Reader (List A)
-  row zero sum = give []
-  row (suc n) sum = do
+  unfoldable pub records : ℕ → ℕ → Reader (List A)
+  records zero sum = give []
+  records (suc n) sum = do
     x ← one sum
-    xs ← row n (sum + size x)
+    xs ← records n (sum + size x)
     give (x ∷ xs)
 
 -- "Five sections in order, each after a one-byte count": the count, which passes a test, and so many records
 abbrev pub section : {A : Type 0} → (ℕ → Bool) → (A → ℕ) → (ℕ → Reader A) → Reader (List A)
 section fits size one = do
   n ← count fits
-  row size one n 0
+  records size one n 0
 
 -- the same, with the place where it begins
 abbrev pub placed : {A : Type 0} → Reader A → Reader (ℕ × A)
@@ -96,7 +96,7 @@ unfoldable pub spelling : Reader (List ℕ)
 spelling = do
   at ← here
   size ← checked (between 1 longestSpelling) badSpelling at
-  row (λ b. 1) (λ i. checked (shaped i) badSpelling at) size 0
+  records (λ b. 1) (λ i. checked (shaped i) badSpelling at) size 0
 
 -- ---- Sections 1 and 2: "reserved 0 or 1, length, bytes"; "kind 0 to 7, length, bytes"
 unfoldable pub entry : ℕ → Reader Entry

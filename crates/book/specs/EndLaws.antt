@@ -6,7 +6,7 @@
 --   passes-          whether one variant passes
 --   into-            the public check, with an index that is long enough and with one that isn't
 --
--- Not here: the sections (RowLaws, WholeLaws).
+-- Not here: the sections (SectionLaws, WholeLaws).
 use mathlib.Core.Path.{_≡_, refl, ap, _∙_}
 use mathlib.Core.Bool.{true, false}
 use mathlib.Core.List.{List, [], _∷_, _++_, map}

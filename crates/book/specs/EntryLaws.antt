@@ -14,9 +14,10 @@ use borrow.Author.Tests.{ltb-true, ltb-false}
 use Rattle.characters.specs.Cases.{by-test}
 use Rattle.characters.specs.Classes.{between}
 use Rattle.characters.specs.Spelling.{partOf}
-use Rattle.book.specs.Check.{Checked, refused, accepted, checked, row, shaped, spelling, entry}
+use Rattle.book.specs.Check.{Checked, refused, accepted, checked, records, shaped, spelling, entry}
 use Rattle.book.specs.Index.{readingOf, Valued, One}
-use Rattle.book.specs.ReaderLaws.{checked-short, checked-told, after, row-begins, row-refused, row-on, row-ends}
+use Rattle.book.specs.ReaderLaws.{checked-short, checked-told, after, records-begins, records-refused}
+use Rattle.book.specs.ReaderLaws.{records-on, records-ends}
 use Rattle.book.specs.RecordLaws.{Byte, one-refused}
 use Rattle.book.specs.declared.parts.Part.{Part}
 use Rattle.book.specs.declared.sections.Sort.{Sort}
@@ -24,7 +25,7 @@ use Rattle.book.specs.declared.sections.Sort.{Sort}
 -- ---- The bytes of a spelling whose length stands at `at`
 module _ (book : List ℕ) (at place : ℕ) where
   abbrev pub bytesFrom : ℕ → ℕ → ℕ → Checked (List ℕ)
-  bytesFrom n i from = row (λ b. 1) (λ k. checked (shaped k) 5 at) n i book from
+  bytesFrom n i from = records (λ b. 1) (λ k. checked (shaped k) 5 at) n i book from
 
   -- i of them have been read
   abbrev pub Begun : ℕ → ℕ → ℕ → Type 0
@@ -56,22 +57,24 @@ module _ (book : List ℕ) (at place : ℕ) where
       rw from-is (part-snoc i (omega (arith, byte-inside i from e))) in (
         omega (arith, told .next),
         rw snoc
-            (sym (row-on (λ b. 1) (λ k. checked (shaped k) 5 at) book (partOf book place i) size i i from h e) ∙ b .1),
+            (sym (records-on (λ b. 1) (λ k. checked (shaped k) 5 at) book (partOf book place i) size i i from h e)
+            ∙ b .1),
       )
 
   pub begun-first : (size : ℕ) → Begun size 0 place
-  begun-first size = (omega arith, row-begins (λ b. 1) (λ k. checked (shaped k) 5 at) book size 0 place)
+  begun-first size = (omega arith, records-begins (λ b. 1) (λ k. checked (shaped k) 5 at) book size 0 place)
 
   pub begun-stop : (size i from : ℕ) {n p : ℕ} → i < size → Begun size i from →
       checked (shaped i) 5 at book from ≡ refused n p → bytesFrom size 0 place ≡ refused n p
   begun-stop size i from h b e =
-      sym (b .1) ∙ row-refused (λ b. 1) (λ k. checked (shaped k) 5 at) book (partOf book place i) size i i from h e
+      sym (b .1) ∙ records-refused (λ b. 1) (λ k. checked (shaped k) 5 at) book (partOf book place i) size i i from h e
 
   pub begun-last : (size i from : ℕ) → i ≤ size → size ≤ i → Begun size i from →
       bytesFrom size 0 place ≡ accepted (partOf book place size) from
   begun-last size i from h k b =
       let all : i ≡ size = omega arith in
-      sym (b .1) ∙ row-ends (λ b. 1) (λ k. checked (shaped k) 5 at) book (partOf book place i) size i i from k ∙ rw all
+      sym (b .1)
+      ∙ records-ends (λ b. 1) (λ k. checked (shaped k) 5 at) book (partOf book place i) size i i from k ∙ rw all
 
 -- ---- Spellings
 module _ (book : List ℕ) (place : ℕ) where

@@ -13,7 +13,7 @@ use Rattle.characters.specs.Spelling.{partOf}
 use Rattle.book.specs.Book.{Entry, Book}
 use Rattle.book.specs.Numbers.{shortLists, mostWords, mostNames, mostNonterminals, reserved, lastKind}
 use Rattle.book.specs.Numbers.{largestByte, lastStepKind, firstCharacter, lastCharacter}
-use Rattle.book.specs.Check.{Checked, refused, accepted, andThen, Reader, row, section, placed, entry, markOf}
+use Rattle.book.specs.Check.{Checked, refused, accepted, andThen, Reader, records, section, placed, entry, markOf}
 use Rattle.book.specs.Check.{nonterminal, associativityOf, variant, stepOf, step, total, variantsFit}
 use Rattle.book.specs.Check.{Outcome, outcomeRefusal, outcomePlace, checkBook}
 use Rattle.book.specs.declared.checking.Verdict.{Verdict}
@@ -185,10 +185,11 @@ pub record One (sort : Sort) (book : List ℕ) (at : ℕ) (part : Part) : Type 0
   pub valued : (first : ℕ) → Valued part (sizeOf sort (recordFrom sort book at first))
   pub small : Small part
 
--- a row of records was read, and its numbers stand in the index
-pub record Row (sort : Sort) (book : List ℕ) (at count base : ℕ) (before after : List ℕ) (part : Part) : Type 0 where
+-- records were read, and their numbers stand in the index
+pub record RecordsRead (sort : Sort) (book : List ℕ) (at count base : ℕ) (before after : List ℕ)
+    (part : Part) : Type 0 where
   pub reads :
-      row (sizeOf sort) (oneOf sort) count 0 book at ≡ readingOf part (λ v. recordsIn sort book after base count)
+      records (sizeOf sort) (oneOf sort) count 0 book at ≡ readingOf part (λ v. recordsIn sort book after base count)
   pub valued : Valued part (total (sizeOf sort) (recordsIn sort book after base count))
   pub kept : KeptOutside (base + 1) (base + 1 + 2 * count) before after
 
@@ -197,7 +198,7 @@ abbrev pub Few : Part → ℕ → ℕ → Type 0
 Few (Part.Read value next) n high = n ≤ high
 Few (Part.Refused number place) n high = Unit {0}
 
--- a section was read: its count, which passes a test and is at most `high`, and its row
+-- a section was read: its count, which passes a test and is at most `high`, and its records
 pub record Section (sort : Sort) (fits : ℕ → Bool) (book : List ℕ) (at high base : ℕ) (before after : List ℕ)
     (part : Part) : Type 0 where
   pub reads :

@@ -6,7 +6,7 @@ pub mod Index
 pub mod ReaderLaws
 pub mod RecordLaws
 pub mod EntryLaws
-pub mod RowLaws
+pub mod SectionLaws
 pub mod ReadingLaws
 pub mod WholeLaws
 pub mod EndLaws

@@ -4,9 +4,9 @@
 --   checked-, field-                a byte of the book: good, bad, missing
 --   read, stopped, stop, handed     what follows a part that was read, and one that was refused
 --   no-value, value-of, ..          the value of a part
---   after, row-, total-snoc         a row of records, of which some have been read
+--   after, records-, total-snoc         records, of which some have been read
 --
--- Not here: the records themselves (RecordLaws, EntryLaws), and a row with its index (RowLaws).
+-- Not here: the records themselves (RecordLaws, EntryLaws), and records with their index (SectionLaws).
 use mathlib.Core.Path.{_≡_, refl, sym, ap, _∙_}
 use mathlib.Core.Bool.{Bool, true, false, and-false}
 use mathlib.Core.List.{List, [], _∷_, _++_, append-nil, append-assoc}
@@ -18,7 +18,7 @@ use lib.ListN.{length, getD}
 use borrow.Author.Tests.{lt-ltb, le-ltb, le-leb, lt-leb, leb-true, ltb-true, ltb-false}
 use Rattle.characters.specs.Cases.{by-test, clash}
 use Rattle.characters.specs.Classes.{between}
-use Rattle.book.specs.Check.{Checked, refused, accepted, andThen, Reader, checked, row, total}
+use Rattle.book.specs.Check.{Checked, refused, accepted, andThen, Reader, checked, records, total}
 use Rattle.book.specs.Index.{readingOf, Valued, Small}
 use Rattle.book.specs.declared.parts.Part.{Part}
 
@@ -132,26 +132,27 @@ module _ {A : Type 0} (size : A → ℕ) (one : ℕ → Reader A) (book : List �
   after-one before x (refused number place) = refl
   after-one before x (accepted xs next) = ap (λ (l : List A). accepted l next) (sym (append-assoc before (x ∷ []) xs))
 
-  pub row-begins : (n sum place : ℕ) → after [] (row size one (n - 0) sum book place) ≡ row size one n sum book place
-  row-begins n sum place = rw sub-zero (after-nothing (row size one n sum book place))
+  pub records-begins : (n sum place : ℕ) →
+      after [] (records size one (n - 0) sum book place) ≡ records size one n sum book place
+  records-begins n sum place = rw sub-zero (after-nothing (records size one n sum book place))
 
   module _ (before : List A) (n i sum place : ℕ) where
-    pub row-refused : i < n → {number at : ℕ} → one sum book place ≡ refused number at →
-        after before (row size one (n - i) sum book place) ≡ refused number at
-    unfolding row
-    row-refused h e = let left : n - i ≡ suc (n - (i + 1)) = omega arith in rw left (rw e)
+    pub records-refused : i < n → {number at : ℕ} → one sum book place ≡ refused number at →
+        after before (records size one (n - i) sum book place) ≡ refused number at
+    unfolding records
+    records-refused h e = let left : n - i ≡ suc (n - (i + 1)) = omega arith in rw left (rw e)
 
-    pub row-on : i < n → {x : A} {next : ℕ} → one sum book place ≡ accepted x next →
-        after before (row size one (n - i) sum book place)
-        ≡ after (before ++ (x ∷ [])) (row size one (n - (i + 1)) (sum + size x) book next)
-    unfolding row
-    row-on h {x} {next} e =
+    pub records-on : i < n → {x : A} {next : ℕ} → one sum book place ≡ accepted x next →
+        after before (records size one (n - i) sum book place)
+        ≡ after (before ++ (x ∷ [])) (records size one (n - (i + 1)) (sum + size x) book next)
+    unfolding records
+    records-on h {x} {next} e =
         let left : n - i ≡ suc (n - (i + 1)) = omega arith in
-        rw left (rw e (after-one before x (row size one (n - (i + 1)) (sum + size x) book next)))
+        rw left (rw e (after-one before x (records size one (n - (i + 1)) (sum + size x) book next)))
 
-    pub row-ends : n ≤ i → after before (row size one (n - i) sum book place) ≡ accepted before place
-    unfolding row
-    row-ends h =
+    pub records-ends : n ≤ i → after before (records size one (n - i) sum book place) ≡ accepted before place
+    unfolding records
+    records-ends h =
         let none-left : n - i ≡ 0 = omega arith in
         rw none-left (ap (λ (l : List A). accepted l place) (append-nil before))
 

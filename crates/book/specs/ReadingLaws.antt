@@ -24,7 +24,7 @@ use Rattle.book.specs.Book.{Entry, markNumber, associativityNumber, nthE
 use Rattle.book.specs.Book.{reservedAs, isReserved, lookupFrom, lookupName}
 use Rattle.book.specs.Check.{markOf, associativityOf, stepOf}
 use Rattle.book.specs.Index.{upTo, countIn, placeIn, firstIn, entryFrom, nonterminalFrom, entriesIn, bookIn}
-use Rattle.book.specs.RowLaws.{upTo-more}
+use Rattle.book.specs.SectionLaws.{upTo-more}
 use Rattle.book.specs.declared.names.Found.{Found}
 use Rattle.book.specs.declared.records.Mark.{Mark}
 use Rattle.book.specs.declared.records.Associativity.{Associativity}

@@ -19,13 +19,13 @@ use borrow.Author.Tests.{eq-eqb, ne-eqb, eqb-true, eqb-false, leb-true, leb-fals
 use Rattle.characters.specs.Cases.{by-test}
 use Rattle.characters.specs.Classes.{between}
 use Rattle.book.specs.Book.{Entry, Book}
-use Rattle.book.specs.Check.{Checked, andThen, checked, row, section, placed, entry, nonterminal, variant, step}
-use Rattle.book.specs.Check.{total, variantsFit}
+use Rattle.book.specs.Check.{Checked, andThen, checked, records, section, placed, entry, nonterminal, variant}
+use Rattle.book.specs.Check.{step, total, variantsFit}
 use Rattle.book.specs.Index.{readingOf, Few, KeptOutside, Section, sizeOf, oneOf, recordsIn, countIn, placeIn}
 use Rattle.book.specs.Index.{firstIn, entriesIn, nonterminalsIn, placedIn, stepsIn, followed, HeadsRead}
 use Rattle.book.specs.Index.{SectionsRead}
 use Rattle.book.specs.ReaderLaws.{between-inside, between-under, between-over, no-value, value-of}
-use Rattle.book.specs.RowLaws.{upTo-same, not-few}
+use Rattle.book.specs.SectionLaws.{upTo-same, not-few}
 use Rattle.book.specs.ReadingLaws.{upTo-length}
 use Rattle.book.specs.declared.parts.Part.{Part}
 use Rattle.book.specs.declared.sections.Sort.{Sort}
@@ -203,7 +203,8 @@ retest sort fits wanted book at low high base f g part e h s =
     let same-count : checked fits 4 at book at ≡ checked wanted 4 at book at = rw e in
     record {
       reads =
-          ap (λ (c : Checked ℕ). andThen c (λ n next. row (sizeOf sort) (oneOf sort) n 0 book next)) (sym same-count)
+          ap (λ (c : Checked ℕ). andThen c (λ n next. records (sizeOf sort) (oneOf sort) n 0 book next))
+          (sym same-count)
           ∙ s .reads;
       valued = s .valued;
       few = few-more part (s .few);

@@ -28,6 +28,7 @@ use crate::limits::MOST_VARIANTS;
 use crate::limits::MOST_WORDS;
 use crate::limits::RESERVED;
 use crate::parts::Part;
+use crate::reading::NONTERMINAL_STEP;
 use crate::reading::step;
 use crate::reading::step_number;
 use crate::reading::variant;
@@ -159,7 +160,7 @@ fn passes(book: &[u8], index: &[usize], j: usize) -> bool
     let v = variant(book, index, j);
     if v.passing {
         if v.count == 1 {
-            return step_number(step(book, index, v.first)) == 8;
+            return step_number(step(book, index, v.first)) == NONTERMINAL_STEP;
         }
         return false;
     }

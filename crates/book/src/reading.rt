@@ -73,6 +73,9 @@ fn step_of(kind: u8, a: u32, b: u32, c: u32) -> Step
     }
 }
 
+// The kind of a passing variant's one step.
+pub const NONTERMINAL_STEP: usize = 8;
+
 // The kinds for which "the choices replace the step's unit".
 pub const MANY: usize = 10;
 
@@ -91,7 +94,7 @@ pub fn step_number(step: Step) -> usize
         Step::VariableOfKind(_) => 5,
         Step::RejectVariable => 6,
         Step::RejectReserved => 7,
-        Step::Nonterminal(_) => 8,
+        Step::Nonterminal(_) => NONTERMINAL_STEP,
         Step::Optional(_) => 9,
         Step::Many(_) => MANY,
         Step::CommaList(_) => COMMA_LIST,

@@ -8,7 +8,7 @@ ghost use Rattle.characters.specs.Slices.{atEntry, atExit};
 ghost use Rattle.characters.specs.Classes.{between};
 ghost use Rattle.book.specs.Numbers.{identifierMark, variantsEach, defaultLevel, both};
 ghost use Rattle.book.specs.Numbers.{largestByte};
-ghost use Rattle.book.specs.Index.{belowRange, allowed, One, Row, Section};
+ghost use Rattle.book.specs.Index.{belowRange, allowed, One, RecordsRead, Section};
 use crate::index::put;
 use crate::limits::BOTH;
 use crate::limits::DEFAULT_LEVEL;
@@ -203,9 +203,9 @@ fn one_record(book: &[u8], place: usize, sort: Sort) -> Part
     }
 }
 
-// `count` records in a row. The index gets the place of each, and the sum of the values of those before it; the value
-// is the sum of all.
-fn row(
+// `count` records one after another. The index gets the place of each, and the sum of the values of those before it;
+// the value is the sum of all.
+fn records(
     book: &[u8],
     place: usize,
     sort: Sort,
@@ -214,7 +214,7 @@ fn row(
     base: usize,
 ) -> Part
     requires { ⌜ (base + 1 + 2 * count ≤ length (now index)) × (count ≤ largestByte) ⌝ }
-    ensures { λ r. ⌜ Row sort (atEntry book) place count base (atEntry index) (atExit index) r ⌝ }
+    ensures { λ r. ⌜ RecordsRead sort (atEntry book) place count base (atEntry index) (atExit index) r ⌝ }
 {
     let mut i = 0;
     let mut at = place;
@@ -256,5 +256,5 @@ pub fn section(
         return count;
     };
     put(index, base, value);
-    row(book, next, sort, value, index, base)
+    records(book, next, sort, value, index, base)
 }

@@ -4,7 +4,7 @@ ghost use lib.ListN.{getD};
 ghost use Prim.Native.Nat.{_+_};
 ghost use Rattle.characters.specs.Slices.{atEntry};
 ghost use Rattle.characters.specs.Spelling.{partOf};
-ghost use Rattle.book.specs.Check.{checked, row};
+ghost use Rattle.book.specs.Check.{checked, records};
 ghost use Rattle.book.specs.Check.{shaped as isShaped, spelling as spellingAt};
 ghost use Rattle.book.specs.Index.{readingOf, Valued, One};
 ghost use Rattle.book.specs.Numbers.{badSpelling};
@@ -50,13 +50,13 @@ fn spelling_byte(book: &[u8], place: usize, i: usize, at: usize) -> Part
         };
     }
     Part::Read {
-        value: 1,
+        value: 0,
         next: place + 1,
     }
 }
 
 fn spelling_bytes(book: &[u8], place: usize, size: usize, at: usize) -> Part
-    ensures { λ r. ⌜ (row (λ b. 1) (λ i. checked (isShaped i) badSpelling at) size 0 (atEntry book) place ≡
+    ensures { λ r. ⌜ (records (λ b. 1) (λ i. checked (isShaped i) badSpelling at) size 0 (atEntry book) place ≡
         readingOf r (λ v. partOf (atEntry book) place size)) × Valued r 0 ⌝ }
 {
     let mut i = 0;

@@ -63,6 +63,9 @@ const RUN_SET: usize = STORED_SET + SET_SIZE;
 
 const ROW_SIZE: usize = RUN_SET + SET_SIZE;
 
+// the one scope of a run, in which every call is opened
+const BASE_SCOPE: u32 = 0;
+
 // What the governor of a use says: the minimum, or, for a child at the governor's own start, the governor's row.
 pub enum Governor {
     Minimum(usize),
@@ -183,14 +186,14 @@ fn add_run_to_set(rows: &mut [u32], row: usize) -> bool
 }
 
 // ---- Open calls
-// The call of a row is opened; the base has one scope, 0.
+// The call of a row is opened, in the one scope that there is.
 pub fn open_call(rows: &mut [u32], row: usize, nonterminal: u32, at: u32)
     requires { ⌜ InTable row rows ⌝ }
     ensures { λ _. ⌜ Changes rows row (model.opened nonterminal at) ⌝ }
 {
     put(rows, row, LIVE, 1);
     put(rows, row, NONTERMINAL, nonterminal);
-    put(rows, row, SCOPE, 0);
+    put(rows, row, SCOPE, BASE_SCOPE);
     put(rows, row, START, at);
     put(rows, row, ASKED, 0);
     clear_set(rows, row);
@@ -257,7 +260,7 @@ fn governs(rows: &[u32], row: usize, nonterminal: u32, at: u32) -> bool
     if get(rows, row, NONTERMINAL) != nonterminal {
         return false;
     }
-    if get(rows, row, SCOPE) != 0 {
+    if get(rows, row, SCOPE) != BASE_SCOPE {
         return false;
     }
     get(rows, row, CHILD) == at
@@ -379,7 +382,7 @@ fn claims(book: &[u8], index: &[usize], rows: &[u32], row: usize, at: u32) -> bo
     if get(rows, row, START) != at {
         return false;
     }
-    if get(rows, row, SCOPE) != 0 {
+    if get(rows, row, SCOPE) != BASE_SCOPE {
         return false;
     }
     is_variable(book, index, get(rows, row, NONTERMINAL) as usize)

@@ -10,7 +10,7 @@ use Prim.Native.Nat.{ℕ, zero, suc, _+_, _-_, _*_, _%_, _≤_, _<_}
 use lib.Dec.{eqb, ltb}
 use lib.ListN.{length, getD, set, take}
 use Rattle.characters.specs.Spelling.{partOf, same}
-use Rattle.semantics.specs.Numbers.{cellsSize, mostCells, tooManyCells, nameForm}
+use Rattle.semantics.specs.Numbers.{cellSize, cellsSize, mostCells, tooManyCells, nameForm}
 use Rattle.semantics.specs.Cells.{Cell, numbersOf, identityOf, cellsIn}
 use Rattle.semantics.specs.Run.{Result, met, ok, State, made, make}
 use Rattle.cells.specs.declared.numbers.CellNumbers.{CellNumbers}
@@ -60,9 +60,13 @@ abbrev pub hashOf : List ℕ → CellNumbers → ℕ
 hashOf text c = hashFrom 0 (identityIn text c)
 
 -- ---- The store
+-- "cell n at 3n - 3"
+abbrev pub placeOf : ℕ → ℕ
+placeOf n = n * cellSize - cellSize
+
 abbrev pub numbersAt : List ℕ → ℕ → CellNumbers
 numbersAt store n =
-    record { form = getD store (n * 3 - 3) 0; a = getD store (n * 3 - 3 + 1) 0; b = getD store (n * 3 - 3 + 2) 0 }
+    record { form = getD store (placeOf n) 0; a = getD store (placeOf n + 1) 0; b = getD store (placeOf n + 2) 0 }
 
 abbrev pub linkAt : List ℕ → ℕ → ℕ
 linkAt store n = getD store (links + n) 0
@@ -80,7 +84,7 @@ findIn text store c (suc k) n =
 unfoldable pub pushed : List ℕ → CellNumbers → ℕ → ℕ → List ℕ
 pushed store c n hash =
     set
-    (set (set (set (set store (n * 3 - 3) (c .form)) (n * 3 - 3 + 1) (c .a)) (n * 3 - 3 + 2) (c .b)) (links + n)
+    (set (set (set (set store (placeOf n) (c .form)) (placeOf n + 1) (c .a)) (placeOf n + 2) (c .b)) (links + n)
     (headAt store hash))
     (heads + hash)
     n
@@ -98,7 +102,7 @@ madeIn text store count c =
 -- ---- The store and the list of cells
 -- the first `count` cells of a store
 abbrev pub storedCells : List ℕ → ℕ → List Cell
-storedCells store count = cellsIn (take (3 * count) store)
+storedCells store count = cellsIn (take (cellSize * count) store)
 
 -- the links from one cell lead to another
 pub data Leads (store : List ℕ) : ℕ → ℕ → Type 0 where

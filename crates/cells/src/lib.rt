@@ -29,6 +29,7 @@ pub use numbers::name;
 pub use numbers::number;
 pub use numbers::variable;
 pub use numbers::variant;
+pub use store::CELL_SIZE;
 pub use store::CELLS_SIZE;
 pub use store::MOST_CELLS;
 pub use store::Made;

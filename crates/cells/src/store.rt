@@ -14,8 +14,10 @@ use crate::numbers::same_cell;
 // "a 4,097th cell" is a limit
 pub const MOST_CELLS: u32 = 4096;
 
-// three for each cell
-pub const CELLS_SIZE: usize = 12288;
+// "cells hold three numbers": form, a and b
+pub const CELL_SIZE: usize = 3;
+
+pub const CELLS_SIZE: usize = CELL_SIZE * MOST_CELLS as usize;
 
 // The link of cell n stands at LINKS + n; cells are numbered from 1.
 const LINKS: usize = CELLS_SIZE - 1;
@@ -52,7 +54,7 @@ fn cell_at(store: &[u32], n: u32) -> CellNumbers
     requires { ⌜ 0 < n ⌝ }
     ensures { λ r. ⌜ r ≡ numbersAt (atEntry store) n ⌝ }
 {
-    let at = n as usize * 3 - 3;
+    let at = n as usize * CELL_SIZE - CELL_SIZE;
     CellNumbers {
         form: get(store, at),
         a: get(store, at + 1),
@@ -84,7 +86,7 @@ fn push(store: &mut [u32], c: CellNumbers, n: u32, hash: usize)
     requires { ⌜ (0 < n) × (hash < hashes) ⌝ }
     ensures { λ _. ⌜ atExit store ≡ pushed (atEntry store) c n hash ⌝ }
 {
-    let at = n as usize * 3 - 3;
+    let at = n as usize * CELL_SIZE - CELL_SIZE;
     let older = get(store, HEADS + hash);
     put(store, at, c.form);
     put(store, at + 1, c.a);

@@ -33,11 +33,18 @@ pub fn identifier_at(text: &[u8], place: usize) -> Identifier
     Identifier::Nothing
 }
 
+// "at most 2^64 - 1"
+const LARGEST_NUMBER: u64 = 18446744073709551615;
+
 // What a digit counts; a byte below `0` counts nothing.
 fn digit_value(digit: u8) -> u64
     ensures { λ r. ⌜ r ≡ digit - 48 ⌝ }
 {
-    if 48 <= digit { (digit - 48) as u64 } else { 0 }
+    if b'0' <= digit {
+        (digit - b'0') as u64
+    } else {
+        0
+    }
 }
 
 // The number that digits spell, where their end is known. Once a value is too large, more digits only make it larger.
@@ -48,7 +55,7 @@ fn number_of(digits: &[u8], end: usize) -> Number
     let mut i = 0;
     while i < digits.len() {
         let digit = digit_value(digits[i]);
-        if (18446744073709551615 - digit) / 10 < value {
+        if (LARGEST_NUMBER - digit) / 10 < value {
             return Number::TooLarge;
         }
         value = value * 10 + digit;

@@ -61,7 +61,7 @@ pub fn span_end(text: &[u8], place: usize, span: Span) -> usize
 fn spaces_end(text: &[u8], place: usize) -> usize
     ensures { λ r. ⌜ r ≡ spanEnd Span.Spaces (atEntry text) place ⌝ }
 {
-    if 32 < byte_at(text, place) {
+    if b' ' < byte_at(text, place) {
         return place;
     }
     span_end(text, place, Span::Spaces)

@@ -10,7 +10,7 @@ use Rattle.book.specs.Book.{Entry}
 use Rattle.book.specs.Check.{checkBook, Outcome}
 use Rattle.book.specs.Index.{verdict}
 use Rattle.book.specs.declared.checking.Verdict.{Verdict}
-use Rattle.semantics.specs.Numbers.{mostCells, noParse, differentValues, notAccepted, isLimit}
+use Rattle.semantics.specs.Numbers.{cellSize, mostCells, noParse, differentValues, notAccepted, isLimit}
 use Rattle.semantics.specs.Answer.{Answer, answer, answerOf}
 use Rattle.run.specs.Promise.{Reads}
 use Rattle.run.specs.declared.reader.Answer as code
@@ -50,7 +50,7 @@ isRefusal n = notAccepted n || (isLimit n || between noParse differentValues n)
 
 -- "from cell 1", and "a 4,097th cell" is refused: a cell that a run can make and the list holds
 abbrev pub hasCell : List ℕ → ℕ → Bool
-hasCell cells n = between 1 mostCells n && leb (3 * n) (length cells)
+hasCell cells n = between 1 mostCells n && leb (cellSize * n) (length cells)
 
 abbrev pub isAccepted : Verdict → Bool
 isAccepted Verdict.Accepted = true

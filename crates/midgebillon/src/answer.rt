@@ -8,6 +8,7 @@ ghost use Rattle.run.specs.Promise.{answerIn};
 ghost use Rattle.midgebillon.specs.Library.{answerSize, answerAt, storing, hasCell};
 ghost use Rattle.midgebillon.specs.Library.{isRefusal, isAnswer, lengthOf};
 use book::Verdict;
+use cells::CELL_SIZE;
 use cells::MOST_CELLS;
 use printing::Length;
 use run::Answer;
@@ -64,7 +65,7 @@ fn has_cell(cells: &[u32], n: u32) -> bool
     ensures { λ r. ⌜ r ≡ hasCell (atEntry cells) n ⌝ }
 {
     if is_between(1, MOST_CELLS, n) {
-        return 3 * n as usize <= cells.len();
+        return CELL_SIZE * n as usize <= cells.len();
     }
     false
 }

@@ -69,7 +69,7 @@ pub extern "C" fn midgebillon_print<'a>(
     let mut index = [0usize; INDEX_SIZE];
     let verdict = check_into(book, &mut index);
     if is_answer(verdict, cells, a) {
-        return length_of(print(text, book, &index, cells, a, out));
+        return length_of(print(book, &index, text, cells, a, out));
     }
     0
 }

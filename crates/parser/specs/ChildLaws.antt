@@ -28,7 +28,7 @@ use Rattle.transitions.specs.declared.outcomes.State.{State}
 use Rattle.transitions.specs.declared.stages.Next.{Next}
 use Rattle.transitions.specs.declared.stages.Stage.{Stage}
 use Rattle.transitions.specs.Outcomes.{cellsOf, Held, given, goesOn, Ran, Runs, failureAt, withoutFailure}
-use Rattle.transitions.specs.Steps.{nextRows, descendsRows, resumes, StagedFrom, Joined}
+use Rattle.transitions.specs.Steps.{nextRows, descendsRows, resumes, StagedFrom, ParseEnded}
 use Rattle.transitions.specs.Entering.{innerRunner}
 use Rattle.parser.specs.Cycle.{followsRows}
 use Rattle.transitions.specs.OutcomeLaws.{given-ok}
@@ -132,7 +132,7 @@ module _ (book : Book) (text : List ℕ) (n c j : ℕ) (rest : List (Todo ℕ)) 
       (λ inner n c rest s. nextRows book text c j rest next items q s (stepsRows book text inner n)))
       (R : Runs text st1 (g .outcome .state .cells) st2 U a (λ cells.
       resumes book text (runnerRows book text (n - 1)) (n - 1) c j rest (g .doing) (g .place) (g .items)
-      (given (g .outcome) cells T))) (J : Joined i o a all) where
+      (given (g .outcome) cells T))) (J : ParseEnded i o a all) where
     kept-on : Held text st0 c0 → Held text st2 (all .state .cells)
     kept-on held = subst (λ k. Held text st2 k) (sym (J .cells)) (R (S (inv held .held) .held) .held)
 

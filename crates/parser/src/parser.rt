@@ -18,15 +18,15 @@ use transitions::Outcome;
 use transitions::Progress;
 use transitions::State;
 use transitions::TOO_DEEP;
+use transitions::after_parse;
 use transitions::after_variant;
 use transitions::begin_child;
 use transitions::begin_variant;
-use transitions::both;
+use transitions::both_sides;
 use transitions::done;
 use transitions::finish;
 use transitions::first_side;
 use transitions::goes_on;
-use transitions::joined;
 use transitions::next_of;
 use transitions::take_step;
 use transitions::without_failure;
@@ -47,13 +47,13 @@ fn variant(
     requires { ⌜ CanTry book index text rows row before ⌝ }
     ensures { λ r. ⌜ Does book index text store rows (before .state) r (tries row minimum j before) ⌝ }
 {
-    let w = book::variant(book, index, j as usize);
-    if w.level < minimum {
+    let variant = book::variant(book, index, j as usize);
+    if variant.level < minimum {
         return before;
     }
     let b = begin_variant(book, index, text, store, rows, row, j, before.state);
-    let first = w.first as u32;
-    let count = w.count as u32;
+    let first = variant.first as u32;
+    let count = variant.count as u32;
     let here = Progress {
         call: row,
         variant: j,
@@ -178,7 +178,7 @@ fn follow(
             doing,
             g.outcome,
         );
-        all = joined(i, all, o);
+        all = after_parse(i, all, o);
         if all.limit != 0 {
             return all;
         }
@@ -239,7 +239,7 @@ fn choice(
         nonterminal,
         a.state,
     );
-    both(text, rows, here, a, b)
+    both_sides(text, rows, here, a, b)
 }
 
 // Goes on from where a path is: first what comes next, then the steps that remain, up to a child or to the variant's

@@ -15,7 +15,7 @@ use Rattle.printing.specs.declared.line.Length.{Length}
 
 -- the line, by the code's parameters
 abbrev pub lineIn : Lent → Lent → Lent → Lent → Answer → List ℕ
-lineIn text book index cells a = lineBytes (namesIn book index) (atEntry text) (atEntry cells) (answerIn a)
+lineIn book index text cells a = lineBytes (namesIn book index) (atEntry text) (atEntry cells) (answerIn a)
 
 abbrev pub lengthWithin : ℕ → List ℕ → Length
 lengthWithin limit line = cond (leb (length line) limit) (Length.Bytes (length line)) Length.Longer

@@ -4,6 +4,7 @@ ghost use Rattle.characters.specs.Slices.{atEntry};
 ghost use Rattle.semantics.specs.Cells.{cellOf};
 ghost use Rattle.printing.specs.Cells.{namesIn, CellRead, olderThan, spellingOf};
 use book::name;
+use cells::CELL_SIZE;
 use cells::CellNumbers;
 use cells::NAME_FORM;
 use cells::VARIABLE_FORM;
@@ -17,8 +18,8 @@ pub fn cell_at(cells: &[u32], n: u32) -> CellNumbers
     if n == 0 {
         return absent();
     }
-    let at = n as usize * 3 - 3;
-    if cells.len() < at + 3 {
+    let at = n as usize * CELL_SIZE - CELL_SIZE;
+    if cells.len() < at + CELL_SIZE {
         return absent();
     }
     CellNumbers {
@@ -36,7 +37,7 @@ pub fn older(n: u32, cell: u32) -> u32
 }
 
 // The part of the text, or of the book, that a name or a variable is spelled by; of any other cell, nothing.
-pub fn spelling<'a>(text: &'a [u8], book: &'a [u8], index: &[usize], cell: CellNumbers) -> &'a [u8]
+pub fn spelling<'a>(book: &'a [u8], index: &[usize], text: &'a [u8], cell: CellNumbers) -> &'a [u8]
     ensures { λ r. ⌜ now r ≡ spellingOf (namesIn book index) (atEntry text)
         (cellOf (cell .form) (cell .a) (cell .b)) ⌝ }
 {

@@ -57,11 +57,14 @@ pub fn bytes(out: &mut [u8], at: Laid, bytes: &[u8]) -> Laid
     next
 }
 
+// the digit 0
+const ZERO: u64 = 48;
+
 // A number, in decimal.
 pub fn number(out: &mut [u8], at: Laid, n: u64) -> Laid
     ensures { λ r. ⌜ Lays at out (decimal n) r ⌝ }
 {
-    let last = (48 + n % 10) as u8;
+    let last = (ZERO + n % 10) as u8;
     if n < 10 {
         return byte(out, at, last);
     }

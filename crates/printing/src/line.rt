@@ -90,43 +90,43 @@ fn refused(text: &[u8], answer: Answer, out: &mut [u8], at: Laid) -> Laid
 
 // The line.
 fn line<'a>(
-    text: &'a [u8],
     book: &'a [u8],
     index: &[usize],
+    text: &'a [u8],
     cells: &[u32],
     answer: Answer,
     out: &mut [u8],
     at: Laid,
 ) -> Laid
-    ensures { λ r. ⌜ Lays at out (lineIn text book index cells answer) r ⌝ }
+    ensures { λ r. ⌜ Lays at out (lineIn book index text cells answer) r ⌝ }
 {
     if answer.refusal != 0 {
         return refused(text, answer, out, at);
     }
     let begun = bytes(out, at, b"value ");
     let numbers = cell_numbers(cells);
-    let value = item(text, book, index, numbers, out, begun, answer.value);
+    let value = item(book, index, text, numbers, out, begun, answer.value);
     byte(out, value, b'\n')
 }
 
 // How long the line is, if it has at most `limit` bytes. These are skipped, so that a byte which is stored is past
 // them.
 pub fn line_length<'a>(
-    text: &'a [u8],
     book: &'a [u8],
     index: &[usize],
+    text: &'a [u8],
     cells: &[u32],
     answer: Answer,
     limit: usize,
 ) -> Length
-    ensures { λ r. ⌜ r ≡ lengthWithin limit (lineIn text book index cells answer) ⌝ }
+    ensures { λ r. ⌜ r ≡ lengthWithin limit (lineIn book index text cells answer) ⌝ }
 {
     let start = Laid {
         skip: limit,
         size: 0,
     };
     let mut past = [0u8; 1];
-    let end = line(text, book, index, cells, answer, &mut past, start);
+    let end = line(book, index, text, cells, answer, &mut past, start);
     if end.size == 0 {
         Length::Bytes(limit - end.skip)
     } else {
@@ -137,39 +137,39 @@ pub fn line_length<'a>(
 // The part of the line from byte number `from` on, as much of it as there is and `out` holds; and how many bytes that
 // is.
 pub fn print_part<'a>(
-    text: &'a [u8],
     book: &'a [u8],
     index: &[usize],
+    text: &'a [u8],
     cells: &[u32],
     answer: Answer,
     from: usize,
     out: &mut [u8],
 ) -> usize
-    ensures { λ r. ⌜ Window from (lineIn text book index cells answer) (atEntry out) (atExit out) r ⌝ }
+    ensures { λ r. ⌜ Window from (lineIn book index text cells answer) (atEntry out) (atExit out) r ⌝ }
 {
     let start = Laid {
         skip: from,
         size: 0,
     };
-    let end = line(text, book, index, cells, answer, out, start);
+    let end = line(book, index, text, cells, answer, out, start);
     end.size
 }
 
 // The line, if `out` has room for all of it; else `out` stays as it is.
 pub fn print<'a>(
-    text: &'a [u8],
     book: &'a [u8],
     index: &[usize],
+    text: &'a [u8],
     cells: &[u32],
     answer: Answer,
     out: &mut [u8],
 ) -> Length
-    ensures { λ r. ⌜ Prints (lineIn text book index cells answer) (atEntry out) (atExit out) r ⌝ }
+    ensures { λ r. ⌜ Prints (lineIn book index text cells answer) (atEntry out) (atExit out) r ⌝ }
 {
     let size = out.len();
-    let length = line_length(text, book, index, cells, answer, size);
+    let length = line_length(book, index, text, cells, answer, size);
     if let Length::Bytes(_) = length {
-        print_part(text, book, index, cells, answer, 0, out);
+        print_part(book, index, text, cells, answer, 0, out);
     }
     length
 }

@@ -23,9 +23,9 @@ use cells::VARIANT_FORM;
 
 // An item that has no items itself: a name, a number, a variable, or absent.
 fn plain<'a>(
-    text: &'a [u8],
     book: &'a [u8],
     index: &[usize],
+    text: &'a [u8],
     out: &mut [u8],
     at: Laid,
     cell: CellNumbers,
@@ -37,11 +37,11 @@ fn plain<'a>(
         return number(out, at, cell.a as u64 * HALF + cell.b as u64);
     }
     if cell.form == NAME_FORM {
-        return bytes(out, at, spelling(text, book, index, cell));
+        return bytes(out, at, spelling(book, index, text, cell));
     }
     if cell.form == VARIABLE_FORM {
         let next = byte(out, at, b'$');
-        return bytes(out, next, spelling(text, book, index, cell));
+        return bytes(out, next, spelling(book, index, text, cell));
     }
     byte(out, at, b'-')
 }
@@ -61,9 +61,9 @@ fn gap(cells: &[u32], out: &mut [u8], at: Laid, in_list: bool, chain: u32) -> La
 
 // The value of cell n.
 pub fn item<'a>(
-    text: &'a [u8],
     book: &'a [u8],
     index: &[usize],
+    text: &'a [u8],
     cells: &[u32],
     out: &mut [u8],
     at: Laid,
@@ -80,23 +80,23 @@ pub fn item<'a>(
         let opened = byte(out, at, b'(');
         let numbered = number(out, opened, cell.a as u64);
         let chain = older(n, cell.b);
-        let filled = items(text, book, index, cells, out, numbered, chain, false);
+        let filled = items(book, index, text, cells, out, numbered, chain, false);
         return byte(out, filled, b')');
     }
     if cell.form == LIST_FORM {
         let opened = byte(out, at, b'[');
         let chain = older(n, cell.a);
-        let filled = items(text, book, index, cells, out, opened, chain, true);
+        let filled = items(book, index, text, cells, out, opened, chain, true);
         return byte(out, filled, b']');
     }
-    plain(text, book, index, out, at, cell)
+    plain(book, index, text, out, at, cell)
 }
 
 // The items of chain n, the oldest first.
 fn items<'a>(
-    text: &'a [u8],
     book: &'a [u8],
     index: &[usize],
+    text: &'a [u8],
     cells: &[u32],
     out: &mut [u8],
     at: Laid,
@@ -114,8 +114,8 @@ fn items<'a>(
         return at;
     }
     let chain = older(n, cell.a);
-    let filled = items(text, book, index, cells, out, at, chain, in_list);
+    let filled = items(book, index, text, cells, out, at, chain, in_list);
     let next = gap(cells, out, filled, in_list, chain);
     let last = older(n, cell.b);
-    item(text, book, index, cells, out, next, last)
+    item(book, index, text, cells, out, next, last)
 }

@@ -28,7 +28,7 @@ fn write_line<'a>(
 ) {
     let mut from = 0;
     loop {
-        let size = print_part(text, book, index, cells, answer, from, out);
+        let size = print_part(book, index, text, cells, answer, from, out);
         if size == 0 {
             return;
         }

@@ -4,12 +4,14 @@ ghost use mathlib.Core.List.{[]};
 ghost use Prim.Native.Nat.{_*_, _≤_};
 ghost use lib.ListN.{length, take};
 ghost use Rattle.characters.specs.Slices.{atEntry};
-ghost use Rattle.semantics.specs.Numbers.{cellsSize, parsesSize};
+ghost use Rattle.semantics.specs.Numbers.{cellSize, cellsSize, parsesSize};
 ghost use Rattle.run.specs.Reading.{LongLists, HasParses, CanFill, Writes, WritesParses};
 use calls::MOST_NESTING;
 use calls::nth_parse;
 use calls::parse_count;
+use cells::CELL_SIZE;
 use cells::CELLS_SIZE;
+use sets::PARSE_SIZE;
 use sets::PARSES_SIZE;
 use sets::put_parse;
 
@@ -47,7 +49,7 @@ fn write_parses(parses: &mut [u32], rows: &[u32])
     let count = parse_count(rows, MOST_NESTING);
     let mut i = 0;
     while i < count {
-        put_parse(parses, 4 * i, nth_parse(rows, MOST_NESTING, i));
+        put_parse(parses, PARSE_SIZE * i, nth_parse(rows, MOST_NESTING, i));
         i += 1;
     }
 }
@@ -64,8 +66,8 @@ pub fn clear_lists(cells: &mut [u32], parses: &mut [u32])
 // The cells of the store, and what the outermost row found.
 pub fn fill_lists(cells: &mut [u32], parses: &mut [u32], store: &[u32], rows: &[u32], count: u32)
     requires { ⌜ CanFill cells parses store rows count ⌝ }
-    ensures { λ _. ⌜ Writes cells cellsSize (take (3 * count) (atEntry store)) × WritesParses parses rows ⌝ }
+    ensures { λ _. ⌜ Writes cells cellsSize (take (cellSize * count) (atEntry store)) × WritesParses parses rows ⌝ }
 {
-    write(cells, CELLS_SIZE, store, 3 * count as usize);
+    write(cells, CELLS_SIZE, store, CELL_SIZE * count as usize);
     write_parses(parses, rows);
 }

@@ -64,7 +64,7 @@ fn same_line<'a>(
     check_into(book, &mut index);
     let mut space = [0u8; LINE_ROOM];
     let out: &mut [u8] = &mut space;
-    match print(text, book, &index, cells, answer, out) {
+    match print(book, &index, text, cells, answer, out) {
         Length::Bytes(size) => same_bytes(part(out, 0, size), line),
         Length::Longer => false,
     }

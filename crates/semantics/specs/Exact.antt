@@ -12,7 +12,7 @@ use Rattle.book.specs.Book.{Book, associativityNumber}
 use Rattle.book.specs.Check.{checkBook, Outcome}
 use Rattle.semantics.specs.Numbers.{mostCells, half, noParse, noneWhole, differentValues, notAccepted, isLimit}
 use Rattle.semantics.specs.Numbers.{emptyForm, chainForm, variantForm, nameForm, numberForm, variableForm}
-use Rattle.semantics.specs.Numbers.{absentForm, listForm}
+use Rattle.semantics.specs.Numbers.{absentForm, listForm, cellSize, parseSize}
 use Rattle.semantics.specs.Values.{Tree, Trees, no-trees, _▸_, Parse, whole}
 use Rattle.semantics.specs.Derivations.{DerivesText}
 use Rattle.semantics.specs.Answer.{Answered, answerOf}
@@ -22,7 +22,7 @@ use Rattle.semantics.specs.Answer.{Answered, answerOf}
 pub record CellAt (cells : List ℕ) (n : ℕ) (numbers : List ℕ) : Type 0 where
   pub least : 0 < n
   pub most : n ≤ mostCells
-  pub are : take 3 (drop (3 * n - 3) cells) ≡ numbers
+  pub are : take cellSize (drop (cellSize * n - cellSize) cells) ≡ numbers
 
 -- The numbers alone say what a cell stands for. A cell refers to cells before it, each of the kind that is due, and
 -- there are no other forms than these
@@ -58,10 +58,10 @@ module _ (text cells : List ℕ) where
 -- ---- Entries and derivations
 -- entry i of the parses list holds a parse: "rest, level, associativity, cell"
 pub record ListEntry (text : List ℕ) (a : Answered) (i : ℕ) (p : Parse Tree) : Type 0 where
-  pub rest : getD (a .parses) (4 * i) 0 ≡ p .rest
-  pub level : getD (a .parses) (4 * i + 1) 0 ≡ p .level
-  pub associativity : getD (a .parses) (4 * i + 2) 0 ≡ associativityNumber (p .associativity)
-  pub value : StandsFor text (a .cells) (getD (a .parses) (4 * i + 3) 0) (p .value)
+  pub rest : getD (a .parses) (parseSize * i) 0 ≡ p .rest
+  pub level : getD (a .parses) (parseSize * i + 1) 0 ≡ p .level
+  pub associativity : getD (a .parses) (parseSize * i + 2) 0 ≡ associativityNumber (p .associativity)
+  pub value : StandsFor text (a .cells) (getD (a .parses) (parseSize * i + 3) 0) (p .value)
 
 -- "its derivation reaches the end"
 pub record ReachesEnd (book : Book) (text : List ℕ) (start : ℕ) (p : Parse Tree) : Type 0 where

@@ -4,14 +4,14 @@ use mathlib.Core.List.{List, [], _∷_, _++_}
 use Prim.Native.Nat.{ℕ, _*_}
 use lib.Dec.{eqb}
 use lib.ListN.{getD, take, replicate}
-use Rattle.semantics.specs.Numbers.{cellsSize, parsesSize, mostUnits}
+use Rattle.semantics.specs.Numbers.{cellSize, cellsSize, parsesSize, mostUnits}
 use Rattle.semantics.specs.Values.{Tree, no-trees, _▸_}
 use Rattle.characters.specs.Classes.{classOf}
 use Rattle.characters.specs.Skipping.{leading, spanEnd, commentAt, commentEnd, roundEnd, skipRounds, skipFrom}
 use Rattle.characters.specs.Lexemes.{identifierAt, decimal, numberOf, numberAt}
 use Rattle.characters.specs.Spelling.{same}
 use Rattle.book.specs.Book.{isReserved, lookupFrom}
-use Rattle.book.specs.Check.{checked, row, spelling, entry, nonterminal, variant, stepOf, step, allPass, ended}
+use Rattle.book.specs.Check.{checked, records, spelling, entry, nonterminal, variant, stepOf, step, allPass, ended}
 use Rattle.book.specs.Check.{entireBook}
 use Rattle.book.specs.Check.{checkBook}
 use Rattle.semantics.specs.Uses.{outwards, govern, governor}
@@ -47,7 +47,7 @@ abbrev pub rowOf : List ℕ → Answered → Row
 rowOf text r =
     let a = r .answer in
     when (eqb (a .refusal) 0)
-    (λ _. value (treeAt text (cellsIn (take (3 * a .value) (r .cells))) (a .value)) (a .parses))
+    (λ _. value (treeAt text (cellsIn (take (cellSize * a .value) (r .cells))) (a .value)) (a .parses))
     (λ _. refused (a .refusal) (a .place) (a .kind) (a .argument))
 
 -- a call from nonterminal 0, with lists of zeros, as short as they may be
@@ -76,7 +76,7 @@ times a b = Tree.variant 2 (no-trees ▸ a ▸ b)
 -- what the rows compute with: every definition that is shut
 computing : Unit {0}
 unfolding classOf leading spanEnd commentAt commentEnd roundEnd skipRounds skipFrom identifierAt decimal numberOf
-    numberAt same isReserved lookupFrom checked row spelling entry nonterminal variant stepOf step allPass ended
+    numberAt same isReserved lookupFrom checked records spelling entry nonterminal variant stepOf step allPass ended
     entireBook checkBook outwards govern governor isSome characterEnd identifierEnd reservedAt freeEnd variableAt stepAt
     hasClaimant afterElement closed numbersOf cellsIn identityOf findCell treeIn treesIn meaningOf meanings join
     beyond joinWith choiceError identifierError stepError _>>=_ sameParse has allIn kept add addAll ask newest others

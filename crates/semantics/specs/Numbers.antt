@@ -10,9 +10,17 @@ use Rattle.book.specs.Numbers.{shortLists}
 abbrev pub cellsSize : ℕ
 cellsSize = 12288
 
+-- "three numbers (cell n at 3n - 3, ..)"
+abbrev pub cellSize : ℕ
+cellSize = 3
+
 -- "or parses under 256"; "256 of parses"
 abbrev pub parsesSize : ℕ
 parsesSize = 256
+
+-- "Parses hold rest, level, associativity, cell"
+abbrev pub parseSize : ℕ
+parseSize = 4
 
 -- "allowance 0 or above 1,000,000"
 abbrev pub mostUnits : ℕ

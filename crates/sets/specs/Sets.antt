@@ -12,7 +12,7 @@ use Rattle.characters.specs.Slices.{Slice}
 use Rattle.book.specs.Book.{associativityNumber}
 use Rattle.book.specs.Check.{associativityOf}
 use Rattle.book.specs.declared.records.Associativity.{Associativity}
-use Rattle.semantics.specs.Numbers.{mostParses, tooManyParses}
+use Rattle.semantics.specs.Numbers.{parseSize, mostParses, tooManyParses}
 use Rattle.semantics.specs.Values.{Parse}
 use Rattle.semantics.specs.Uses.{Use}
 use Rattle.semantics.specs.Run.{Result, met, ok, State, add, addAll, kept}
@@ -28,7 +28,7 @@ parseOf p = parse (p .rest) (p .level) (p .associativity) (p .value)
 
 -- the numbers of a set: its count, and four for each parse
 abbrev pub setSize : ℕ
-setSize = 1 + 4 * mostParses
+setSize = 1 + parseSize * mostParses
 
 -- ---- What a list of numbers says: every list gives a set
 abbrev pub parseAt : List ℕ → ℕ → Parse ℕ

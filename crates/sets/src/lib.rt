@@ -18,6 +18,7 @@ ghost use lib.ListN.{getD, length};
 ghost use Rattle.characters.specs.Slices.{atEntry, atExit};
 ghost use Rattle.book.specs.Book.{associativityNumber};
 ghost use Rattle.book.specs.Check.{associativityOf};
+ghost use Rattle.semantics.specs.Numbers.{parseSize};
 ghost use Rattle.semantics.specs.Values.{absentParse};
 ghost use Rattle.semantics.specs.Uses.{keepsLevel};
 ghost use Rattle.semantics.specs.Run as run;
@@ -36,8 +37,10 @@ pub struct Parse {
 // "a 65th different parse in any set" is a limit.
 pub const MOST_PARSES: usize = 64;
 
-// four for each parse
-pub const PARSES_SIZE: usize = 4 * MOST_PARSES;
+// rest, level, associativity and cell
+pub const PARSE_SIZE: usize = 4;
+
+pub const PARSES_SIZE: usize = PARSE_SIZE * MOST_PARSES;
 
 // a count and the parses
 pub const SET_SIZE: usize = 1 + PARSES_SIZE;
@@ -85,7 +88,7 @@ fn same_parse(p: Parse, q: Parse) -> bool
 }
 
 fn parse_at(numbers: &[u32], at: usize) -> Parse
-    requires { ⌜ at + 4 ≤ length (now numbers) ⌝ }
+    requires { ⌜ at + parseSize ≤ length (now numbers) ⌝ }
     ensures { λ r. ⌜ parseOf r ≡ parseAt (atEntry numbers) at ⌝ }
 {
     Parse {
@@ -98,7 +101,7 @@ fn parse_at(numbers: &[u32], at: usize) -> Parse
 
 // "Parses hold rest, level, associativity, cell"
 pub fn put_parse(numbers: &mut [u32], at: usize, p: Parse)
-    requires { ⌜ at + 4 ≤ length (now numbers) ⌝ }
+    requires { ⌜ at + parseSize ≤ length (now numbers) ⌝ }
     ensures { λ _. ⌜ atExit numbers ≡ putParse (atEntry numbers) at (parseOf p) ⌝ }
 {
     let associativity = p.associativity;
@@ -127,7 +130,7 @@ pub fn nth_parse(numbers: &[u32], place: usize, i: usize) -> Parse
     ensures { λ r. ⌜ parseOf r ≡ getD (setAt (atEntry numbers) place) i absentParse ⌝ }
 {
     if i < size(numbers, place) {
-        return parse_at(numbers, place + 1 + 4 * i);
+        return parse_at(numbers, place + 1 + PARSE_SIZE * i);
     }
     Parse {
         rest: 0,
@@ -154,7 +157,7 @@ fn has(numbers: &[u32], place: usize, p: Parse) -> bool
         if same_parse(p, parse_at(numbers, at)) {
             return true;
         }
-        at += 4;
+        at += PARSE_SIZE;
         left -= 1;
     }
     false
@@ -167,7 +170,7 @@ pub fn append(numbers: &mut [u32], place: usize, p: Parse) -> bool
 {
     let parses = size(numbers, place);
     if parses < MOST_PARSES {
-        put_parse(numbers, place + 1 + 4 * parses, p);
+        put_parse(numbers, place + 1 + PARSE_SIZE * parses, p);
         numbers[place] = parses as u32 + 1;
         true
     } else {
@@ -198,7 +201,7 @@ pub fn all_in(numbers: &[u32], into: usize, from: usize) -> bool
         if !has(numbers, into, parse_at(numbers, at)) {
             return false;
         }
-        at += 4;
+        at += PARSE_SIZE;
         left -= 1;
     }
     true
@@ -216,7 +219,7 @@ pub fn add_all(numbers: &mut [u32], into: usize, from: usize) -> bool
         if !add(numbers, into, p) {
             return false;
         }
-        at += 4;
+        at += PARSE_SIZE;
         left -= 1;
     }
     true
@@ -227,7 +230,7 @@ pub fn copy(numbers: &mut [u32], into: usize, from: usize)
     requires { ⌜ HasSet into numbers × HasSet from numbers × Apart into from ⌝ }
     ensures { λ _. ⌜ Becomes (atEntry numbers) (atExit numbers) into (setAt (atEntry numbers) from) ⌝ }
 {
-    let most = 1 + 4 * size(numbers, from);
+    let most = 1 + PARSE_SIZE * size(numbers, from);
     let mut i = 0;
     while i < most {
         numbers[into + i] = numbers[from + i];
@@ -276,7 +279,7 @@ pub fn put_kept(
     while 0 < left {
         let p = parse_at(numbers, at);
         keep(numbers, into, associativity, level, p);
-        at += 4;
+        at += PARSE_SIZE;
         left -= 1;
     }
 }

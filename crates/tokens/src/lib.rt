@@ -23,5 +23,5 @@ pub use steps::step_error;
 pub use tokens::End;
 pub use tokens::Variable;
 pub use tokens::free_end;
-pub use tokens::length;
+pub use tokens::span_length;
 pub use tokens::variable_at;

@@ -18,8 +18,8 @@ use crate::tokens::Variable;
 use crate::tokens::character_end;
 use crate::tokens::free_end;
 use crate::tokens::identifier_end;
-use crate::tokens::length;
 use crate::tokens::reserved_at;
+use crate::tokens::span_length;
 use crate::tokens::variable_at;
 use book::Step;
 use book::word;
@@ -111,7 +111,7 @@ fn word_at(book: &[u8], index: &[usize], text: &[u8], a: u32, x: usize) -> Taken
     let End::At(end) = identifier_end(text, at) else {
         return Taken::Nothing;
     };
-    let spelled = part(text, at, length(at, end));
+    let spelled = part(text, at, span_length(at, end));
     if same_bytes(spelled, word(book, index, a as usize)) {
         bare(end)
     } else {
@@ -130,7 +130,7 @@ fn identifier(book: &[u8], index: &[usize], text: &[u8], x: usize) -> Taken
         next: end,
         item: Item::Name {
             place: at,
-            size: length(at, end),
+            size: span_length(at, end),
         },
     }
 }
@@ -276,14 +276,16 @@ pub fn step_at(book: &[u8], index: &[usize], text: &[u8], step: Step, x: usize) 
 }
 
 // ---- Lists
-// 44 is the comma. One that is there is taken; one looked for in vain still leaves the place skipped.
+const COMMA: u32 = 44;
+
+// A comma that is there is taken; one looked for in vain still leaves the place skipped.
 pub fn after_element(text: &[u8], comma: bool, place: usize) -> After
     ensures { λ r. ⌜ afterOf r ≡ afterElement (atEntry text) comma place ⌝ }
 {
     if !comma {
         return After::Goes(place);
     }
-    let End::At(end) = character_end(text, 44, place) else {
+    let End::At(end) = character_end(text, COMMA, place) else {
         return After::Halts(skip(text, place));
     };
     After::Goes(end)

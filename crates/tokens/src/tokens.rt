@@ -52,7 +52,7 @@ pub fn identifier_end(text: &[u8], at: usize) -> End
 }
 
 // How much stands between two places.
-pub fn length(at: usize, end: usize) -> usize
+pub fn span_length(at: usize, end: usize) -> usize
     ensures { λ r. ⌜ r ≡ end - at ⌝ }
 {
     if at <= end { end - at } else { 0 }
@@ -64,7 +64,7 @@ pub fn reserved_at(book: &[u8], index: &[usize], text: &[u8], at: usize) -> bool
     let End::At(end) = identifier_end(text, at) else {
         return false;
     };
-    is_reserved(book, index, text, at, length(at, end))
+    is_reserved(book, index, text, at, span_length(at, end))
 }
 
 // The end of an identifier that is not reserved.
@@ -84,7 +84,7 @@ pub fn variable_at(book: &[u8], index: &[usize], text: &[u8], at: usize) -> Vari
     let End::At(end) = free_end(book, index, text, at) else {
         return Variable::Nothing;
     };
-    match lookup(book, index, text, at, length(at, end)) {
+    match lookup(book, index, text, at, span_length(at, end)) {
         Found::Name { number, kind } => Variable::Named { end, number, kind },
         Found::Nothing => Variable::Nothing,
     }

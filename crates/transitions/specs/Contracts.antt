@@ -3,8 +3,8 @@
 -- of document 01.
 --
 -- What is asked: Short, Fitting, Ready. What is promised: MakesCell of a cell, Does of a part of the run, Continues of
--- one that goes on from an outcome, Stages, StagesAll and Reaches of a part that calls nothing. Then the parts of the
--- model, from where a path is.
+-- one that goes on from an outcome, BeginsUse and Opens of a use, Begins of a variant, Stages, StagesAll and Reaches of
+-- a part that calls nothing. Then the parts of the model, from where a path is.
 use mathlib.Core.Bool.{Bool}
 use mathlib.Core.List.{List, _∷_}
 use mathlib.Core.Option.{Option}
@@ -26,6 +26,7 @@ use Rattle.tokens.specs.Maps.{closingIn}
 use Rattle.tokens.specs.declared.steps.Closing.{Closing}
 use Rattle.transitions.specs.declared.outcomes.Outcome as code
 use Rattle.transitions.specs.declared.outcomes.State.{State}
+use Rattle.transitions.specs.declared.entering.Entered.{Entered}
 use Rattle.transitions.specs.declared.items.CellOutcome.{CellOutcome}
 use Rattle.transitions.specs.declared.stages.Progress.{Progress}
 use Rattle.transitions.specs.declared.stages.Next.{Next}
@@ -33,6 +34,7 @@ use Rattle.transitions.specs.declared.stages.Reached.{Reached}
 use Rattle.transitions.specs.declared.stages.Stage.{Stage}
 use Rattle.transitions.specs.Outcomes.{Runs, MadeBy, given}
 use Rattle.transitions.specs.Fit.{Fit}
+use Rattle.transitions.specs.Entering as entering
 use Rattle.transitions.specs.Steps as steps
 use Rattle.transitions.specs.Steps.{ModelPart, nextRows, firstSideRows, unopenedRows, tokenRows}
 
@@ -73,6 +75,23 @@ abbrev pub Continues :
 Continues book index text store rows before r part =
     Runs (atEntry text) (atEntry store) (before .state .cells) (atExit store) (tableAfter rows) r
     (λ cells. part (bookAt book index) (atEntry text) (given before cells (tableAt rows)))
+
+-- a use of a nonterminal, up to its runs; and after the unit and the governor
+abbrev pub BeginsUse : Lent → Lent → Lent → Lent → Lent → ℕ → ℕ → ℕ → State → Entered → Type 0
+BeginsUse book index text store rows row N u s e =
+    entering.BeginsUse (bookAt book index) (atEntry text) (atEntry store) (atExit store) (tableAt rows)
+    (tableAfter rows) row N u s e
+
+abbrev pub Opens : Lent → Lent → Lent → Lent → Lent → ℕ → ℕ → ℕ → ℕ → State → Entered → Type 0
+Opens book index text store rows row N u minimum s e =
+    entering.Opens (bookAt book index) (atEntry text) (atEntry store) (atExit store) (tableAt rows) (tableAfter rows)
+    row N u minimum s e
+
+-- a variant of a row's call begins
+abbrev pub Begins : Lent → Lent → Lent → Lent → Lent → ℕ → ℕ → State → Reached → Type 0
+Begins book index text store rows row j s r =
+    entering.Begins (bookAt book index) (atEntry text) (atEntry store) (atExit store) (tableAt rows)
+    (tableAfter rows) row j s r
 
 -- a part that calls nothing, and what the path does next
 abbrev pub Stages : Lent → Lent → Lent → Lent → Progress → State → Stage → (Book → List ℕ → ModelPart) → Type 0

@@ -16,7 +16,7 @@ use lib.ListN.{length, getD}
 use borrow.Author.Tests.{eqb-true, ltb-true}
 use Rattle.characters.specs.Classes.{between}
 use Rattle.book.specs.Book.{Entry, Book}
-use Rattle.book.specs.Check.{Checked, refused, accepted, andThen, Reader, row, placed, entry, nonterminal, variant}
+use Rattle.book.specs.Check.{Checked, refused, accepted, andThen, Reader, records, placed, entry, nonterminal, variant}
 use Rattle.book.specs.Check.{spelling, total, allPass, ended, entireBook, Outcome, outcome, checkBook}
 use Rattle.book.specs.ReaderLaws.{between-high}
 use Rattle.book.specs.declared.records.Associativity.{Associativity}
@@ -27,21 +27,21 @@ use Rattle.transitions.specs.Fit.{Fits, Fit}
 
 -- ---- Rows
 module _ {A : Type 0} (size : A → ℕ) (one : ℕ → Reader A) (bytes : List ℕ) where
-  row-length : (n sum place : ℕ) (xs : List A) (end : ℕ) →
-      row size one n sum bytes place ≡ accepted xs end → length xs ≡ n
-  unfolding row
-  row-length zero sum place xs end e = sym (ap length (accepted-inj e))
-  row-length (suc n) sum place xs end e =
+  records-length : (n sum place : ℕ) (xs : List A) (end : ℕ) →
+      records size one n sum bytes place ≡ accepted xs end → length xs ≡ n
+  unfolding records
+  records-length zero sum place xs end e = sym (ap length (accepted-inj e))
+  records-length (suc n) sum place xs end e =
       by-then (one sum bytes place)
-      (λ x at. andThen (row size one n (sum + size x) bytes at) (λ others last. accepted (x ∷ others) last)) e
+      (λ x at. andThen (records size one n (sum + size x) bytes at) (λ others last. accepted (x ∷ others) last)) e
       (λ x at told next.
-      by-then (row size one n (sum + size x) bytes at) (λ others last. accepted (x ∷ others) last)
+      by-then (records size one n (sum + size x) bytes at) (λ others last. accepted (x ∷ others) last)
       next (λ others last read all.
       subst (λ (l : List A). length l ≡ suc n) (accepted-inj all)
-      (ap suc (row-length n (sum + size x) at others last read))))
+      (ap suc (records-length n (sum + size x) at others last read))))
 
--- What holds of every record that `one` reads holds of all records of a row, where a size is at most `most`, so that n
--- records are at most `room n` together; d stands for one that the row doesn't have
+-- What holds of every record that `one` reads holds of all records, where a size is at most `most`, so that n
+-- records are at most `room n` together; d stands for one that there isn't
 module _ {A : Type 0} (size : A → ℕ) (one : ℕ → Reader A) (P : A → Type 0) (bytes : List ℕ) (most top : ℕ)
     (room : ℕ → ℕ) (more : (n : ℕ) → room n + most ≤ room (suc n))
     (each : (sum place : ℕ) (x : A) (end : ℕ) → sum + most ≤ top →
@@ -51,16 +51,16 @@ module _ {A : Type 0} (size : A → ℕ) (one : ℕ → Reader A) (P : A → Typ
   at-number zero x xs here others = here
   at-number (suc i) x xs here others = others i
 
-  row-each : (n sum place : ℕ) {xs : List A} {end : ℕ} → sum + room n ≤ top →
-      row size one n sum bytes place ≡ accepted xs end → (i : ℕ) → P (getD xs i d)
-  unfolding row
-  row-each zero sum place l e i = subst (λ (l : List A). P (getD l i d)) (accepted-inj e) beyond
-  row-each (suc n) sum place l e i =
+  records-each : (n sum place : ℕ) {xs : List A} {end : ℕ} → sum + room n ≤ top →
+      records size one n sum bytes place ≡ accepted xs end → (i : ℕ) → P (getD xs i d)
+  unfolding records
+  records-each zero sum place l e i = subst (λ (l : List A). P (getD l i d)) (accepted-inj e) beyond
+  records-each (suc n) sum place l e i =
       by-then _ _ e (λ x at told next.
       by-then _ _ next (λ xs end others all.
       let r = each sum place x at (omega (arith, more n)) told in
       subst (λ (l : List A). P (getD l i d)) (accepted-inj all)
-      (at-number i x xs (r .0) (row-each n (sum + size x) at (omega (arith, more n, r .1)) others))))
+      (at-number i x xs (r .0) (records-each n (sum + size x) at (omega (arith, more n, r .1)) others))))
 
 -- Where each record begins at the sum of the sizes before it, it ends within the sum of all; a size is at most `most`
 module _ {A : Type 0} (size first : A → ℕ) (one : ℕ → Reader A) (bytes : List ℕ) (most : ℕ)
@@ -75,25 +75,25 @@ module _ {A : Type 0} (size first : A → ℕ) (one : ℕ → Reader A) (bytes :
   within sum zero x xs e others = omega (arith, e)
   within sum (suc i) x xs e others = omega (arith, others i)
 
-  row-within : (n sum place : ℕ) {xs : List A} {end : ℕ} → row size one n sum bytes place ≡ accepted xs end →
+  records-within : (n sum place : ℕ) {xs : List A} {end : ℕ} → records size one n sum bytes place ≡ accepted xs end →
       (i : ℕ) → Within sum xs i
-  unfolding row
-  row-within zero sum place e i = subst (λ (l : List A). Within sum l i) (accepted-inj e) (omega (arith, nothing))
-  row-within (suc n) sum place e i =
+  unfolding records
+  records-within zero sum place e i = subst (λ (l : List A). Within sum l i) (accepted-inj e) (omega (arith, nothing))
+  records-within (suc n) sum place e i =
       by-then _ _ e (λ x at told next.
       by-then _ _ next (λ xs end others all.
       subst (λ (l : List A). Within sum l i) (accepted-inj all)
-      (within sum i x xs (each sum place x at told .0) (row-within n (sum + size x) at others))))
+      (within sum i x xs (each sum place x at told .0) (records-within n (sum + size x) at others))))
 
-  row-total : (n sum place : ℕ) {xs : List A} {end : ℕ} →
-      row size one n sum bytes place ≡ accepted xs end → total size xs ≤ n * most
-  unfolding row
-  row-total zero sum place e = subst (λ (l : List A). total size l ≤ 0 * most) (accepted-inj e) (omega arith)
-  row-total (suc n) sum place e =
+  records-total : (n sum place : ℕ) {xs : List A} {end : ℕ} →
+      records size one n sum bytes place ≡ accepted xs end → total size xs ≤ n * most
+  unfolding records
+  records-total zero sum place e = subst (λ (l : List A). total size l ≤ 0 * most) (accepted-inj e) (omega arith)
+  records-total (suc n) sum place e =
       by-then _ _ e (λ x at told next.
       by-then _ _ next (λ xs end others all.
       subst (λ (l : List A). total size l ≤ suc n * most) (accepted-inj all)
-      (fewer n (size x) (total size xs) (each sum place x at told .1) (row-total n (sum + size x) at others))))
+      (fewer n (size x) (total size xs) (each sum place x at told .1) (records-total n (sum + size x) at others))))
     where
       fewer : (n a b : ℕ) → a ≤ most → b ≤ n * most → a + b ≤ suc n * most
       fewer n a b h k = rw (suc-mul n most) (omega (arith, h, k))
@@ -163,10 +163,12 @@ whole-fits bytes book text end short e =
     by-section _ _ _ bytes at₄ _ e₄ (λ n₅ s₅ steps at₅ few₅ read₅ e₅.
     by-then (allPass steps variants bytes at₅) _ e₅ (λ _ at₆ passed e₆.
     by-then (ended bytes at₆) _ e₆ (λ _ _ _ all.
-    let most₁ : length words ≤ 64 = omega (arith, row-length _ _ bytes n₁ 0 s₁ _ _ read₁, between-high 0 64 n₁ few₁) in
-    let most₂ : length names ≤ 64 = omega (arith, row-length _ _ bytes n₂ 0 s₂ _ _ read₂, between-high 0 64 n₂ few₂) in
+    let most₁ : length words ≤ 64 =
+    omega (arith, records-length _ _ bytes n₁ 0 s₁ _ _ read₁, between-high 0 64 n₁ few₁) in
+    let most₂ : length names ≤ 64 =
+    omega (arith, records-length _ _ bytes n₂ 0 s₂ _ _ read₂, between-high 0 64 n₂ few₂) in
     let most₃ : n₃ ≤ 32 = between-high 1 32 n₃ few₃ in
-    let all₃ : length nonterminals ≤ 32 = omega (arith, row-length _ _ bytes n₃ 0 s₃ _ _ read₃) in
+    let all₃ : length nonterminals ≤ 32 = omega (arith, records-length _ _ bytes n₃ 0 s₃ _ _ read₃) in
     let most₄ : n₄ ≤ 128 = between-high 0 128 n₄ (and-eq-true-iff (between 0 128 n₄) _ .0 few₄ .0) in
     let size : ℕ × Variant → ℕ = λ v. v .1 .count in
     let first : ℕ × Variant → ℕ = λ v. v .1 .first in
@@ -176,23 +178,23 @@ whole-fits bytes book text end short e =
     (variant-fits bytes sum place x end told .1, variant-fits bytes sum place x end told .0 .few) in
     let fits₄ =
     without-place VariantFits variants noVariant
-    (row-each _ _ (λ x. VariantFits (x .1)) bytes 8 1024 (λ n. n * 8) (λ n. omega arith)
+    (records-each _ _ (λ x. VariantFits (x .1)) bytes 8 1024 (λ n. n * 8) (λ n. omega arith)
     (λ sum place x end l told.
     (variant-fits bytes sum place x end told .0, variant-fits bytes sum place x end told .0 .few)) noVariant
     (record { level = omega arith; few = omega arith }) n₄ 0 s₄ (omega arith) read₄) in
     let within₄ = without-place (λ v. v .first + v .count ≤ 0 + total size variants) variants noVariant
-    (row-within size first (λ sum. placed (variant sum)) bytes 8 starts noVariant refl n₄ 0 s₄ read₄) in
+    (records-within size first (λ sum. placed (variant sum)) bytes 8 starts noVariant refl n₄ 0 s₄ read₄) in
     let few₄ : total size variants ≤ n₄ * 8 =
-    row-total size first (λ sum. placed (variant sum)) bytes 8 starts noVariant refl n₄ 0 s₄ read₄ in
+    records-total size first (λ sum. placed (variant sum)) bytes 8 starts noVariant refl n₄ 0 s₄ read₄ in
     let steps₅ : total size variants ≡ length steps =
-    omega (arith, eqb-true (total size variants) n₅ few₅, row-length _ _ bytes n₅ 0 s₅ _ _ read₅) in
+    omega (arith, eqb-true (total size variants) n₅ few₅, records-length _ _ bytes n₅ 0 s₅ _ _ read₅) in
     subst (λ (b : Book). Fit b text) (accepted-inj all) (record {
       short = short;
       names = omega arith;
-      kinds = row-each _ _ (λ (x : Entry). Fits (x .label)) bytes 0 0 (λ n. 0) (λ n. omega arith)
+      kinds = records-each _ _ (λ (x : Entry). Fits (x .label)) bytes 0 0 (λ n. 0) (λ n. omega arith)
           (λ sum place x end l told. (omega (arith, entry-fits bytes 7 place x end told), omega arith)) _ (omega arith)
           n₂ 0 s₂ (omega arith) read₂;
-      variants = row-each _ _ (λ (x : Nonterminal). Fits (x .first + x .count)) bytes 16 512 (λ n. n * 16)
+      variants = records-each _ _ (λ (x : Nonterminal). Fits (x .first + x .count)) bytes 16 512 (λ n. n * 16)
           (λ n. omega arith) (nonterminal-fits bytes) _ (omega arith) n₃ 0 s₃ (omega arith) read₃;
       levels = λ j. omega (arith, fits₄ j .level);
       few = λ j. omega (arith, fits₄ j .few);

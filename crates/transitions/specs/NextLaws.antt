@@ -36,7 +36,7 @@ use Rattle.transitions.specs.Outcomes.{cellsOf, Spent, MadeBy, withoutFa
 use Rattle.transitions.specs.OutcomeLaws.{given-ok, given-met, failure-done}
 use Rattle.transitions.specs.Steps.{nextRows, choosesRows, doesRows, firstSideRows, ModelPart, StagedFrom}
 use Rattle.transitions.specs.Steps.{ReachedFrom, Chosen}
-use Rattle.transitions.specs.Steps.{Joined}
+use Rattle.transitions.specs.Steps.{ParseEnded}
 use Rattle.transitions.specs.Steps.{endedBy, reachedWith, thenSteps}
 use Rattle.transitions.specs.ResumeLaws.{stateIn, bind-met, bind-ok, unit-met, unit-ok, makes-ok, makes-met}
 use Rattle.transitions.specs.ResumeLaws.{resumes-met, resumes-on, made-resumes}
@@ -146,14 +146,14 @@ module _ (book : Book) (text before middle : List ℕ) (j items : ℕ) (l : list
         })
 
 -- the failures of what follows the parses
-pub joined-limit : (i : ℕ) (before o : Outcome) → (o .limit ≡ 0 → ⊥) → Joined i before o o
+pub joined-limit : (i : ℕ) (before o : Outcome) → (o .limit ≡ 0 → ⊥) → ParseEnded i before o o
 joined-limit i before o l =
     record {
       is = λ cells T. given-met o cells T l ∙ sym (bind-met _ (given-met o cells T l));
       cells = refl;
     }
 
-pub joined-first : (i : ℕ) (before o : Outcome) → o .limit ≡ 0 → i ≡ 0 → Joined i before o o
+pub joined-first : (i : ℕ) (before o : Outcome) → o .limit ≡ 0 → i ≡ 0 → ParseEnded i before o o
 unfolding together
 joined-first i before o l e =
     rw e (record {
@@ -167,7 +167,8 @@ together-either zero a b h = absurd (h refl)
 together-either (suc i) a b h = refl
 
 pub joined-both : (i : ℕ) (before o r : Outcome) (a b f : Failure) → o .limit ≡ 0 → (i ≡ 0 → ⊥) → a ≡ failureAt before →
-    b ≡ failureAt o → failureOf f ≡ either (failureOf a) (failureOf b) → r ≡ doneWith f (o .state) → Joined i before o r
+    b ≡ failureAt o → failureOf f ≡ either (failureOf a) (failureOf b) → r ≡ doneWith f (o .state) →
+    ParseEnded i before o r
 joined-both i before o r a b f l h ea eb e q =
     rw q (record {
       is = λ cells T.

@@ -147,7 +147,7 @@ pub record Chosen (text : List ℕ) (T : List Row) (c x : ℕ) (a b r : code.Out
   pub cells : r .state .cells ≡ b .state .cells
 
 -- what follows the i-th parse, after those before it
-pub record Joined (i : ℕ) (before o r : code.Outcome) : Type 0 where
+pub record ParseEnded (i : ℕ) (before o r : code.Outcome) : Type 0 where
   pub is : (cells : List Cell) (T : List Row) →
       given r cells T ≡ (given o cells T >>= (λ y. ok (outcome (together i (failureOf (failureAt before))
       (y .failure)) (y .state))))

@@ -103,7 +103,7 @@ pub fn first_side(
 }
 
 // Both sides of a choice.
-pub fn both(text: &[u8], rows: &[u32], here: Progress, a: Outcome, b: Outcome) -> Outcome
+pub fn both_sides(text: &[u8], rows: &[u32], here: Progress, a: Outcome, b: Outcome) -> Outcome
     requires { ⌜ InTable (here .call) rows × Short text ⌝ }
     ensures { λ r. ⌜ Chosen (atEntry text) (tableAt rows) (here .call) (here .place) a b r ⌝ }
 {

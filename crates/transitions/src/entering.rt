@@ -3,7 +3,7 @@
 ghost use mathlib.Core.Path.{_≡_};
 ghost use mathlib.Core.Bool.{false};
 ghost use mathlib.Core.Option.{some};
-ghost use Rattle.characters.specs.Slices.{atEntry, atExit};
+ghost use Rattle.characters.specs.Slices.{atEntry};
 ghost use Rattle.book.specs.Index.{bookAt};
 ghost use Rattle.semantics.specs.Numbers.{nonterminalWanted};
 ghost use Rattle.semantics.specs.Uses.{hasMark};
@@ -11,8 +11,8 @@ ghost use Rattle.semantics.specs.Errors.{error};
 ghost use Rattle.run_model.specs.Model.{claimedRows};
 ghost use Rattle.calls.specs.Table.{InTable, Below, tableAt, tableAfter};
 ghost use Rattle.errors.specs.Maps.{failureOf};
-ghost use Rattle.transitions.specs.Entering.{Stores, Opens, BeginsUse};
-ghost use Rattle.transitions.specs.Contracts.{Ready, Does, identifies};
+ghost use Rattle.transitions.specs.Entering.{Stores};
+ghost use Rattle.transitions.specs.Contracts.{Ready, Does, Opens, BeginsUse, identifies};
 use crate::items::make;
 use crate::outcomes::Outcome;
 use crate::outcomes::State;
@@ -117,7 +117,7 @@ fn run_identifier(
     let End::At(end) = tokens::free_end(book, index, text, at as usize) else {
         return done(no_parse(nonterminal, at), state);
     };
-    let size = tokens::length(at as usize, end);
+    let size = tokens::span_length(at as usize, end);
     let m = make(text, store, cells::name(at, size as u32), state);
     let s = m.state;
     if m.limit != 0 {
@@ -162,8 +162,7 @@ fn open(
     state: State,
 ) -> Entered
     requires { ⌜ Ready book index text rows row ⌝ }
-    ensures { λ r. ⌜ Opens (bookAt book index) (atEntry text) (atEntry store) (atExit store)
-        (tableAt rows) (tableAfter rows) row nonterminal at minimum state r ⌝ }
+    ensures { λ r. ⌜ Opens book index text store rows row nonterminal at minimum state r ⌝ }
 {
     if row == 0 {
         return without_runs(without_failure(TOO_DEEP, state));
@@ -202,8 +201,7 @@ pub fn begin_use(
     state: State,
 ) -> Entered
     requires { ⌜ Ready book index text rows row ⌝ }
-    ensures { λ r. ⌜ BeginsUse (bookAt book index) (atEntry text) (atEntry store) (atExit store)
-        (tableAt rows) (tableAfter rows) row nonterminal at state r ⌝ }
+    ensures { λ r. ⌜ BeginsUse book index text store rows row nonterminal at state r ⌝ }
 {
     let spent = spend(state);
     if spent.limit != 0 {

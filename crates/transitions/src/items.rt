@@ -25,7 +25,7 @@ pub struct CellOutcome {
     pub state: State,
 }
 
-fn got(cell: u32, state: State) -> CellOutcome
+fn cell_outcome(cell: u32, state: State) -> CellOutcome
     ensures { λ r. ⌜ r ≡ record { limit = 0; cell = cell; state = state } ⌝ }
 {
     CellOutcome {
@@ -41,7 +41,7 @@ pub fn make(text: &[u8], store: &mut [u32], c: CellNumbers, state: State) -> Cel
         MakesCell text store state r (run.make (atEntry text) cell)) ⌝ }
 {
     match cells::make(text, store, state.cells, c) {
-        cells::Made::At { cell, count } => got(
+        cells::Made::At { cell, count } => cell_outcome(
             cell,
             State {
                 units: state.units,
@@ -59,8 +59,8 @@ pub fn make(text: &[u8], store: &mut [u32], c: CellNumbers, state: State) -> Cel
 fn is_passing(book: &[u8], index: &[usize], j: u32) -> bool
     ensures { λ r. ⌜ r ≡ nthVariant (bookAt book index) j .passing ⌝ }
 {
-    let w = book::variant(book, index, j as usize);
-    w.passing
+    let variant = book::variant(book, index, j as usize);
+    variant.passing
 }
 
 // "1 empty chain (made as a variant begins)"; "Passing variants make no cell".
@@ -75,7 +75,7 @@ pub fn begin(
     ensures { λ r. ⌜ MakesCell text store state r (run.begin (bookAt book index) (atEntry text) j) ⌝ }
 {
     if is_passing(book, index, j) {
-        got(0, state)
+        cell_outcome(0, state)
     } else {
         make(text, store, cells::empty(), state)
     }
@@ -95,7 +95,7 @@ pub fn with_cell(
     ensures { λ r. ⌜ MakesCell text store state r (run.withCell (bookAt book index) (atEntry text) j items item) ⌝ }
 {
     if is_passing(book, index, j) {
-        got(item, state)
+        cell_outcome(item, state)
     } else {
         make(text, store, cells::chain(items, item), state)
     }
@@ -137,7 +137,7 @@ pub fn with_token(
         let s = m.state;
         with_cell(book, index, text, store, j, items, m.cell, s)
     } else {
-        got(items, state)
+        cell_outcome(items, state)
     }
 }
 
@@ -163,7 +163,7 @@ pub fn value(
     ensures { λ r. ⌜ MakesCell text store state r (valueCell (bookAt book index) (atEntry text) j items) ⌝ }
 {
     if is_passing(book, index, j) {
-        got(items, state)
+        cell_outcome(items, state)
     } else {
         make(text, store, cells::variant(j, items), state)
     }

@@ -21,7 +21,7 @@ mod stages;
 mod steps;
 mod variants;
 
-pub use choices::both;
+pub use choices::both_sides;
 pub use choices::first_side;
 pub use entering::Entered;
 pub use entering::begin_use;
@@ -44,8 +44,8 @@ pub use stages::Next;
 pub use stages::Progress;
 pub use stages::Reached;
 pub use stages::Stage;
+pub use steps::after_parse;
 pub use steps::finish;
-pub use steps::joined;
 pub use steps::next_of;
 pub use steps::take_step;
 pub use variants::after_variant;

@@ -4,7 +4,7 @@ ghost use Prim.Native.Nat.{_<_};
 ghost use Rattle.sets.specs.Sets.{parse, parseOf};
 ghost use Rattle.tokens.specs.Maps.{itemOf};
 ghost use Rattle.transitions.specs.Fit.{Fits, ItemFits};
-ghost use Rattle.transitions.specs.Steps.{thenDoes, StepSpent, Joined};
+ghost use Rattle.transitions.specs.Steps.{thenDoes, StepSpent, ParseEnded};
 ghost use Rattle.transitions.specs.Contracts.{Fitting, Ready, Does, Stages, StagesAll, Reaches};
 ghost use Rattle.transitions.specs.Contracts.{completes, takes, reads, lists, unopens, stops, follows};
 ghost use Rattle.transitions.specs.declared.stages.Next.{Next};
@@ -40,14 +40,14 @@ use tokens::Item;
 use tokens::Taken;
 
 // ---- The end of a variant
-fn parse_of(w: Variant, rest: u32, value: u32) -> Parse
-    requires { ⌜ Fits (w .level) ⌝ }
-    ensures { λ r. ⌜ parseOf r ≡ parse rest (w .level) (w .associativity) value ⌝ }
+fn parse_of(variant: Variant, rest: u32, value: u32) -> Parse
+    requires { ⌜ Fits (variant .level) ⌝ }
+    ensures { λ r. ⌜ parseOf r ≡ parse rest (variant .level) (variant .associativity) value ⌝ }
 {
-    let associativity = w.associativity;
+    let associativity = variant.associativity;
     Parse {
         rest,
-        level: w.level as u32,
+        level: variant.level as u32,
         associativity,
         value,
     }
@@ -71,8 +71,8 @@ pub fn finish(
     if m.limit != 0 {
         return without_failure(m.limit, s);
     }
-    let w = book::variant(book, index, here.variant as usize);
-    if calls::add_run(rows, here.call, parse_of(w, here.place, m.cell)) {
+    let variant = book::variant(book, index, here.variant as usize);
+    if calls::add_run(rows, here.call, parse_of(variant, here.place, m.cell)) {
         done(Failure::None, s)
     } else {
         without_failure(TOO_MANY_PARSES, s)
@@ -378,8 +378,8 @@ pub fn next_of(
 }
 
 // The failures of what follows the parses of a child, up to the i-th; before the first there is none to join.
-pub fn joined(i: usize, before: Outcome, o: Outcome) -> Outcome
-    ensures { λ r. ⌜ Joined i before o r ⌝ }
+pub fn after_parse(i: usize, before: Outcome, o: Outcome) -> Outcome
+    ensures { λ r. ⌜ ParseEnded i before o r ⌝ }
 {
     if o.limit != 0 {
         return o;

@@ -1,12 +1,12 @@
 // What a call does before and after a variant's steps, and where a child of it begins.
 ghost use mathlib.Core.Path.{_≡_};
-ghost use Rattle.characters.specs.Slices.{atEntry, atExit};
+ghost use Rattle.characters.specs.Slices.{atEntry};
 ghost use Rattle.characters.specs.Skipping.{skipFrom};
 ghost use Rattle.book.specs.Index.{bookAt};
 ghost use Rattle.run_model.specs.Rows.{withChild};
-ghost use Rattle.calls.specs.Table.{InTable, tableAt, tableAfter, Changes};
-ghost use Rattle.transitions.specs.Entering.{Begins, VariantEnded};
-ghost use Rattle.transitions.specs.Contracts.{Short, Ready};
+ghost use Rattle.calls.specs.Table.{InTable, Changes};
+ghost use Rattle.transitions.specs.Entering.{VariantEnded};
+ghost use Rattle.transitions.specs.Contracts.{Short, Ready, Begins};
 use crate::items::begin;
 use crate::outcomes::Outcome;
 use crate::outcomes::State;
@@ -29,14 +29,13 @@ pub fn begin_variant(
     state: State,
 ) -> Reached
     requires { ⌜ Ready book index text rows row ⌝ }
-    ensures { λ r. ⌜ Begins (bookAt book index) (atEntry text) (atEntry store) (atExit store)
-        (tableAt rows) (tableAfter rows) row j state r ⌝ }
+    ensures { λ r. ⌜ Begins book index text store rows row j state r ⌝ }
 {
     let start = calls::start_of(rows, row);
-    let w = book::variant(book, index, j as usize);
-    let associativity = w.associativity;
+    let variant = book::variant(book, index, j as usize);
+    let associativity = variant.associativity;
     let m = begin(book, index, text, store, j, state);
-    calls::take_variant(rows, row, w.level as u32, associativity);
+    calls::take_variant(rows, row, variant.level as u32, associativity);
     reached_with(m, start)
 }
 
@@ -54,11 +53,11 @@ pub fn after_variant(
     if o.limit != 0 {
         return o;
     }
-    let w = book::variant(book, index, j as usize);
+    let variant = book::variant(book, index, j as usize);
     let first = failure_of(before);
     let second = failure_of(o);
     done(
-        errors::join_with(first, errors::counted(w.committed, start, second)),
+        errors::join_with(first, errors::counted(variant.committed, start, second)),
         o.state,
     )
 }

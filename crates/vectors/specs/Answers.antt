@@ -8,7 +8,7 @@ use Rattle.characters.specs.Skipping.{leading, spanEnd, commentAt, commentEnd, 
 use Rattle.characters.specs.Lexemes.{identifierAt, decimal, numberOf, numberAt}
 use Rattle.characters.specs.Spelling.{same}
 use Rattle.book.specs.Book.{isReserved, lookupFrom}
-use Rattle.book.specs.Check.{checked, row, spelling, entry, nonterminal, variant, stepOf, step, allPass, ended, entireBook, checkBook}
+use Rattle.book.specs.Check.{checked, records, spelling, entry, nonterminal, variant, stepOf, step, allPass, ended, entireBook, checkBook}
 use Rattle.semantics.specs.Uses.{outwards, govern, governor}
 use Rattle.semantics.specs.Tokens.{isSome, characterEnd, identifierEnd, reservedAt, freeEnd, variableAt, hasClaimant}
 use Rattle.semantics.specs.Steps.{stepAt, afterElement, closed}
@@ -71,7 +71,7 @@ record Vectors1 : Type 0 where
   v20 : call 12288 256 (0 ∷ 0 ∷ 1 ∷ 2 ∷ 0 ∷ 0 ∷ 0 ∷ []) (97 ∷ []) 0 1000000 ≡ gives (answer 0 0 0 0 1 1 1) (4 ∷ 0 ∷ 1 ∷ zeros 12285 0) (1 ∷ 255 ∷ 3 ∷ 1 ∷ zeros 252 0)
 
 vectors1 : Vectors1
-unfolding classOf leading spanEnd commentAt commentEnd roundEnd skipRounds skipFrom identifierAt decimal numberOf numberAt same isReserved lookupFrom checked row spelling entry nonterminal variant stepOf step allPass ended entireBook checkBook outwards govern governor isSome characterEnd identifierEnd reservedAt freeEnd variableAt hasClaimant stepAt afterElement closed numbersOf cellsIn identityOf findCell treeIn treesIn meaningOf meanings join beyond joinWith choiceError chosenFailure identifierError stepError _>>=_ sameParse has allIn kept add addAll ask newest others spend make itemCell failedCall either chosen closingCode begin withCell withToken complete counted variants oneRun roundsRun runCall named runIdentifier plainNext listNext stops nested reentry enter enterChild followMore follow followed stepUnit orAbsent choice listing steps runner run cellNumbers parseNumbers written wholeValues allAre firstHigh byValues atEnd onBook answerOf
+unfolding classOf leading spanEnd commentAt commentEnd roundEnd skipRounds skipFrom identifierAt decimal numberOf numberAt same isReserved lookupFrom checked records spelling entry nonterminal variant stepOf step allPass ended entireBook checkBook outwards govern governor isSome characterEnd identifierEnd reservedAt freeEnd variableAt hasClaimant stepAt afterElement closed numbersOf cellsIn identityOf findCell treeIn treesIn meaningOf meanings join beyond joinWith choiceError chosenFailure identifierError stepError _>>=_ sameParse has allIn kept add addAll ask newest others spend make itemCell failedCall either chosen closingCode begin withCell withToken complete counted variants oneRun roundsRun runCall named runIdentifier plainNext listNext stops nested reentry enter enterChild followMore follow followed stepUnit orAbsent choice listing steps runner run cellNumbers parseNumbers written wholeValues allAre firstHigh byValues atEnd onBook answerOf
 vectors1 = record { v1 = refl; v2 = refl; v3 = refl; v4 = refl; v5 = refl; v6 = refl; v7 = refl; v8 = refl; v9 = refl; v10 = refl; v11 = refl; v12 = refl; v13 = refl; v14 = refl; v15 = refl; v16 = refl; v17 = refl; v18 = refl; v19 = refl; v20 = refl }
 
 record Vectors21 : Type 0 where
@@ -117,7 +117,7 @@ record Vectors21 : Type 0 where
   v40 : call 12288 256 (0 ∷ 0 ∷ 1 ∷ 0 ∷ 2 ∷ 2 ∷ 255 ∷ 3 ∷ 1 ∷ 2 ∷ 255 ∷ 3 ∷ 1 ∷ 1 ∷ 3 ∷ 3 ∷ 0 ∷ 0 ∷ 0 ∷ 0 ∷ 33 ∷ 0 ∷ 0 ∷ 0 ∷ 49 ∷ 0 ∷ 0 ∷ []) (49 ∷ []) 0 1000000 ≡ gives (answer 0 0 0 0 4 1 4) (1 ∷ 0 ∷ 0 ∷ 5 ∷ 0 ∷ 1 ∷ 2 ∷ 1 ∷ 2 ∷ 3 ∷ 1 ∷ 1 ∷ zeros 12276 0) (1 ∷ 255 ∷ 3 ∷ 4 ∷ zeros 252 0)
 
 vectors21 : Vectors21
-unfolding classOf leading spanEnd commentAt commentEnd roundEnd skipRounds skipFrom identifierAt decimal numberOf numberAt same isReserved lookupFrom checked row spelling entry nonterminal variant stepOf step allPass ended entireBook checkBook outwards govern governor isSome characterEnd identifierEnd reservedAt freeEnd variableAt hasClaimant stepAt afterElement closed numbersOf cellsIn identityOf findCell treeIn treesIn meaningOf meanings join beyond joinWith choiceError chosenFailure identifierError stepError _>>=_ sameParse has allIn kept add addAll ask newest others spend make itemCell failedCall either chosen closingCode begin withCell withToken complete counted variants oneRun roundsRun runCall named runIdentifier plainNext listNext stops nested reentry enter enterChild followMore follow followed stepUnit orAbsent choice listing steps runner run cellNumbers parseNumbers written wholeValues allAre firstHigh byValues atEnd onBook answerOf
+unfolding classOf leading spanEnd commentAt commentEnd roundEnd skipRounds skipFrom identifierAt decimal numberOf numberAt same isReserved lookupFrom checked records spelling entry nonterminal variant stepOf step allPass ended entireBook checkBook outwards govern governor isSome characterEnd identifierEnd reservedAt freeEnd variableAt hasClaimant stepAt afterElement closed numbersOf cellsIn identityOf findCell treeIn treesIn meaningOf meanings join beyond joinWith choiceError chosenFailure identifierError stepError _>>=_ sameParse has allIn kept add addAll ask newest others spend make itemCell failedCall either chosen closingCode begin withCell withToken complete counted variants oneRun roundsRun runCall named runIdentifier plainNext listNext stops nested reentry enter enterChild followMore follow followed stepUnit orAbsent choice listing steps runner run cellNumbers parseNumbers written wholeValues allAre firstHigh byValues atEnd onBook answerOf
 vectors21 = record { v21 = refl; v22 = refl; v23 = refl; v24 = refl; v25 = refl; v26 = refl; v27 = refl; v28 = refl; v29 = refl; v30 = refl; v31 = refl; v32 = refl; v33 = refl; v34 = refl; v35 = refl; v36 = refl; v37 = refl; v38 = refl; v39 = refl; v40 = refl }
 
 record Vectors41 : Type 0 where
@@ -163,7 +163,7 @@ record Vectors41 : Type 0 where
   v60 : call 12288 256 (2 ∷ 1 ∷ 1 ∷ 97 ∷ 0 ∷ 3 ∷ 110 ∷ 111 ∷ 116 ∷ 1 ∷ 0 ∷ 2 ∷ 118 ∷ 49 ∷ 3 ∷ 0 ∷ 4 ∷ 2 ∷ 0 ∷ 1 ∷ 4 ∷ 8 ∷ 1 ∷ 3 ∷ 0 ∷ 3 ∷ 2 ∷ 1 ∷ 0 ∷ 1 ∷ 2 ∷ 0 ∷ 1 ∷ 1 ∷ 1 ∷ 0 ∷ 1 ∷ 1 ∷ 1 ∷ 0 ∷ 1 ∷ 4 ∷ 255 ∷ 3 ∷ 1 ∷ 1 ∷ 0 ∷ 0 ∷ 0 ∷ 3 ∷ 255 ∷ 3 ∷ 1 ∷ 0 ∷ 14 ∷ 10 ∷ 0 ∷ 0 ∷ 0 ∷ 8 ∷ 0 ∷ 0 ∷ 0 ∷ 0 ∷ 59 ∷ 0 ∷ 0 ∷ 11 ∷ 0 ∷ 0 ∷ 0 ∷ 8 ∷ 1 ∷ 0 ∷ 0 ∷ 0 ∷ 47 ∷ 0 ∷ 0 ∷ 8 ∷ 2 ∷ 0 ∷ 0 ∷ 0 ∷ 59 ∷ 0 ∷ 0 ∷ 8 ∷ 2 ∷ 0 ∷ 0 ∷ 0 ∷ 63 ∷ 0 ∷ 0 ∷ 10 ∷ 2 ∷ 0 ∷ 0 ∷ 9 ∷ 2 ∷ 0 ∷ 0 ∷ 0 ∷ 59 ∷ 0 ∷ 0 ∷ 8 ∷ 2 ∷ 0 ∷ 0 ∷ []) (9 ∷ 40 ∷ 47 ∷ 47 ∷ 10 ∷ 59 ∷ []) 1 1000000 ≡ gives (answer 30 1 11 1 1 0 0) (zeros 12288 0) (zeros 256 0)
 
 vectors41 : Vectors41
-unfolding classOf leading spanEnd commentAt commentEnd roundEnd skipRounds skipFrom identifierAt decimal numberOf numberAt same isReserved lookupFrom checked row spelling entry nonterminal variant stepOf step allPass ended entireBook checkBook outwards govern governor isSome characterEnd identifierEnd reservedAt freeEnd variableAt hasClaimant stepAt afterElement closed numbersOf cellsIn identityOf findCell treeIn treesIn meaningOf meanings join beyond joinWith choiceError chosenFailure identifierError stepError _>>=_ sameParse has allIn kept add addAll ask newest others spend make itemCell failedCall either chosen closingCode begin withCell withToken complete counted variants oneRun roundsRun runCall named runIdentifier plainNext listNext stops nested reentry enter enterChild followMore follow followed stepUnit orAbsent choice listing steps runner run cellNumbers parseNumbers written wholeValues allAre firstHigh byValues atEnd onBook answerOf
+unfolding classOf leading spanEnd commentAt commentEnd roundEnd skipRounds skipFrom identifierAt decimal numberOf numberAt same isReserved lookupFrom checked records spelling entry nonterminal variant stepOf step allPass ended entireBook checkBook outwards govern governor isSome characterEnd identifierEnd reservedAt freeEnd variableAt hasClaimant stepAt afterElement closed numbersOf cellsIn identityOf findCell treeIn treesIn meaningOf meanings join beyond joinWith choiceError chosenFailure identifierError stepError _>>=_ sameParse has allIn kept add addAll ask newest others spend make itemCell failedCall either chosen closingCode begin withCell withToken complete counted variants oneRun roundsRun runCall named runIdentifier plainNext listNext stops nested reentry enter enterChild followMore follow followed stepUnit orAbsent choice listing steps runner run cellNumbers parseNumbers written wholeValues allAre firstHigh byValues atEnd onBook answerOf
 vectors41 = record { v41 = refl; v42 = refl; v43 = refl; v44 = refl; v45 = refl; v46 = refl; v47 = refl; v48 = refl; v49 = refl; v50 = refl; v51 = refl; v52 = refl; v53 = refl; v54 = refl; v55 = refl; v56 = refl; v57 = refl; v58 = refl; v59 = refl; v60 = refl }
 
 record Vectors61 : Type 0 where
@@ -209,7 +209,7 @@ record Vectors61 : Type 0 where
   v80 : call 12288 256 (0 ∷ 71 ∷ 2 ∷ 2 ∷ 0 ∷ 0 ∷ 1 ∷ 1 ∷ 255 ∷ 3 ∷ 1 ∷ 1 ∷ 1 ∷ 3 ∷ 0 ∷ 0 ∷ 0 ∷ []) (49 ∷ 45 ∷ 50 ∷ []) 0 1000000 ≡ gives (answer 4 1 0 0 0 0 0) (replicate 12288 7) (replicate 256 7)
 
 vectors61 : Vectors61
-unfolding classOf leading spanEnd commentAt commentEnd roundEnd skipRounds skipFrom identifierAt decimal numberOf numberAt same isReserved lookupFrom checked row spelling entry nonterminal variant stepOf step allPass ended entireBook checkBook outwards govern governor isSome characterEnd identifierEnd reservedAt freeEnd variableAt hasClaimant stepAt afterElement closed numbersOf cellsIn identityOf findCell treeIn treesIn meaningOf meanings join beyond joinWith choiceError chosenFailure identifierError stepError _>>=_ sameParse has allIn kept add addAll ask newest others spend make itemCell failedCall either chosen closingCode begin withCell withToken complete counted variants oneRun roundsRun runCall named runIdentifier plainNext listNext stops nested reentry enter enterChild followMore follow followed stepUnit orAbsent choice listing steps runner run cellNumbers parseNumbers written wholeValues allAre firstHigh byValues atEnd onBook answerOf
+unfolding classOf leading spanEnd commentAt commentEnd roundEnd skipRounds skipFrom identifierAt decimal numberOf numberAt same isReserved lookupFrom checked records spelling entry nonterminal variant stepOf step allPass ended entireBook checkBook outwards govern governor isSome characterEnd identifierEnd reservedAt freeEnd variableAt hasClaimant stepAt afterElement closed numbersOf cellsIn identityOf findCell treeIn treesIn meaningOf meanings join beyond joinWith choiceError chosenFailure identifierError stepError _>>=_ sameParse has allIn kept add addAll ask newest others spend make itemCell failedCall either chosen closingCode begin withCell withToken complete counted variants oneRun roundsRun runCall named runIdentifier plainNext listNext stops nested reentry enter enterChild followMore follow followed stepUnit orAbsent choice listing steps runner run cellNumbers parseNumbers written wholeValues allAre firstHigh byValues atEnd onBook answerOf
 vectors61 = record { v61 = refl; v62 = refl; v63 = refl; v64 = refl; v65 = refl; v66 = refl; v67 = refl; v68 = refl; v69 = refl; v70 = refl; v71 = refl; v72 = refl; v73 = refl; v74 = refl; v75 = refl; v76 = refl; v77 = refl; v78 = refl; v79 = refl; v80 = refl }
 
 record Vectors81 : Type 0 where
@@ -255,7 +255,7 @@ record Vectors81 : Type 0 where
   v100 : call 12288 256 (0 ∷ 2 ∷ 1 ∷ 2 ∷ 118 ∷ 49 ∷ 0 ∷ 1 ∷ 95 ∷ 2 ∷ 0 ∷ 4 ∷ 1 ∷ 1 ∷ 5 ∷ 0 ∷ 3 ∷ 1 ∷ 4 ∷ 1 ∷ 1 ∷ 1 ∷ 1 ∷ 2 ∷ 0 ∷ 3 ∷ 1 ∷ 0 ∷ 1 ∷ 1 ∷ 3 ∷ 2 ∷ 1 ∷ 1 ∷ 10 ∷ 6 ∷ 0 ∷ 0 ∷ 0 ∷ 8 ∷ 1 ∷ 0 ∷ 0 ∷ 15 ∷ 0 ∷ 0 ∷ 0 ∷ 0 ∷ 60 ∷ 0 ∷ 0 ∷ 8 ∷ 1 ∷ 0 ∷ 0 ∷ 13 ∷ 1 ∷ 7 ∷ 93 ∷ 8 ∷ 0 ∷ 0 ∷ 0 ∷ 9 ∷ 1 ∷ 0 ∷ 0 ∷ 3 ∷ 0 ∷ 0 ∷ 0 ∷ 0 ∷ 38 ∷ 0 ∷ 0 ∷ []) (49 ∷ []) 0 1000000 ≡ gives (answer 6 34 0 0 0 0 0) (replicate 12288 7) (replicate 256 7)
 
 vectors81 : Vectors81
-unfolding classOf leading spanEnd commentAt commentEnd roundEnd skipRounds skipFrom identifierAt decimal numberOf numberAt same isReserved lookupFrom checked row spelling entry nonterminal variant stepOf step allPass ended entireBook checkBook outwards govern governor isSome characterEnd identifierEnd reservedAt freeEnd variableAt hasClaimant stepAt afterElement closed numbersOf cellsIn identityOf findCell treeIn treesIn meaningOf meanings join beyond joinWith choiceError chosenFailure identifierError stepError _>>=_ sameParse has allIn kept add addAll ask newest others spend make itemCell failedCall either chosen closingCode begin withCell withToken complete counted variants oneRun roundsRun runCall named runIdentifier plainNext listNext stops nested reentry enter enterChild followMore follow followed stepUnit orAbsent choice listing steps runner run cellNumbers parseNumbers written wholeValues allAre firstHigh byValues atEnd onBook answerOf
+unfolding classOf leading spanEnd commentAt commentEnd roundEnd skipRounds skipFrom identifierAt decimal numberOf numberAt same isReserved lookupFrom checked records spelling entry nonterminal variant stepOf step allPass ended entireBook checkBook outwards govern governor isSome characterEnd identifierEnd reservedAt freeEnd variableAt hasClaimant stepAt afterElement closed numbersOf cellsIn identityOf findCell treeIn treesIn meaningOf meanings join beyond joinWith choiceError chosenFailure identifierError stepError _>>=_ sameParse has allIn kept add addAll ask newest others spend make itemCell failedCall either chosen closingCode begin withCell withToken complete counted variants oneRun roundsRun runCall named runIdentifier plainNext listNext stops nested reentry enter enterChild followMore follow followed stepUnit orAbsent choice listing steps runner run cellNumbers parseNumbers written wholeValues allAre firstHigh byValues atEnd onBook answerOf
 vectors81 = record { v81 = refl; v82 = refl; v83 = refl; v84 = refl; v85 = refl; v86 = refl; v87 = refl; v88 = refl; v89 = refl; v90 = refl; v91 = refl; v92 = refl; v93 = refl; v94 = refl; v95 = refl; v96 = refl; v97 = refl; v98 = refl; v99 = refl; v100 = refl }
 
 record Vectors101 : Type 0 where
@@ -301,7 +301,7 @@ record Vectors101 : Type 0 where
   v120 : call 12288 256 (3 ∷ 0 ∷ 1 ∷ 95 ∷ 1 ∷ 3 ∷ 110 ∷ 111 ∷ 116 ∷ 1 ∷ 2 ∷ 105 ∷ 102 ∷ 1 ∷ 0 ∷ 2 ∷ 105 ∷ 110 ∷ 2 ∷ 0 ∷ 3 ∷ 1 ∷ 1 ∷ 4 ∷ 255 ∷ 3 ∷ 1 ∷ 1 ∷ 3 ∷ 3 ∷ 1 ∷ 2 ∷ 2 ∷ 0 ∷ 1 ∷ 1 ∷ 3 ∷ 0 ∷ 0 ∷ 1 ∷ 5 ∷ 13 ∷ 0 ∷ 123 ∷ 125 ∷ 12 ∷ 1 ∷ 123 ∷ 125 ∷ 10 ∷ 1 ∷ 0 ∷ 0 ∷ 3 ∷ 0 ∷ 0 ∷ 0 ∷ 3 ∷ 0 ∷ 0 ∷ 0 ∷ []) (48 ∷ []) 0 15382 ≡ gives (answer 0 0 0 0 4 2 7) (1 ∷ 0 ∷ 0 ∷ 8 ∷ 1 ∷ 0 ∷ 2 ∷ 1 ∷ 2 ∷ 3 ∷ 0 ∷ 3 ∷ 5 ∷ 0 ∷ 0 ∷ 2 ∷ 1 ∷ 5 ∷ 3 ∷ 2 ∷ 6 ∷ zeros 12267 0) (0 ∷ 255 ∷ 3 ∷ 4 ∷ 1 ∷ 2 ∷ 0 ∷ 7 ∷ zeros 248 0)
 
 vectors101 : Vectors101
-unfolding classOf leading spanEnd commentAt commentEnd roundEnd skipRounds skipFrom identifierAt decimal numberOf numberAt same isReserved lookupFrom checked row spelling entry nonterminal variant stepOf step allPass ended entireBook checkBook outwards govern governor isSome characterEnd identifierEnd reservedAt freeEnd variableAt hasClaimant stepAt afterElement closed numbersOf cellsIn identityOf findCell treeIn treesIn meaningOf meanings join beyond joinWith choiceError chosenFailure identifierError stepError _>>=_ sameParse has allIn kept add addAll ask newest others spend make itemCell failedCall either chosen closingCode begin withCell withToken complete counted variants oneRun roundsRun runCall named runIdentifier plainNext listNext stops nested reentry enter enterChild followMore follow followed stepUnit orAbsent choice listing steps runner run cellNumbers parseNumbers written wholeValues allAre firstHigh byValues atEnd onBook answerOf
+unfolding classOf leading spanEnd commentAt commentEnd roundEnd skipRounds skipFrom identifierAt decimal numberOf numberAt same isReserved lookupFrom checked records spelling entry nonterminal variant stepOf step allPass ended entireBook checkBook outwards govern governor isSome characterEnd identifierEnd reservedAt freeEnd variableAt hasClaimant stepAt afterElement closed numbersOf cellsIn identityOf findCell treeIn treesIn meaningOf meanings join beyond joinWith choiceError chosenFailure identifierError stepError _>>=_ sameParse has allIn kept add addAll ask newest others spend make itemCell failedCall either chosen closingCode begin withCell withToken complete counted variants oneRun roundsRun runCall named runIdentifier plainNext listNext stops nested reentry enter enterChild followMore follow followed stepUnit orAbsent choice listing steps runner run cellNumbers parseNumbers written wholeValues allAre firstHigh byValues atEnd onBook answerOf
 vectors101 = record { v101 = refl; v102 = refl; v103 = refl; v104 = refl; v105 = refl; v106 = refl; v107 = refl; v108 = refl; v109 = refl; v110 = refl; v111 = refl; v112 = refl; v113 = refl; v114 = refl; v115 = refl; v116 = refl; v117 = refl; v118 = refl; v119 = refl; v120 = refl }
 
 record Vectors121 : Type 0 where
@@ -347,7 +347,7 @@ record Vectors121 : Type 0 where
   v140 : call 12288 256 (2 ∷ 1 ∷ 2 ∷ 87 ∷ 49 ∷ 1 ∷ 1 ∷ 120 ∷ 3 ∷ 0 ∷ 1 ∷ 84 ∷ 0 ∷ 2 ∷ 118 ∷ 49 ∷ 7 ∷ 2 ∷ 118 ∷ 49 ∷ 1 ∷ 1 ∷ 2 ∷ 2 ∷ 255 ∷ 3 ∷ 1 ∷ 1 ∷ 0 ∷ 1 ∷ 0 ∷ 3 ∷ 4 ∷ 3 ∷ 0 ∷ 0 ∷ 0 ∷ 8 ∷ 0 ∷ 0 ∷ 0 ∷ 0 ∷ 38 ∷ 0 ∷ 0 ∷ 8 ∷ 0 ∷ 0 ∷ 0 ∷ []) (48 ∷ []) 0 19 ≡ gives (answer 0 0 0 0 8 1 4) (1 ∷ 0 ∷ 0 ∷ 5 ∷ 0 ∷ 0 ∷ 2 ∷ 1 ∷ 2 ∷ 3 ∷ 0 ∷ 3 ∷ 2 ∷ 1 ∷ 4 ∷ zeros 12273 0) (1 ∷ 255 ∷ 3 ∷ 4 ∷ zeros 252 0)
 
 vectors121 : Vectors121
-unfolding classOf leading spanEnd commentAt commentEnd roundEnd skipRounds skipFrom identifierAt decimal numberOf numberAt same isReserved lookupFrom checked row spelling entry nonterminal variant stepOf step allPass ended entireBook checkBook outwards govern governor isSome characterEnd identifierEnd reservedAt freeEnd variableAt hasClaimant stepAt afterElement closed numbersOf cellsIn identityOf findCell treeIn treesIn meaningOf meanings join beyond joinWith choiceError chosenFailure identifierError stepError _>>=_ sameParse has allIn kept add addAll ask newest others spend make itemCell failedCall either chosen closingCode begin withCell withToken complete counted variants oneRun roundsRun runCall named runIdentifier plainNext listNext stops nested reentry enter enterChild followMore follow followed stepUnit orAbsent choice listing steps runner run cellNumbers parseNumbers written wholeValues allAre firstHigh byValues atEnd onBook answerOf
+unfolding classOf leading spanEnd commentAt commentEnd roundEnd skipRounds skipFrom identifierAt decimal numberOf numberAt same isReserved lookupFrom checked records spelling entry nonterminal variant stepOf step allPass ended entireBook checkBook outwards govern governor isSome characterEnd identifierEnd reservedAt freeEnd variableAt hasClaimant stepAt afterElement closed numbersOf cellsIn identityOf findCell treeIn treesIn meaningOf meanings join beyond joinWith choiceError chosenFailure identifierError stepError _>>=_ sameParse has allIn kept add addAll ask newest others spend make itemCell failedCall either chosen closingCode begin withCell withToken complete counted variants oneRun roundsRun runCall named runIdentifier plainNext listNext stops nested reentry enter enterChild followMore follow followed stepUnit orAbsent choice listing steps runner run cellNumbers parseNumbers written wholeValues allAre firstHigh byValues atEnd onBook answerOf
 vectors121 = record { v121 = refl; v122 = refl; v123 = refl; v124 = refl; v125 = refl; v126 = refl; v127 = refl; v128 = refl; v129 = refl; v130 = refl; v131 = refl; v132 = refl; v133 = refl; v134 = refl; v135 = refl; v136 = refl; v137 = refl; v138 = refl; v139 = refl; v140 = refl }
 
 record Vectors141 : Type 0 where
@@ -393,7 +393,7 @@ record Vectors141 : Type 0 where
   v160 : call 12288 256 (3 ∷ 0 ∷ 2 ∷ 87 ∷ 49 ∷ 0 ∷ 1 ∷ 97 ∷ 0 ∷ 1 ∷ 95 ∷ 0 ∷ 2 ∷ 1 ∷ 4 ∷ 0 ∷ 2 ∷ 6 ∷ 1 ∷ 1 ∷ 1 ∷ 1 ∷ 1 ∷ 3 ∷ 1 ∷ 1 ∷ 0 ∷ 0 ∷ 1 ∷ 2 ∷ 2 ∷ 1 ∷ 1 ∷ 4 ∷ 2 ∷ 3 ∷ 1 ∷ 1 ∷ 2 ∷ 2 ∷ 0 ∷ 1 ∷ 10 ∷ 3 ∷ 0 ∷ 0 ∷ 0 ∷ 8 ∷ 1 ∷ 0 ∷ 0 ∷ 13 ∷ 1 ∷ 123 ∷ 125 ∷ 8 ∷ 0 ∷ 0 ∷ 0 ∷ 13 ∷ 1 ∷ 123 ∷ 125 ∷ 6 ∷ 0 ∷ 0 ∷ 0 ∷ 8 ∷ 0 ∷ 0 ∷ 0 ∷ 0 ∷ 33 ∷ 0 ∷ 0 ∷ 0 ∷ 33 ∷ 0 ∷ 0 ∷ 8 ∷ 0 ∷ 0 ∷ 0 ∷ []) (105 ∷ 102 ∷ 49 ∷ 32 ∷ 98 ∷ 32 ∷ 32 ∷ []) 0 171 ≡ gives (answer 30 0 11 0 14 0 0) (zeros 12288 0) (zeros 256 0)
 
 vectors141 : Vectors141
-unfolding classOf leading spanEnd commentAt commentEnd roundEnd skipRounds skipFrom identifierAt decimal numberOf numberAt same isReserved lookupFrom checked row spelling entry nonterminal variant stepOf step allPass ended entireBook checkBook outwards govern governor isSome characterEnd identifierEnd reservedAt freeEnd variableAt hasClaimant stepAt afterElement closed numbersOf cellsIn identityOf findCell treeIn treesIn meaningOf meanings join beyond joinWith choiceError chosenFailure identifierError stepError _>>=_ sameParse has allIn kept add addAll ask newest others spend make itemCell failedCall either chosen closingCode begin withCell withToken complete counted variants oneRun roundsRun runCall named runIdentifier plainNext listNext stops nested reentry enter enterChild followMore follow followed stepUnit orAbsent choice listing steps runner run cellNumbers parseNumbers written wholeValues allAre firstHigh byValues atEnd onBook answerOf
+unfolding classOf leading spanEnd commentAt commentEnd roundEnd skipRounds skipFrom identifierAt decimal numberOf numberAt same isReserved lookupFrom checked records spelling entry nonterminal variant stepOf step allPass ended entireBook checkBook outwards govern governor isSome characterEnd identifierEnd reservedAt freeEnd variableAt hasClaimant stepAt afterElement closed numbersOf cellsIn identityOf findCell treeIn treesIn meaningOf meanings join beyond joinWith choiceError chosenFailure identifierError stepError _>>=_ sameParse has allIn kept add addAll ask newest others spend make itemCell failedCall either chosen closingCode begin withCell withToken complete counted variants oneRun roundsRun runCall named runIdentifier plainNext listNext stops nested reentry enter enterChild followMore follow followed stepUnit orAbsent choice listing steps runner run cellNumbers parseNumbers written wholeValues allAre firstHigh byValues atEnd onBook answerOf
 vectors141 = record { v141 = refl; v142 = refl; v143 = refl; v144 = refl; v145 = refl; v146 = refl; v147 = refl; v148 = refl; v149 = refl; v150 = refl; v151 = refl; v152 = refl; v153 = refl; v154 = refl; v155 = refl; v156 = refl; v157 = refl; v158 = refl; v159 = refl; v160 = refl }
 
 record Vectors161 : Type 0 where
@@ -439,5 +439,5 @@ record Vectors161 : Type 0 where
   v180 : call 12288 256 (0 ∷ 2 ∷ 0 ∷ 1 ∷ 97 ∷ 0 ∷ 1 ∷ 84 ∷ 2 ∷ 0 ∷ 1 ∷ 0 ∷ 2 ∷ 3 ∷ 1 ∷ 2 ∷ 0 ∷ 3 ∷ 255 ∷ 3 ∷ 1 ∷ 1 ∷ 0 ∷ 2 ∷ 1 ∷ 1 ∷ 5 ∷ 7 ∷ 0 ∷ 0 ∷ 0 ∷ 10 ∷ 1 ∷ 0 ∷ 0 ∷ 7 ∷ 0 ∷ 0 ∷ 0 ∷ 2 ∷ 0 ∷ 0 ∷ 0 ∷ 8 ∷ 0 ∷ 0 ∷ 0 ∷ []) (97 ∷ 32 ∷ 102 ∷ 111 ∷ 111 ∷ 32 ∷ 120 ∷ 120 ∷ []) 0 1000000 ≡ gives (answer 0 0 0 0 51 4 25) (1 ∷ 0 ∷ 0 ∷ 8 ∷ 1 ∷ 0 ∷ 2 ∷ 1 ∷ 2 ∷ 3 ∷ 0 ∷ 3 ∷ 4 ∷ 0 ∷ 1 ∷ 2 ∷ 1 ∷ 5 ∷ 3 ∷ 1 ∷ 6 ∷ 2 ∷ 1 ∷ 7 ∷ 8 ∷ 8 ∷ 0 ∷ 2 ∷ 1 ∷ 9 ∷ 3 ∷ 0 ∷ 10 ∷ 4 ∷ 2 ∷ 3 ∷ 2 ∷ 1 ∷ 12 ∷ 3 ∷ 1 ∷ 13 ∷ 2 ∷ 8 ∷ 14 ∷ 8 ∷ 15 ∷ 0 ∷ 2 ∷ 1 ∷ 16 ∷ 3 ∷ 0 ∷ 17 ∷ 4 ∷ 6 ∷ 2 ∷ 2 ∷ 1 ∷ 19 ∷ 3 ∷ 1 ∷ 20 ∷ 2 ∷ 15 ∷ 21 ∷ 8 ∷ 22 ∷ 0 ∷ 2 ∷ 1 ∷ 23 ∷ 3 ∷ 0 ∷ 24 ∷ zeros 12213 0) (0 ∷ 1 ∷ 2 ∷ 4 ∷ 1 ∷ 1 ∷ 2 ∷ 11 ∷ 5 ∷ 1 ∷ 2 ∷ 18 ∷ 8 ∷ 1 ∷ 2 ∷ 25 ∷ zeros 240 0)
 
 vectors161 : Vectors161
-unfolding classOf leading spanEnd commentAt commentEnd roundEnd skipRounds skipFrom identifierAt decimal numberOf numberAt same isReserved lookupFrom checked row spelling entry nonterminal variant stepOf step allPass ended entireBook checkBook outwards govern governor isSome characterEnd identifierEnd reservedAt freeEnd variableAt hasClaimant stepAt afterElement closed numbersOf cellsIn identityOf findCell treeIn treesIn meaningOf meanings join beyond joinWith choiceError chosenFailure identifierError stepError _>>=_ sameParse has allIn kept add addAll ask newest others spend make itemCell failedCall either chosen closingCode begin withCell withToken complete counted variants oneRun roundsRun runCall named runIdentifier plainNext listNext stops nested reentry enter enterChild followMore follow followed stepUnit orAbsent choice listing steps runner run cellNumbers parseNumbers written wholeValues allAre firstHigh byValues atEnd onBook answerOf
+unfolding classOf leading spanEnd commentAt commentEnd roundEnd skipRounds skipFrom identifierAt decimal numberOf numberAt same isReserved lookupFrom checked records spelling entry nonterminal variant stepOf step allPass ended entireBook checkBook outwards govern governor isSome characterEnd identifierEnd reservedAt freeEnd variableAt hasClaimant stepAt afterElement closed numbersOf cellsIn identityOf findCell treeIn treesIn meaningOf meanings join beyond joinWith choiceError chosenFailure identifierError stepError _>>=_ sameParse has allIn kept add addAll ask newest others spend make itemCell failedCall either chosen closingCode begin withCell withToken complete counted variants oneRun roundsRun runCall named runIdentifier plainNext listNext stops nested reentry enter enterChild followMore follow followed stepUnit orAbsent choice listing steps runner run cellNumbers parseNumbers written wholeValues allAre firstHigh byValues atEnd onBook answerOf
 vectors161 = record { v161 = refl; v162 = refl; v163 = refl; v164 = refl; v165 = refl; v166 = refl; v167 = refl; v168 = refl; v169 = refl; v170 = refl; v171 = refl; v172 = refl; v173 = refl; v174 = refl; v175 = refl; v176 = refl; v177 = refl; v178 = refl; v179 = refl; v180 = refl }

@@ -78,10 +78,10 @@ use Rattle.transitions.proofs.after_variant.Reads as after-variant-reads
 use Rattle.transitions.proofs.without_failure.Reads as without-failure-reads
 use Rattle.transitions.proofs.done.Reads as done-reads
 use Rattle.transitions.proofs.goes_on.Reads as goes-on-reads
-use Rattle.transitions.proofs.both.Reads as both-reads
+use Rattle.transitions.proofs.both_sides.Reads as both-sides-reads
 use Rattle.transitions.proofs.finish.Reads as finish-reads
 use Rattle.transitions.proofs.first_side.Reads as first-side-reads
-use Rattle.transitions.proofs.joined.Reads as joined-reads
+use Rattle.transitions.proofs.after_parse.Reads as after-parse-reads
 use Rattle.transitions.proofs.next_of.Reads as next-of-reads
 use Rattle.transitions.proofs.take_step.Reads as take-step-reads
 use cycle.{
@@ -220,8 +220,8 @@ parser·choice-callees t = (
   parser·steps.Post,
   parser·descend-below t,
   parser·descend.Post,
-  both-reads.Asked,
-  both-reads.Learnt,
+  both-sides-reads.Asked,
+  both-sides-reads.Learnt,
 )
 
 abbrev parser·descend-callees : ℕ → parser·descend-lts.Claims
@@ -248,8 +248,8 @@ parser·follow-callees t = (
   next-of-reads.Learnt,
   parser·steps-below t,
   parser·steps.Post,
-  joined-reads.Asked,
-  joined-reads.Learnt,
+  after-parse-reads.Asked,
+  after-parse-reads.Learnt,
 )
 
 abbrev parser·one-run-callees : ℕ → parser·one-run-lts.Claims
@@ -683,9 +683,9 @@ parser·choice-descend-requires t c κs =
       ),
     )
 
-parser·choice-both-requires : (t : ℕ) →
-    parser·choice-lts.Need-both-requires (parser·choice-callees t) (parser·choice-at t) parser·choice.Post
-parser·choice-both-requires t c κs =
+parser·choice-both-sides-requires : (t : ℕ) →
+    parser·choice-lts.Need-both-sides-requires (parser·choice-callees t) (parser·choice-at t) parser·choice.Post
+parser·choice-both-sides-requires t c κs =
     let start = c .before .before .before .before .before .before .before .before .before .before .before .before
     .before .before .before .before .before .before .before .before .before .before .before .before .before .before in
     let steps = c .before .before .before .before .before .before .before .before .before .before .before .before
@@ -722,9 +722,9 @@ parser·choice-returns-2 t c =
     .before .before .before .steps in
     let if1 = c .before .before .before .before .before .before .before .before .before .if1 in
     let descend = c .before .before .before .before .before .before .descend in
-    let both = c .both in
+    let both-sides = c .both-sides in
     choice-both _ _ _ _ _ _ _ _ _ _ _ _ _ _ _ _ _ _ _ (first-side .ensures) (steps .ensures) (if1 .left) _ _ _ _
-    (descend .ensures) (both .ensures)
+    (descend .ensures) (both-sides .ensures)
 
 parser·descend-begin-child-requires : (t : ℕ) →
     parser·descend-lts.Need-begin-child-requires (parser·descend-callees t) (parser·descend-at t) parser·descend.Post
@@ -932,12 +932,13 @@ parser·follow-returns-3 t c =
     let next-of =
     c .before .before .before .before .before .before .before .before .before .before .before .before .next-of in
     let steps = c .before .before .before .before .before .before .before .steps in
-    let joined = c .before .before .joined in
+    let after-parse = c .before .before .after-parse in
     let if3 = c .if3 in
     follow-whole _ _ _ _ _ _ _ _ _ _ _ _ _ _ _ _
     (sym (goes-on .ensures) ∙ not-false _ (if1 .left)) (parse-count .ensures)
     (follow-stop _ _ _ _ _ _ _ _ _ _ _ _ _ _ (table (loop .rows)) (loop .all) (loop .inv .4) (loop-test .taken)
-    (if2 .left) _ (nth-parse .ensures) _ _ _ _ _ _ (next-of .ensures) (steps .ensures) (joined .ensures) (if3 .taken))
+    (if2 .left) _ (nth-parse .ensures) _ _ _ _ _ _ (next-of .ensures) (steps .ensures) (after-parse .ensures)
+    (if3 .taken))
 
 parser·follow-add-i : (t : ℕ) →
     parser·follow-lts.Need-add-i (parser·follow-callees t) (parser·follow-at t) parser·follow.Post
@@ -972,7 +973,7 @@ parser·follow-loop-again t c =
     let next-of =
     c .before .before .before .before .before .before .before .before .before .before .before .before .next-of in
     let steps = c .before .before .before .before .before .before .before .steps in
-    let joined = c .before .before .joined in
+    let after-parse = c .before .before .after-parse in
     let if3 = c .if3 in (
       omega (arith, loop-test .taken),
       steps .kept .1 .1 .1 .0 ∙ next-of .kept .1 .1 .1 .0 ∙ loop .inv .1,
@@ -980,7 +981,7 @@ parser·follow-loop-again t c =
       if3 .left,
       follow-again _ _ _ _ _ _ _ _ _ _ _ _ _ _ (table (loop .rows)) (loop .all) (loop .inv .4) (loop-test .taken)
           (if2 .left) _ (nth-parse .ensures) _ _ _ _ _ _ (next-of .ensures) (steps .ensures)
-          (joined .ensures) (if3 .left),
+          (after-parse .ensures) (if3 .left),
     )
 
 parser·follow-same-length-5 : (t : ℕ) →
@@ -1571,7 +1572,7 @@ pub +left-recursion·enter+left-recursion·rounds+left-recursion·run-call+parse
     (left-recursion·run-call-returns-2 t)) (λ t. parser·choice-lts.spec (parser·choice-callees t) (parser·choice-at t)
     parser·choice.Post (parser·choice-first-side-requires t) (parser·choice-steps-requires t)
     (parser·choice-same-length t) (parser·choice-same-length-2 t) (parser·choice-returns t)
-    (parser·choice-descend-requires t) (parser·choice-both-requires t) (parser·choice-same-length-3 t)
+    (parser·choice-descend-requires t) (parser·choice-both-sides-requires t) (parser·choice-same-length-3 t)
     (parser·choice-same-length-4 t) (parser·choice-returns-2 t))
     (λ t. parser·descend-lts.spec (parser·descend-callees t) (parser·descend-at t) parser·descend.Post
     (parser·descend-begin-child-requires t) (parser·descend-enter-requires t) (parser·descend-follow-requires t)

@@ -11,7 +11,7 @@ use borrow.Author.Tests.{eqb-true}
 use Rattle.characters.specs.Cases.{by-test}
 use Rattle.characters.specs.Classes.{between}
 use Rattle.book.specs.Book.{Book, nthNonterminal, nthVariant, markNumber, stepNumber, nthStep}
-use Rattle.book.specs.Check.{Checked, refused, accepted, andThen, Reader, count, field, row, section}
+use Rattle.book.specs.Check.{Checked, refused, accepted, andThen, Reader, count, field, records, section}
 use Rattle.book.specs.Check.{nonterminal, markOf, passes, allPass, ended, entireBook, Outcome, outcome, checkBook}
 use Rattle.book.specs.ReaderLaws.{between-high, checked-told}
 use Rattle.book.specs.declared.records.Mark.{Mark}
@@ -44,29 +44,29 @@ by-field fits bytes place f e k =
 -- a section was read, whose count passed the test, and then what follows it
 pub by-section : {A B P : Type 0} (fits : ℕ → Bool) (size : A → ℕ) (one : ℕ → Reader A) (bytes : List ℕ) (place : ℕ)
     (f : List A → ℕ → Checked B) {y : B} {end : ℕ} → andThen (section fits size one bytes place) f ≡ accepted y end →
-    ((n start : ℕ) (xs : List A) (at : ℕ) → fits n ≡ true → row size one n 0 bytes start ≡ accepted xs at →
+    ((n start : ℕ) (xs : List A) (at : ℕ) → fits n ≡ true → records size one n 0 bytes start ≡ accepted xs at →
     f xs at ≡ accepted y end → P) → P
 by-section fits size one bytes place f e k =
     by-then (section fits size one bytes place) f e (λ xs at told next.
-    by-then (count fits bytes place) (λ n start. row size one n 0 bytes start) told (λ n start counted read.
+    by-then (count fits bytes place) (λ n start. records size one n 0 bytes start) told (λ n start counted read.
     k n start xs at (checked-told fits 4 place bytes place n start counted .fitted) read next))
 
--- What holds of every record that `one` reads holds of all records of a row; d stands for one that the row doesn't have
+-- What holds of every record that `one` reads holds of all records; d stands for one that there isn't
 module _ {A : Type 0} (size : A → ℕ) (one : ℕ → Reader A) (P : A → Type 0) (bytes : List ℕ)
     (each : (sum place : ℕ) (x : A) (end : ℕ) → one sum bytes place ≡ accepted x end → P x) (d : A) (beyond : P d) where
   at-number : (i : ℕ) (x : A) (xs : List A) → P x → ((k : ℕ) → P (getD xs k d)) → P (getD (x ∷ xs) i d)
   at-number zero x xs here others = here
   at-number (suc i) x xs here others = others i
 
-  row-each : (n sum place : ℕ) {xs : List A} {end : ℕ} → row size one n sum bytes place ≡ accepted xs end →
+  records-each : (n sum place : ℕ) {xs : List A} {end : ℕ} → records size one n sum bytes place ≡ accepted xs end →
       (i : ℕ) → P (getD xs i d)
-  unfolding row
-  row-each zero sum place e i = subst (λ (l : List A). P (getD l i d)) (accepted-inj e) beyond
-  row-each (suc n) sum place e i =
+  unfolding records
+  records-each zero sum place e i = subst (λ (l : List A). P (getD l i d)) (accepted-inj e) beyond
+  records-each (suc n) sum place e i =
       by-then _ _ e (λ x at told next.
       by-then _ _ next (λ xs end others all.
       subst (λ (l : List A). P (getD l i d)) (accepted-inj all)
-      (at-number i x xs (each sum place x at told) (row-each n (sum + size x) at others))))
+      (at-number i x xs (each sum place x at told) (records-each n (sum + size x) at others))))
 
 -- ---- Nonterminals
 -- mark 2 is "with 0 variants"
@@ -127,7 +127,7 @@ whole-facts bytes book end e =
     by-then (allPass steps variants bytes at₅) _ e₅ (λ _ at₆ passed e₆.
     by-then (ended bytes at₆) _ e₆ (λ _ _ _ all.
     subst Facts (accepted-inj all) (record {
-      fits = row-each _ _ Fits bytes (nonterminal-fits bytes) _ (λ two. refl) n 0 start read;
+      fits = records-each _ _ Fits bytes (nonterminal-fits bytes) _ (λ two. refl) n 0 start read;
       pass = all-pass steps _ refl variants bytes at₅ passed;
     }))))))))
 

@@ -2,7 +2,7 @@
 use native.Mathlib.Omega.{arith}
 use borrow.Author.Needs.{needs}
 use Rattle.book.specs.ReaderLaws.{read, stopped}
-use Rattle.book.specs.RowLaws.{section-stop, section-read, count-fits}
+use Rattle.book.specs.SectionLaws.{section-stop, section-read, count-fits}
 use Rattle.book.proofs.sections.section.Statement.{statement}
 use Rattle.book.proofs.sections.section.Tie as tie
 
@@ -12,8 +12,8 @@ returns c =
     let told = c .enum-told .given .1 in
     section-stop _ _ _ _ _ _ _ _ (stopped _ _ _ (field .ensures) told) told
 
-row-requires : tie.Need-row-requires
-row-requires c κs =
+records-requires : tie.Need-records-requires
+records-requires c κs =
     let args = c .before .before .before .before .before .before .before .before .before .before .before .args in
     let field = c .before .before .before .before .before .before .before .before .field in
     let count = c .before .before .before .before .before .before .count in
@@ -33,14 +33,14 @@ returns-2 c =
     let pre = c .before .before .before .before .before .before .before .before .before .before .before
     .before .before .before .pre in
     let put = c .before .before .before .before .before .before .put in
-    let row = c .before .before .row in
+    let records = c .before .before .records in
     let count-read = read _ _ _ (field .ensures) (count .given .1) in
     let few = count-fits (args .low) (args .high) (args .book .now) (args .place) _ _ count-read in
-    section-read _ _ _ _ _ _ _ _ _ count-read few _ _ _ (omega (arith, pre .0)) (put .ensures) (row .ensures)
+    section-read _ _ _ _ _ _ _ _ _ count-read few _ _ _ (omega (arith, pre .0)) (put .ensures) (records .ensures)
 
 pub section-spec : {M : Type 1} → statement M
 section-spec =
     tie.close
     (tie.spec
-    (λ c κs. search needs) (λ c. search needs) (λ c. search needs) returns (λ c κs. search needs) row-requires
+    (λ c κs. search needs) (λ c. search needs) (λ c. search needs) returns (λ c κs. search needs) records-requires
     (λ c. search needs) returns-2)

@@ -24,7 +24,7 @@ returns-2 c =
       sym (free-end .ensures) ∙ ap endOf (end .given .1),
       stepAt,
       sym (skip .ensures),
-      sym (c .length .ensures),
+      sym (c .span-length .ensures),
     )
 
 pub identifier-spec : {M : Type 1} → statement M

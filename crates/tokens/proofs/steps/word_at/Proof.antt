@@ -19,7 +19,7 @@ returns-2 c =
     let skip = c .before .before .before .before .before .before .before .before .before .before .skip in
     let identifier-end = c .before .before .before .before .before .before .before .before .before .identifier-end in
     let end = c .before .before .before .before .before .before .before .end in
-    let length = c .before .before .before .before .before .length in
+    let span-length = c .before .before .before .before .before .span-length in
     let part = c .before .before .before .before .part in
     let word = c .before .before .before .word in
     let same-bytes = c .before .before .same-bytes in
@@ -30,7 +30,7 @@ returns-2 c =
       ends,
       stepAt,
       sym (skip .ensures),
-      sym (length .ensures),
+      sym (span-length .ensures),
       sym (part .ensures),
       sym (word .ensures),
       test,
@@ -42,7 +42,7 @@ returns-3 c =
     let skip = c .before .before .before .before .before .before .before .before .before .skip in
     let identifier-end = c .before .before .before .before .before .before .before .before .identifier-end in
     let end = c .before .before .before .before .before .before .end in
-    let length = c .before .before .before .before .length in
+    let span-length = c .before .before .before .before .span-length in
     let part = c .before .before .before .part in
     let word = c .before .before .word in
     let ends = sym (identifier-end .ensures) ∙ ap endOf (end .given .1) in
@@ -52,7 +52,7 @@ returns-3 c =
       ends,
       stepAt,
       sym (skip .ensures),
-      sym (length .ensures),
+      sym (span-length .ensures),
       sym (part .ensures),
       sym (word .ensures),
       test,

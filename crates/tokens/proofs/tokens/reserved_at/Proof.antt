@@ -17,7 +17,7 @@ unfolding reservedAt
 returns-2 c =
     let identifier-end = c .before .before .before .before .before .identifier-end in
     let end = c .before .before .before .end in
-    rw (sym (identifier-end .ensures) ∙ ap endOf (end .given .1), reservedAt, sym (c .before .length .ensures))
+    rw (sym (identifier-end .ensures) ∙ ap endOf (end .given .1), reservedAt, sym (c .before .span-length .ensures))
     (c .is-reserved .ensures)
 
 pub reserved-at-spec : {M : Type 1} → statement M

@@ -17,12 +17,12 @@ unfolding variableAt
 returns-2 c =
     let free-end = c .before .before .before .before .before .before .before .before .free-end in
     let end = c .before .before .before .before .before .before .end in
-    let length = c .before .before .before .before .length in
+    let span-length = c .before .before .before .before .span-length in
     let lookup = c .before .before .before .lookup in
     rw (
       sym (free-end .ensures) ∙ ap endOf (end .given .1),
       variableAt,
-      sym (length .ensures),
+      sym (span-length .ensures),
       sym (lookup .ensures) ∙ c .before .number .given .1,
     )
 
@@ -31,12 +31,12 @@ unfolding variableAt
 returns-3 c =
     let free-end = c .before .before .before .before .before .before .before .free-end in
     let end = c .before .before .before .before .before .end in
-    let length = c .before .before .before .length in
+    let span-length = c .before .before .before .span-length in
     let lookup = c .before .before .lookup in
     rw (
       sym (free-end .ensures) ∙ ap endOf (end .given .1),
       variableAt,
-      sym (length .ensures),
+      sym (span-length .ensures),
       sym (lookup .ensures) ∙ c .enum-told2 .given .1,
     )
 

@@ -56,12 +56,12 @@ cast-name c =
     .before .before .before .before .before .before .before .before .before .pre in
     let free-end = c .before .before .before .before .before .free-end in
     let end = c .before .before .before .end in
-    let length = c .before .length in
+    let span-length = c .before .span-length in
     omega (
       arith,
       free-end-fits (bookIn (args .book .now) (args .index .now)) (args .text .now) (args .at) _
           (pre .2 .short) (sym (sym (ap endOf (end .given .1)) ∙ free-end .ensures)),
-      length .ensures,
+      span-length .ensures,
     )
 
 same-length-4 : tie.Need-same-length-4
@@ -91,15 +91,16 @@ returns-3 c =
     let free-end = c .before .before .before .before .before .before .before .before .before .before .before
     .before .before .free-end in
     let end = c .before .before .before .before .before .before .before .before .before .before .before .end in
-    let length = c .before .before .before .before .before .before .before .before .before .length in
+    let span-length = c .before .before .before .before .before .before .before .before .before
+    .span-length in
     let name = c .before .before .before .before .before .before .before .name in
     let make = c .before .before .before .before .before .before .make in
     let if2 = c .before .if2 in
     identifier-full (bookIn (args .book .now) (args .index .now)) (args .text .now) (args .store .now)
     (table (args .rows .now)) _ _ (args .row) (args .nonterminal) (args .at) (args .state) _
     (table-below (args .rows .now) (args .row) (pre .0)) (clear-set .ensures) (end-call .ensures)
-    (claimed .ensures) _ _ _ _ _ _ (if1 .left) (free-end .ensures) (end .given .1) (length .ensures) (name .ensures)
-    (make .ensures) _ (if2 .taken) (c .without-failure .ensures)
+    (claimed .ensures) _ _ _ _ _ _ (if1 .left) (free-end .ensures) (end .given .1) (span-length .ensures)
+    (name .ensures) (make .ensures) _ (if2 .taken) (c .without-failure .ensures)
 
 cast-t29 : tie.Need-cast-t29
 cast-t29 c =
@@ -160,8 +161,9 @@ returns-4 c =
     .before .before .before .before .before .free-end in
     let end = c .before .before .before .before .before .before .before .before .before .before .before .before
     .before .before .before .end in
-    let length =
-    c .before .before .before .before .before .before .before .before .before .before .before .before .before .length in
+    let span-length =
+    c .before .before .before .before .before .before .before .before .before .before .before .before .before
+    .span-length in
     let name = c .before .before .before .before .before .before .before .before .before .before .before .name in
     let make = c .before .before .before .before .before .before .before .before .before .before .make in
     let if2 = c .before .before .before .before .before .if2 in
@@ -169,8 +171,8 @@ returns-4 c =
     identifier-named (bookIn (args .book .now) (args .index .now)) (args .text .now) (args .store .now)
     (table (args .rows .now)) _ _ (args .row) (args .nonterminal) (args .at) (args .state) _
     (table-below (args .rows .now) (args .row) (pre .0)) (clear-set .ensures) (end-call .ensures)
-    (claimed .ensures) _ _ _ _ _ _ (if1 .left) (free-end .ensures) (end .given .1) (length .ensures) (name .ensures)
-    (make .ensures) _ _ (if2 .left) (put-one .ensures) (c .done3 .ensures)
+    (claimed .ensures) _ _ _ _ _ _ (if1 .left) (free-end .ensures) (end .given .1) (span-length .ensures)
+    (name .ensures) (make .ensures) _ _ (if2 .left) (put-one .ensures) (c .done3 .ensures)
 
 pub run-identifier-spec : {M : Type 1} → statement M
 run-identifier-spec =

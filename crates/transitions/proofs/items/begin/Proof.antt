@@ -13,7 +13,8 @@ returns c =
     let store = args .store .now in
     let is-passing = c .before .before .is-passing in
     let if1 = c .before .if1 in
-    begin-passing book text (args .j) _ (is-passing .ensures) (args .state) _ store (if1 .taken) (c .got .ensures)
+    begin-passing book text (args .j) _ (is-passing .ensures) (args .state) _ store (if1 .taken)
+    (c .cell-outcome .ensures)
 
 returns-2 : tie.Need-returns-2
 returns-2 c =

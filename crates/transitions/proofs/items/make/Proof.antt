@@ -12,7 +12,7 @@ returns c =
     let store = args .store .now in
     let make = c .before .before .before .before .before .before .make in
     let cell = c .before .before .cell in
-    makes-at text store _ (args .state) (args .c) _ _ _ _ (make .ensures) (cell .given .1) (c .got .ensures)
+    makes-at text store _ (args .state) (args .c) _ _ _ _ (make .ensures) (cell .given .1) (c .cell-outcome .ensures)
 
 returns-2 : tie.Need-returns-2
 returns-2 c =

@@ -14,7 +14,7 @@ returns c =
     let is-passing = c .before .before .is-passing in
     let if1 = c .before .if1 in
     with-passing book text (args .j) _ (is-passing .ensures) (args .state) _ store (args .items) (args .item)
-    (if1 .taken) (c .got .ensures)
+    (if1 .taken) (c .cell-outcome .ensures)
 
 returns-2 : tie.Need-returns-2
 returns-2 c =

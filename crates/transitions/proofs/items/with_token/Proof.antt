@@ -47,7 +47,7 @@ returns-3 c =
     let adds = c .before .before .adds in
     let if1 = c .before .if1 in
     token-nothing book text (args .j) (args .items) (itemOf (args .item)) (args .state) store _ _ (adds .ensures)
-    (if1 .left) (c .got .ensures)
+    (if1 .left) (c .cell-outcome .ensures)
 
 pub with-token-spec : {M : Type 1} → statement M
 with-token-spec =

@@ -1,14 +1,14 @@
--- `book::row` meets its contract. The invariant (`Begun` of RowLaws): what has been read and what is read from here
--- make the whole row.
+-- `book::records` meets its contract. The invariant (`Begun` of SectionLaws): what has been read and what is read
+-- from here make all of them.
 use mathlib.Core.Path.{_≡_, refl, _∙_}
 use Prim.Native.Nat.{_-_, _*_, _≤_}
 use native.Mathlib.Omega.{arith}
 use lib.ListN.{length}
 use borrow.Author.Needs.{needs}
 use Rattle.book.specs.ReaderLaws.{small-of}
-use Rattle.book.specs.RowLaws.{Begun, begun-first, begun-on, begun-stop, begun-last, stored-by}
-use Rattle.book.proofs.sections.row.Statement.{statement}
-use Rattle.book.proofs.sections.row.Tie as tie
+use Rattle.book.specs.SectionLaws.{Begun, begun-first, begun-on, begun-stop, begun-last, stored-by}
+use Rattle.book.proofs.sections.records.Statement.{statement}
+use Rattle.book.proofs.sections.records.Tie as tie
 
 abbrev Inv-loop : tie.InvT-loop
 Inv-loop book place sort count index₀ base i₀ at₀ sum₀ index i at sum =
@@ -139,8 +139,8 @@ same-length-2 c = c .before .loop .inv .1
 returns-2 : tie.Need-returns-2 Inv-loop μ-loop
 returns-2 c = begun-last _ _ _ _ _ _ _ _ _ _ (c .before .loop .inv .0) (c .loop-test .left) (c .before .loop .inv .3)
 
-pub row-spec : {M : Type 1} → statement M
-row-spec =
+pub records-spec : {M : Type 1} → statement M
+records-spec =
     tie.close
     (tie.spec
     Inv-loop μ-loop loop-holds add-slot mul-slot add-slot-2 put-requires add-put put-requires-2 one-record-requires

@@ -1,9 +1,9 @@
--- `transitions::both` meets its contract.
+-- `transitions::both_sides` meets its contract.
 use Rattle.calls.specs.Table.{table}
 use Rattle.transitions.specs.NextLaws.{both-limit, both-chosen}
 use borrow.Author.Needs.{needs}
-use Rattle.transitions.proofs.choices.both.Statement.{statement}
-use Rattle.transitions.proofs.choices.both.Tie as tie
+use Rattle.transitions.proofs.choices.both_sides.Statement.{statement}
+use Rattle.transitions.proofs.choices.both_sides.Tie as tie
 
 returns : tie.Need-returns
 returns c =
@@ -27,8 +27,8 @@ returns-2 c =
     (failure-of .result) (failure-of2 .result) (chosen .result) (if1 .left) (nonterminal-of .ensures) (skipped .ensures)
     (failure-of .ensures) (failure-of2 .ensures) (chosen .ensures) (c .done .ensures)
 
-pub both-spec : {M : Type 1} → statement M
-both-spec =
+pub both-sides-spec : {M : Type 1} → statement M
+both-sides-spec =
     tie.close
     (tie.spec
     returns (λ c κs. search needs) (λ c κs. search needs) (λ c κs. search needs) (λ c κs. search needs)

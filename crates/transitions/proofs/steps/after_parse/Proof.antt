@@ -1,8 +1,8 @@
--- `transitions::joined` meets its contract.
+-- `transitions::after_parse` meets its contract.
 use Rattle.transitions.specs.NextLaws.{joined-limit, joined-first, joined-both}
 use borrow.Author.Needs.{needs}
-use Rattle.transitions.proofs.steps.joined.Statement.{statement}
-use Rattle.transitions.proofs.steps.joined.Tie as tie
+use Rattle.transitions.proofs.steps.after_parse.Statement.{statement}
+use Rattle.transitions.proofs.steps.after_parse.Tie as tie
 
 returns : tie.Need-returns
 returns c =
@@ -26,8 +26,8 @@ returns-3 c =
     joined-both (args .i) (args .before) (args .o) _ (first .result) (second .result) (either .result) (if1 .left)
     (if2 .left) (first .ensures) (second .ensures) (either .ensures) (c .done .ensures)
 
-pub joined-spec : {M : Type 1} → statement M
-joined-spec =
+pub after-parse-spec : {M : Type 1} → statement M
+after-parse-spec =
     tie.close
     (tie.spec
     returns returns-2 (λ c κs. search needs) (λ c κs. search needs) (λ c κs. search needs) (λ c κs. search needs)

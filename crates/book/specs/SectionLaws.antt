@@ -1,9 +1,9 @@
--- Laws of a row of records with its index, in which two numbers are stored for each record.
+-- Laws of records with its index, in which two numbers are stored for each record.
 --
 --   upTo-                 a list of a function's values
 --   Stored, stored        two numbers stored side by side
 --   Begun, begun-         the loop over the records: what has been read stands in the index
---   section-, count-fits  a section: its count and its row
+--   section-, count-fits  a section: its count and its records
 --
 -- Not here: sections one after the other (WholeLaws).
 use mathlib.Core.Path.{_≡_, refl, sym, _∙_}
@@ -15,10 +15,11 @@ use native.Mathlib.Numerals.{add-one}
 use lib.ListN.{length, getD, set, length-set}
 use lib.Seq.{getD-set-same, getD-set-other}
 use Rattle.characters.specs.Classes.{between}
-use Rattle.book.specs.Check.{refused, accepted, checked, row, total}
-use Rattle.book.specs.Index.{KeptOutside, One, Row, Few, Section, oneOf, sizeOf, recordFrom, recordsIn, upTo}
-use Rattle.book.specs.Index.{countIn, placeIn, firstIn}
-use Rattle.book.specs.ReaderLaws.{between-high, checked-told, after, row-begins, row-refused, row-on, row-ends}
+use Rattle.book.specs.Check.{refused, accepted, checked, records, total}
+use Rattle.book.specs.Index.{KeptOutside, One, RecordsRead, Few, Section, oneOf, sizeOf}
+use Rattle.book.specs.Index.{recordFrom, recordsIn, upTo, countIn, placeIn, firstIn}
+use Rattle.book.specs.ReaderLaws.{between-high, checked-told, after}
+use Rattle.book.specs.ReaderLaws.{records-begins, records-refused, records-on, records-ends}
 use Rattle.book.specs.ReaderLaws.{read, stopped, handed, no-value, value-of, total-snoc}
 use Rattle.book.specs.declared.parts.Part.{Part}
 use Rattle.book.specs.declared.sections.Sort.{Sort}
@@ -50,11 +51,11 @@ stored f s a b h =
       others = λ k n m. getD-set-other (set f s a) (s + 1) k b 0 m ∙ getD-set-other f s k a 0 n;
     }
 
--- ---- A row under way: i records have been read, and their numbers stand in the index
+-- ---- Records under way: i records have been read, and their numbers stand in the index
 pub record Begun (sort : Sort) (book : List ℕ) (place count base : ℕ) (f g : List ℕ) (i at sum : ℕ) : Type 0 where
   pub reads : after (sizeOf sort) (oneOf sort) book (recordsIn sort book g base i)
-      (row (sizeOf sort) (oneOf sort) (count - i) sum book at)
-      ≡ row (sizeOf sort) (oneOf sort) count 0 book place
+      (records (sizeOf sort) (oneOf sort) (count - i) sum book at)
+      ≡ records (sizeOf sort) (oneOf sort) count 0 book place
   pub totals : sum ≡ total (sizeOf sort) (recordsIn sort book g base i)
   pub kept : KeptOutside (base + 1) (base + 1 + 2 * count) f g
 
@@ -62,7 +63,7 @@ module _ (sort : Sort) (book : List ℕ) (place count base : ℕ) (f : List ℕ)
   pub begun-first : Begun sort book place count base f f 0 place 0
   unfolding upTo
   begun-first = record {
-    reads = row-begins (sizeOf sort) (oneOf sort) book count 0 place;
+    reads = records-begins (sizeOf sort) (oneOf sort) book count 0 place;
     totals = refl;
     kept = record { below = λ k l. refl; above = λ k l. refl };
   }
@@ -102,31 +103,32 @@ module _ (sort : Sort) (book : List ℕ) (place count base : ℕ) (f : List ℕ)
         let v : value ≡ sizeOf sort x = value-of told (sizeOf sort x) (o .valued sum) in
         record {
           reads = rw (one-more, v)
-              (sym (row-on (sizeOf sort) (oneOf sort) book (recordsIn sort book g base i) count i sum at less e)
+              (sym (records-on (sizeOf sort) (oneOf sort) book (recordsIn sort book g base i) count i sum at less e)
               ∙ b .reads);
           totals = rw (one-more, total-snoc (sizeOf sort) (recordsIn sort book g base i) x, v, b .totals);
           kept = kept-so;
         }
 
     pub begun-stop : (part : Part) {n p : ℕ} → One sort book at part → part ≡ Part.Refused n p →
-        Row sort book place count base f g′ part
+        RecordsRead sort book place count base f g′ part
     begun-stop part o told =
         let x = recordFrom sort book at sum in
         let e = stopped (oneOf sort sum book at) part (λ v. x) (o .reads sum) told in
         record {
           reads = handed _ (sym (b .reads)
-              ∙ row-refused (sizeOf sort) (oneOf sort) book (recordsIn sort book g base i) count i sum at less e) told;
+              ∙ records-refused (sizeOf sort) (oneOf sort) book (recordsIn sort book g base i) count i sum at less e)
+              told;
           valued = no-value told _;
           kept = kept-so;
         }
 
   pub begun-last : (g : List ℕ) (i at sum : ℕ) → i ≤ count → count ≤ i → Begun sort book place count base f g i at sum →
-      Row sort book place count base f g (Part.Read sum at)
+      RecordsRead sort book place count base f g (Part.Read sum at)
   begun-last g i at sum h k b =
       let all : i ≡ count = omega arith in
       record {
         reads = sym (b .reads)
-            ∙ row-ends (sizeOf sort) (oneOf sort) book (recordsIn sort book g base i) count i sum at k ∙ rw all;
+            ∙ records-ends (sizeOf sort) (oneOf sort) book (recordsIn sort book g base i) count i sum at k ∙ rw all;
         valued = rw all at (b .totals);
         kept = b .kept;
       }
@@ -157,7 +159,7 @@ module _ (sort : Sort) (fits : ℕ → Bool) (book : List ℕ) (place high base 
 
   module _ (value next : ℕ) (e : checked fits 4 place book place ≡ accepted value next) (fitted : value ≤ high) where
     pub section-read : (g h : List ℕ) (part : Part) → base < length f → g ≡ set f base value →
-        Row sort book next value base g h part → Section sort fits book place high base f h part
+        RecordsRead sort book next value base g h part → Section sort fits book place high base f h part
     section-read g h part l e′ r =
         let counted : countIn h base ≡ value =
         r .kept .below base (omega arith) ∙ rw e′ (getD-set-same f base value 0 l) in
