@@ -22,6 +22,9 @@
 extern "C" {
 #endif
 
+/* the version of the library that this header describes; CHANGELOG.md tells what each version has */
+#define MIDGEBILLON_VERSION "0.1.0"
+
 /* how many numbers the lists must have */
 enum {
     MIDGEBILLON_CELLS = 12288, /* 4,096 cells of three numbers */
