@@ -5,9 +5,8 @@
 // associativity above 2 as Both. So the contracts hold whatever the slice held, and ask only that a set's 257 numbers
 // lie in the slice and that two sets, of which one is written, lie apart.
 //
-// `has`, `all_in`, `add`, `add_all` and `kept` equal definitions of semantics, specs/Run.antt (`has`, `allIn`, `add`,
-// `addAll`, `kept`), on the sets that the slice gives; no function changes a number but those of the set that it writes
-// (`Only`).
+// `all_in`, `add`, `add_all` and `put_kept` equal definitions of semantics, specs/Run.antt (`allIn`, `add`, `addAll`,
+// `kept`), on the sets that the slice gives; no function changes a number but those of the set that it writes (`Only`).
 //
 // The crate relies on the definitions of book and semantics, and assumes nothing. specs/ has the definitions (Sets) and
 // laws.
