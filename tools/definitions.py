@@ -1,21 +1,21 @@
 #!/usr/bin/env python3
-"""Runs the definitions of `crates/semantics/specs` and `crates/printing/specs` on vectors.
+"""Translates the definitions of `crates/semantics/specs` and `crates/printing/specs`, and those they use, into Python.
 
 The definitions are read as they stand and translated word by word into Python functions; nothing of what they say is
 written again here. What is written here by hand is only what the definitions take from libraries: booleans, numbers,
 lists, options, and the comparisons and list functions of `lib.Dec` and `lib.ListN` (see BUILTINS). Whatever in a file is
 not understood stops the program with the file and the line.
 
-    python3 tools/definitions.py VECTORS.jsonl ...
+    python3 tools/definitions.py --python
 
-compares, for each vector, every number of the answer and of both lists, and the printed line where the vector has it. Values are represented so:
-numbers and booleans as Python's; a list as (head, tail, length), the empty one as NIL; a constructor as a tuple of its
-name and its arguments; a record as a named tuple; a pair as a pair; a function as a Python function.
+prints the Python text. `python3 tools/replay.py --through definitions` runs it on vectors.
+
+Values are represented so: numbers and booleans as Python's; a list as (head, tail, length), the empty one as NIL; a
+constructor as a tuple of its name and its arguments; a record as a named tuple; a pair as a pair; a function as a Python
+function.
 """
 import argparse
 import collections
-import json
-import multiprocessing
 import os
 import re
 import sys
@@ -24,9 +24,8 @@ import threading
 ENTRY = ("semantics", "Answer", "answerOf")
 CHECK = ("book", "Check", "checkBook")
 LINE = ("printing", "Printing", "lineBytes")
-CELLS, PARSES = 12288, 256      # how much of each list the answer writes
-BEYOND = 3                      # how many numbers more are lent, to see that they stay
-FILL = 7                        # what the lent lists hold
+ANSWER = ["refusal", "place", "kind", "argument", "work", "parses", "value"]
+ROOT = os.path.dirname(os.path.dirname(os.path.abspath(__file__)))
 
 
 class NotUnderstood(Exception):
@@ -841,50 +840,7 @@ class Writer:
         return "(lambda %s: %s)(%s)" % (", ".join(given), body, ", ".join(values)) if given else "(%s)" % body
 
 
-# ---- Vectors
-ANSWER = ["refusal", "place", "kind", "argument", "work", "parses", "value"]
-
-
-def expected_list(numbers, size, length):
-    """Untouched where there are no numbers; else these, zeros up to the size, and what was lent beyond it."""
-    if numbers is None:
-        return [FILL] * length
-    return numbers + [0] * (size - len(numbers)) + [FILL] * (length - size)
-
-
-def line(check_book, line_bytes, vector, result):
-    """The line that the definitions print for an answer. Of a book that isn't accepted no name is printed."""
-    outcome = check_book(from_python(bytes.fromhex(vector["book"])))
-    names = outcome[1].f_names if outcome[0] == "Outcome.book" else NIL
-    return bytes(to_python(line_bytes(names, from_python(bytes.fromhex(vector["text"])), result.f_cells, result.f_answer))).decode()
-
-
-def compare(answer_of, check_book, line_bytes, vector):
-    """What differs between the definitions' answer and the vector's."""
-    cells_length = vector.get("cells_len", CELLS + BEYOND)
-    parses_length = vector.get("parses_len", PARSES + BEYOND)
-    result = answer_of(
-        from_python([FILL] * cells_length), from_python([FILL] * parses_length),
-        from_python(bytes.fromhex(vector["book"])), from_python(bytes.fromhex(vector["text"])),
-        vector["start"], vector["allowance"])
-    got = [getattr(result.f_answer, field_name(f)) for f in ANSWER]
-    parses = None if vector["cells"] is None else [n for parse in vector["parses"] or [] for n in parse]
-    differing = []
-    if got != vector["answer"]:
-        differing.append("answer: got %s, expected %s" % (got, vector["answer"]))
-    for name, made, wanted in (
-            ("cells", to_python(result.f_cells), expected_list(vector["cells"], CELLS, cells_length)),
-            ("parses", to_python(result.f_parses), expected_list(parses, PARSES, parses_length))):
-        if made != wanted:
-            at = next((i for i, (a, b) in enumerate(zip(made, wanted)) if a != b), min(len(made), len(wanted)))
-            differing.append("%s differ at %d: got %s .., expected %s .. (answer %s)" % (name, at, made[at:at + 3], wanted[at:at + 3], got))
-    if "printed" in vector:
-        made = line(check_book, line_bytes, vector, result)
-        if made != vector["printed"] + "\n":
-            differing.append("printed: got %r, expected %r" % (made, vector["printed"]))
-    return differing
-
-
+# ---- Running
 def with_deep_stack(work):
     """The definitions call themselves deeply, so they run in a thread with a large stack."""
     result = []
@@ -904,55 +860,37 @@ def with_deep_stack(work):
     return result[0]
 
 
-def judge(task):
-    place, vector = task
-    return place, with_deep_stack(lambda: compare(*DEFINITIONS, vector))
+class Definitions:
+    """The call of document 01 and the line of its answer, as the definitions give them."""
+
+    def __init__(self, root=ROOT):
+        self.program = Program(root)
+        self.answer_of, self.check_book, self.line_bytes = self.program.load(ENTRY, CHECK, LINE)
+
+    def read(self, book, text, start, allowance, cells, parses):
+        """The seven numbers of the answer, both lists after the call, and the line."""
+        return with_deep_stack(lambda: self.called(book, text, start, allowance, cells, parses))
+
+    def called(self, book, text, start, allowance, cells, parses):
+        result = self.answer_of(*map(from_python, (cells, parses, book, text)), start, allowance)
+        answer = [getattr(result.f_answer, field_name(field)) for field in ANSWER]
+        outcome = self.check_book(from_python(book))
+        # of a book that isn't accepted no name is printed
+        names = outcome[1].f_names if outcome[0] == "Outcome.book" else NIL
+        line = self.line_bytes(names, from_python(text), result.f_cells, result.f_answer)
+        return answer, to_python(result.f_cells), to_python(result.f_parses), bytes(to_python(line))
 
 
 def main():
-    global DEFINITIONS
-    options = argparse.ArgumentParser(description="Runs the definitions on vectors and compares every number.")
-    options.add_argument("--root", default=".", help="the repository, with crates/*/specs")
-    options.add_argument("--limit-work", type=int, help="skip vectors whose expected work is more")
-    options.add_argument("--processes", type=int, default=1)
-    options.add_argument("--python", action="store_true", help="print the Python text of the definitions and end")
-    options.add_argument("vectors", nargs="*")
-    options = options.parse_args()
-    program = Program(options.root)
+    options = argparse.ArgumentParser(description=__doc__, formatter_class=argparse.RawDescriptionHelpFormatter)
+    options.add_argument("--python", action="store_true", help="print the Python text of the definitions")
+    if not options.parse_args().python:
+        options.error("nothing to do: see --help")
     try:
-        DEFINITIONS = program.load(ENTRY, CHECK, LINE)
+        print("\n".join(Definitions().program.lines))
     except NotUnderstood as error:
         sys.exit(str(error))
-    if options.python:
-        print("\n".join(program.lines))
-        return 0
-    tasks, skipped = [], 0
-    for path in options.vectors:
-        with open(path, encoding="utf-8") as lines:
-            for number, line in enumerate(lines, 1):
-                vector = json.loads(line)
-                if options.limit_work is not None and vector["answer"][4] > options.limit_work:
-                    skipped += 1
-                else:
-                    tasks.append(("%s:%d" % (path, number), vector))
-    differ = 0
-
-    def report(results):
-        nonlocal differ
-        for place, differing in results:
-            differ += bool(differing)
-            for line in differing:
-                print("%s: %s" % (place, line), flush=True)
-    if options.processes > 1:
-        with multiprocessing.get_context("fork").Pool(options.processes) as pool:
-            report(pool.imap(judge, tasks))
-    else:
-        report(map(judge, tasks))
-    if skipped:
-        print("%d skipped, whose work is above %d" % (skipped, options.limit_work))
-    print("%d vectors, %d differ" % (len(tasks), differ))
-    return 1 if differ else 0
 
 
 if __name__ == "__main__":
-    sys.exit(main())
+    main()

@@ -13,7 +13,7 @@ pub const MOST_WORK: u32 = 1_000_000;
 /// Room for most lines.
 const LINE: usize = 4096;
 
-// Of tools/run_vectors/exported.rt.txt; a slice is a pointer and a length.
+// Of tools/reader/exported.rt.txt; a slice is a pointer and a length.
 #[rustfmt::skip]
 extern "C" {
     fn reader_read_in(

@@ -2,7 +2,8 @@
 // cases there are and how many differ; before that, the number of each that differs.
 //
 // Characters: classes, skipping, tokens, spellings. Books: those of data/books.bin, whose form, and how it was made, is
-// told in tools/book_cases.py: each refusal, and each field of an accepted book. Questions: words and names of a book.
+// told in tools/cases/layer_books.py: each refusal, and each field of an accepted book. Questions: words and names of a
+// book.
 mod classes;
 mod compare;
 mod questions;
