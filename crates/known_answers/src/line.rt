@@ -14,7 +14,7 @@ use printing::Length;
 use printing::print;
 use run::Answer;
 
-// What the room for a line holds before it is printed.
+// What the room for a line holds before it is printed: a byte that no line has.
 const FILL: u8 = 7;
 
 fn wide(byte: u8) -> usize {

@@ -21,7 +21,13 @@ mod vector;
 use replay::Kind;
 use replay::replay;
 
+fn replay_file(path: &[u8], kind: Kind) {
+    let fd = os::open_read(path);
+    replay(fd, kind);
+    libc::close(fd);
+}
+
 fn main() {
-    replay(os::open_read(b"vectors.bin"), Kind::Vector);
-    replay(os::open_read(b"rust.bin"), Kind::Rust);
+    replay_file(b"vectors.bin", Kind::Vector);
+    replay_file(b"rust.bin", Kind::Rust);
 }

@@ -5,12 +5,10 @@ use crate::numbers::size_of;
 use crate::record::RECORD_ROOM;
 use crate::rust;
 use crate::tally;
+use crate::tally::MOST_CASES;
 use crate::tally::Tally;
 use crate::vector;
 use characters::part;
-
-// No list has more records.
-const MOST_RECORDS: u32 = 1000000;
 
 pub enum Kind {
     Vector,
@@ -62,6 +60,9 @@ fn next_record(fd: i32, kind: Kind, bytes: &mut [u8]) -> Next {
     if begun == 0 {
         return Next::End;
     }
+    if begun < head {
+        return Next::Unreadable;
+    }
     let size = record_size(kind, bytes);
     if size < head {
         return Next::Unreadable;
@@ -80,7 +81,7 @@ fn next_record(fd: i32, kind: Kind, bytes: &mut [u8]) -> Next {
 fn replayed(fd: i32, kind: Kind, bytes: &mut [u8]) -> Tally {
     let mut tally = tally::none();
     let mut i = 0;
-    while i < MOST_RECORDS {
+    while i < MOST_CASES {
         let record = next_record(fd, kind, bytes);
         match record {
             Next::Bytes(size) => {
@@ -101,7 +102,6 @@ fn replayed(fd: i32, kind: Kind, bytes: &mut [u8]) -> Tally {
 pub fn replay(fd: i32, kind: Kind) {
     let mut space = [0u8; RECORD_ROOM];
     let tally = replayed(fd, kind, &mut space);
-    libc::close(fd);
     match kind {
         Kind::Vector => tally.write(b" vectors"),
         Kind::Rust => tally.write(b" answers of the Rust"),

@@ -5,7 +5,7 @@ use crate::difference::Part;
 use libc::STDOUT_FILENO;
 
 // No list has more; so the counts fit.
-const MOST: u32 = 1000000;
+pub const MOST_CASES: u32 = 1000000;
 
 pub struct Tally {
     pub cases: u32,
@@ -20,7 +20,7 @@ pub fn none() -> Tally {
 }
 
 fn one_more(n: u32) -> u32 {
-    if n < MOST { n + 1 } else { n }
+    if n < MOST_CASES { n + 1 } else { n }
 }
 
 fn write(bytes: &[u8]) {

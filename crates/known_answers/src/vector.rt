@@ -42,7 +42,7 @@ const PARSES_GIVEN: usize = CELLS_GIVEN + 1;
 pub const HEAD: usize = PARSES_GIVEN + 1;
 
 // What the lists hold before a call.
-const FILL: u32 = 7;
+const FILL: u32 = 4000000007;
 
 // How many numbers more than a call writes there are in each list.
 const BEYOND: usize = 12;
