@@ -3,16 +3,16 @@
 
 The definitions are read as they stand and translated word by word into Python functions; nothing of what they say is
 written again here. What is written here by hand is only what the definitions take from libraries: booleans, numbers,
-lists, options, and the comparisons and list functions of `lib.Dec` and `lib.ListN` (see BUILTINS). Whatever in a file is
-not understood stops the program with the file and the line.
+lists, options, and the comparisons and list functions of `lib.Dec` and `lib.ListN` (see BUILTINS). Whatever in a file
+is not understood stops the program with the file and the line.
 
     python3 tools/definitions.py --python
 
 prints the Python text. `python3 tools/replay.py --through definitions` runs it on vectors.
 
 Values are represented so: numbers and booleans as Python's; a list as (head, tail, length), the empty one as NIL; a
-constructor as a tuple of its name and its arguments; a record as a named tuple; a pair as a pair; a function as a Python
-function.
+constructor as a tuple of its name and its arguments; a record as a named tuple; a pair as a pair; a function as a
+Python function.
 """
 import argparse
 import collections

@@ -32,8 +32,8 @@ import sys
 
 from cases import cut, layer_books, program_files
 from cases.vectors import read, record
-from reader import ROOT
 
+ROOT = os.path.dirname(os.path.dirname(os.path.abspath(__file__)))
 WHOLE = ["open", "damaged", "reading", "deep"]  # in the order in which books.bin has their books
 
 # The content of a list's files by their paths; how many cases it has and which program counts them, None if none does;
@@ -60,7 +60,11 @@ def cut_list(folder):
 
 
 def vectors_list():
-    vectors = [vector for _, vector in read(sorted(glob.glob(f"{ROOT}/vectors/*.jsonl")))]
+    vectors = []
+    for path in sorted(glob.glob(f"{ROOT}/vectors/*.jsonl")):
+        found = [vector for _, vector in read([path])]
+        print(f"vectors: {len(vectors) + 1} to {len(vectors) + len(found)} are those of {os.path.basename(path)}")
+        vectors += found
     shown = cut.coverage(vectors)
     for sort, counts in shown.items():
         print(f"vectors: {sort}", ", ".join(f"{number}: {count}" for number, count in counts.items()))

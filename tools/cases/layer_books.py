@@ -144,7 +144,8 @@ def boundaries():
     yield one((14, 0, 0, 0)), 6, 11
     yield one((255, 0, 0, 0)), 6, 11
     for n in range(5):
-        yield one(IDENTIFIER_STEP)[: 11 + n] if n < 4 else one(IDENTIFIER_STEP), 3 if n < 4 else 0, 11 + n if n < 4 else 0
+        whole = one(IDENTIFIER_STEP)
+        yield whole[: 11 + n], 3 if n < 4 else 0, 11 + n if n < 4 else 0
     # passing variants
     for flags in (2, 3):
         yield one(NONTERMINAL_STEP, (), flags), 0, 0

@@ -4,7 +4,9 @@ example.book is document 01's example book; right, none and both are the same wi
 forms.book has a variant with every form of items. longest.book and longest.txt are as long as an accepted book and text
 can be; the longer ones are not accepted.
 """
-from cases.books import *
+from cases.books import BOTH, COMMITTED, LEFT, NONE, RIGHT, book, word
+from cases.books import CHARACTER, COMMA_LIST, DELIMITED, IDENTIFIER, NONTERMINAL, NUMBER, OPTIONAL, OPTIONAL_DELIMITED
+from cases.books import VARIABLE
 
 
 def character(a):

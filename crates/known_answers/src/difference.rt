@@ -1,6 +1,6 @@
 // The first number in which an answer differs from the known one.
 
-// What the number is one of. `Room` is room of one byte too few for the line; `Input` is a record that can't be read.
+// What the number is one of. `Room` is room of one byte too few for the line.
 pub enum Part {
     Answer,
     Cells,
@@ -8,7 +8,6 @@ pub enum Part {
     LineSize,
     Line,
     Room,
-    Input,
 }
 
 pub struct At {
@@ -21,6 +20,8 @@ pub struct At {
 pub enum Difference {
     Nothing,
     First(At),
+    // The record ends too early or is too long.
+    Unreadable,
 }
 
 // One number compared.
@@ -36,19 +37,9 @@ pub fn of_number(part: Part, place: usize, wanted: usize, got: usize) -> Differe
     })
 }
 
-// A record that ends too early or is too long.
-pub fn unreadable() -> Difference {
-    Difference::First(At {
-        part: Part::Input,
-        place: 0,
-        wanted: 0,
-        got: 0,
-    })
-}
-
 pub fn or_else(first: Difference, second: Difference) -> Difference {
     match first {
         Difference::Nothing => second,
-        Difference::First(at) => Difference::First(at),
+        _ => first,
     }
 }

@@ -1,6 +1,5 @@
 // The records of a list, one after the other.
 use crate::difference::Difference;
-use crate::difference::unreadable;
 use crate::numbers::size_of;
 use crate::record::RECORD_ROOM;
 use crate::rust;
@@ -91,12 +90,12 @@ fn replayed(fd: i32, kind: Kind, bytes: &mut [u8]) -> Tally {
                 return tally;
             }
             Next::Unreadable => {
-                return counted(tally, kind, unreadable());
+                return counted(tally, kind, Difference::Unreadable);
             }
         }
         i += 1;
     }
-    counted(tally, kind, unreadable())
+    counted(tally, kind, Difference::Unreadable)
 }
 
 pub fn replay(fd: i32, kind: Kind) {

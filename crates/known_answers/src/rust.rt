@@ -5,7 +5,6 @@ use crate::difference::Difference;
 use crate::difference::Part;
 use crate::difference::of_number;
 use crate::difference::or_else;
-use crate::difference::unreadable;
 use crate::line::of_line;
 use crate::numbers::FAR;
 use crate::numbers::after;
@@ -81,7 +80,7 @@ fn of_parse(bytes: &[u8], at: usize, parses: &[u32], first: usize) -> Difference
 fn of_parses(bytes: &[u8], at: usize, parses: &[u32]) -> Difference {
     let count = wide(head(bytes, PARSES));
     if MOST_PARSES < count {
-        return unreadable();
+        return Difference::Unreadable;
     }
     let mut i = 0;
     while i < count {

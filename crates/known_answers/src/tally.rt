@@ -40,36 +40,42 @@ fn write_part(part: Part, place: usize) {
         Part::LineSize => write(b": length of the line"),
         Part::Line => write_number(b": line ", place),
         Part::Room => write_number(b": room of one byte too few ", place),
-        Part::Input => write(b": the record can't be read"),
     }
 }
 
-// `vector 3: answer 4, wanted 5, got 6`: cases from 1 on, the numbers of a part from 0 on.
-fn show(name: &[u8], case: u32, at: At) {
+// `: answer 4, wanted 5, got 6`: the numbers of a part from 0 on.
+fn write_at(at: At) {
     let part = at.part;
-    write_number(name, case as usize);
     write_part(part, at.place);
     write_number(b", wanted ", at.wanted);
     write_number(b", got ", at.got);
     write(b"\n");
 }
 
+// Writes a case that differs.
+fn show(name: &[u8], case: u32, difference: Difference) {
+    write_number(name, case as usize);
+    match difference {
+        Difference::Nothing => write(b"\n"),
+        Difference::First(at) => write_at(at),
+        Difference::Unreadable => write(b": the record can't be read\n"),
+    }
+}
+
 impl Tally {
-    // One case more, by its name.
+    // One case more; `name` is what a case is called.
     pub fn case(self, name: &[u8], difference: Difference) -> Tally {
         let cases = one_more(self.cases);
-        match difference {
-            Difference::Nothing => Tally {
+        if let Difference::Nothing = difference {
+            return Tally {
                 cases,
                 differ: self.differ,
-            },
-            Difference::First(at) => {
-                show(name, cases, at);
-                Tally {
-                    cases,
-                    differ: one_more(self.differ),
-                }
-            }
+            };
+        }
+        show(name, cases, difference);
+        Tally {
+            cases,
+            differ: one_more(self.differ),
         }
     }
 

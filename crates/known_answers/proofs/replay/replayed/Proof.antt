@@ -47,9 +47,6 @@ returns c = search needs
 enum-told-2 : tie.Need-enum-told-2 Inv-loop μ-loop
 enum-told-2 c = search needs
 
-unreadable-requires : tie.Need-unreadable-requires Inv-loop μ-loop
-unreadable-requires c κs = search needs
-
 counted-requires-2 : tie.Need-counted-requires-2 Inv-loop μ-loop
 counted-requires-2 c κs = search needs
 
@@ -68,9 +65,6 @@ loop-less c = search needs
 loop-again : tie.Need-loop-again Inv-loop μ-loop
 loop-again c = search needs
 
-unreadable-requires-2 : tie.Need-unreadable-requires-2 Inv-loop μ-loop
-unreadable-requires-2 c κs = search needs
-
 counted-requires-3 : tie.Need-counted-requires-3 Inv-loop μ-loop
 counted-requires-3 c κs = search needs
 
@@ -85,6 +79,6 @@ replayed-spec =
     tie.close
     (tie.spec
     Inv-loop μ-loop none-requires loop-holds next-record-requires enum-known-record part-requires
-    difference-requires counted-requires enum-told same-length returns enum-told-2 unreadable-requires
-    counted-requires-2 same-length-2 returns-2 add-i loop-less loop-again unreadable-requires-2 counted-requires-3
+    difference-requires counted-requires enum-told same-length returns enum-told-2
+    counted-requires-2 same-length-2 returns-2 add-i loop-less loop-again counted-requires-3
     same-length-3 returns-3)

@@ -17,9 +17,6 @@ head-requires c κs = search needs
 wide-requires : tie.Need-wide-requires Inv-loop μ-loop
 wide-requires c κs = search needs
 
-unreadable-requires : tie.Need-unreadable-requires Inv-loop μ-loop
-unreadable-requires c κs = search needs
-
 returns : tie.Need-returns Inv-loop μ-loop
 returns c = search needs
 
@@ -44,9 +41,6 @@ enum-told c = search needs
 returns-2 : tie.Need-returns-2 Inv-loop μ-loop
 returns-2 c = search needs
 
-enum-told-2 : tie.Need-enum-told-2 Inv-loop μ-loop
-enum-told-2 c = search needs
-
 add-i : tie.Need-add-i Inv-loop μ-loop
 add-i c = search needs
 
@@ -63,6 +57,5 @@ pub of-parses-spec : {M : Type 1} → statement M
 of-parses-spec =
     tie.close
     (tie.spec
-    Inv-loop μ-loop head-requires wide-requires unreadable-requires returns loop-holds parses-size-requires
-    after-requires mul-of-parse of-parse-requires enum-told returns-2 enum-told-2 add-i loop-less loop-again
-    returns-3)
+    Inv-loop μ-loop head-requires wide-requires returns loop-holds parses-size-requires after-requires mul-of-parse
+    of-parse-requires enum-told returns-2 add-i loop-less loop-again returns-3)
