@@ -7,11 +7,18 @@
 //
 // The crate relies on the definitions of `semantics`, and assumes nothing.
 ghost use mathlib.Core.Path.{_≡_};
-ghost use Rattle.semantics.specs.Errors.{wins as winsOver, join as joined, beyond as errorBeyond};
+ghost use Rattle.semantics.specs.Errors.{wins as winsOver, beyond as errorBeyond};
 ghost use Rattle.semantics.specs.Errors.{joinWith, choiceError, chosenFailure};
 ghost use Rattle.semantics.specs.Run.{either as eitherOf};
 ghost use Rattle.errors.specs.Failures.{counted as countedOf, failedCall};
+ghost use Rattle.errors.specs.Lists.{JoinsTo};
 ghost use Rattle.errors.specs.Maps.{errorOf, failureOf};
+
+mod list;
+
+pub use list::ERROR_SIZE;
+pub use list::Joined;
+pub use list::join_list;
 
 // ---- The kinds
 pub const CHARACTER_WANTED: u32 = 1;
@@ -71,8 +78,10 @@ fn wins(a: Error, b: Error) -> bool
     a.argument <= b.argument
 }
 
-fn join(a: Error, b: Error) -> Error
-    ensures { λ r. ⌜ errorOf r ≡ joined (errorOf a) (errorOf b) ⌝ }
+// Of two errors that which counts. In whatever order and grouping errors are joined, their furthest, least one is left
+// (specs/Lists.antt).
+pub fn join(a: Error, b: Error) -> Error
+    ensures { λ r. ⌜ JoinsTo a b r ⌝ }
 {
     if wins(a, b) { a } else { b }
 }

@@ -13,8 +13,10 @@
 //
 // specs/ has what both functions promise (Library) and laws, one for each way out of a function (LibraryLaws).
 mod answer;
+mod joining;
 
 ghost use Rattle.characters.specs.Slices.{atEntry, atExit};
+ghost use Rattle.midgebillon.specs.Joining.{JoinsInto};
 ghost use Rattle.midgebillon.specs.Library.{ReadInto, PrintsInto, lineFor};
 use answer::ANSWER_SIZE;
 use answer::answer_in;
@@ -23,7 +25,12 @@ use answer::length_of;
 use answer::put_answer;
 use book::INDEX_SIZE;
 use book::check_into;
+use errors::ERROR_SIZE;
+use errors::join_list;
+use joining::number_of;
+use joining::put_joined;
 use printing::print;
+use run::SHORT_LISTS;
 use run::read;
 
 // Reads a text by a book. With fewer than seven places for the answer nothing at all is touched.
@@ -72,4 +79,19 @@ pub extern "C" fn midgebillon_print<'a>(
         return length_of(print(book, &index, text, cells, a, out));
     }
     0
+}
+
+// The furthest, least of a list of errors, three numbers each: place, kind, argument. 0, and the error at the front of
+// `out`. Else `out` stays as it is: 1 where it has fewer than three places, 60 for no errors, 61 for a length that is
+// not three times a number.
+#[no_mangle]
+pub extern "C" fn midgebillon_furthest(errors: &[u32], out: &mut [u32]) -> u32
+    ensures { λ r. ⌜ JoinsInto (atEntry errors) (atEntry out) (atExit out) r ⌝ }
+{
+    if out.len() < ERROR_SIZE {
+        return SHORT_LISTS;
+    }
+    let joined = join_list(errors);
+    put_joined(out, joined);
+    number_of(joined)
 }

@@ -9,6 +9,7 @@ pub mod Errors
 pub mod Run
 pub mod RoundLaws
 pub mod ErrorLaws
+pub mod Furthest
 pub mod Answer
 pub mod ExampleBook
 pub mod Exact
