@@ -22,6 +22,7 @@ build() {
     if [ -z "${LIBRARY:-}" ] && outdated; then rt staticlib midgebillon; fi
     mkdir -p "$built"
     gcc -std=c11 -O2 -Wall -Wextra -Werror -Iinclude -o "$built/read_c" examples/c/read.c "$library"
+    gcc -std=c11 -O2 -Wall -Wextra -Werror -Iinclude -o "$built/furthest_c" examples/c/furthest.c "$library"
     rust --crate-type rlib --crate-name midgebillon -o "$built/libmidgebillon.rlib" examples/rust/midgebillon.rs
     rust --extern midgebillon="$built/libmidgebillon.rlib" -C link-arg="$library" -o "$built/read_rust" examples/rust/main.rs
     rust --test -C link-arg="$library" -o "$built/test_rust" examples/rust/midgebillon.rs
@@ -49,6 +50,15 @@ wanted() {
     done
 }
 
+# furthest STATUS LINE WORD...: what the program that joins errors gives for these words
+furthest() {
+    local status=$1 line=$2 given=0 found
+    shift 2
+    found=$("$built/furthest_c" "$@" 2>/dev/null) || given=$?
+    printf 'furthest_c, status %s: %s\n' "$given" "$found"
+    if [ "$given" != "$status" ] || [ "$found" != "$line" ]; then failed=1; fi
+}
+
 build
 wanted 0 'value (1 (0 1) (2 (0 2) (0 3)))' examples/rules.book examples/rule.txt
 printf '(1' >"$built/open.txt"
@@ -59,5 +69,10 @@ wanted 1 'refused 3 place 0 kind 0 argument 0 line 0 column 0' "$built/missing.b
 repeated 40 '1-' >"$built/chain.txt" && printf '1' >>"$built/chain.txt"
 wanted 0 "value $(repeated 40 '(1 ')(0 1)$(repeated 40 ' (0 1))')" examples/rules.book "$built/chain.txt"
 wanted 2 '' examples/rules.book
+printf '1-' >"$built/short.txt"
+furthest 0 'place 2 kind 1 argument 41' examples/rules.book "$built/open.txt" examples/rule.txt "$built/missing.txt" "$built/short.txt"
+furthest 0 'place 0 kind 11 argument 0' examples/rules.book "$built/missing.txt"
+furthest 1 '' examples/rules.book examples/rule.txt
+furthest 2 ''
 "$built/test_rust" --quiet || failed=1
 exit $failed

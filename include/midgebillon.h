@@ -1,17 +1,17 @@
 /* The margin rule reader, for C: reads a rule's text by a rule book, and prints the answer as a line. "Document 01" is the specification, "The margin rule reader".
  *
- * The library is proved: what each function says below holds for every book, text and list (crates/midgebillon/specs/Library.antt has it as definitions).
+ * The library is proved: what each function says below holds for every book, text and list (crates/midgebillon/specs has it as definitions).
  * `rt staticlib midgebillon` proves it and writes target/staticlib/libmidgebillon.a, for x86-64; it needs nothing but the C library's memory functions.
  *
  * What the caller owes:
  * - a list is passed as a pointer and a number of elements. The pointer is never null, also where the number is 0, and is aligned as its type asks;
  *   so many elements stand behind it and can be read, or written where the pointer is not to const;
- * - a list that is written (cells, parses, answer of midgebillon_read; out of midgebillon_print) overlaps no other list of the same call;
+ * - a list that is written (cells, parses, answer of midgebillon_read; out of the other two) overlaps no other list of the same call;
  * - stack: 4 MiB for a call. midgebillon_read has half a megabyte of working memory there, and a book can be made whose calls nest 200 levels deep with up to
  *   16 kilobytes each; a thread with less stack can crash. This size is counted from the compiled code and measured, not proved.
  * No other value is wrong to pass: the functions refuse what they can't use, and never fail, call back, allocate or loop for ever.
  *
- * Neither function keeps anything between calls, so any number of threads can call them at once, each with its own lists. */
+ * No function keeps anything between calls, so any number of threads can call them at once, each with its own lists. */
 #ifndef MIDGEBILLON_H
 #define MIDGEBILLON_H
 
@@ -96,6 +96,24 @@ size_t midgebillon_print(const uint8_t *book, size_t book_length,
                          const uint32_t *cells, size_t cells_length,
                          const uint32_t *answer, size_t answer_length,
                          uint8_t *out, size_t out_length);
+
+/* an error in a list: its place, kind and argument, as in refusal 30 */
+enum { MIDGEBILLON_ERROR = 3 };
+
+/* why a list of errors has no furthest */
+enum {
+    MIDGEBILLON_NO_ROOM = 1,    /* `out_length` is under three */
+    MIDGEBILLON_NO_ERRORS = 60, /* the list is empty */
+    MIDGEBILLON_UNEVEN = 61     /* its length is not three times a number */
+};
+
+/* Joins the errors of a list, three numbers each, `errors_length` numbers in all: gives 0, and the first three numbers of `out` become the furthest of them;
+ * of those at that place the one of least kind, and of those of that kind the one of least argument. In whatever order the errors stand, and however often, it is
+ * the same one; and errors that were joined before can be joined again, with more. Numbers of `out` behind the third stay.
+ *
+ * Where there is no such error, one of the numbers above, and `out` is untouched. */
+uint32_t midgebillon_furthest(const uint32_t *errors, size_t errors_length,
+                              uint32_t *out, size_t out_length);
 
 #ifdef __cplusplus
 }

@@ -46,6 +46,13 @@ mod library {
             out: *mut u8,
             out_length: usize,
         ) -> usize;
+
+        pub fn midgebillon_furthest(
+            errors: *const u32,
+            errors_length: usize,
+            out: *mut u32,
+            out_length: usize,
+        ) -> u32;
     }
 }
 
@@ -73,6 +80,33 @@ pub struct Parse {
     /// 0 Left, 1 Right, 2 None, 3 Both.
     pub associativity: u32,
     pub cell: u32,
+}
+
+/// An error, as refusal 30 tells it.
+#[derive(Clone, Copy, Debug, PartialEq, Eq)]
+pub struct Error {
+    pub place: u32,
+    pub kind: u32,
+    pub argument: u32,
+}
+
+/// The furthest of some errors; of those at its place the one of least kind, then of least argument. None of none.
+pub fn furthest(errors: &[Error]) -> Option<Error> {
+    let numbers: Vec<u32> = errors
+        .iter()
+        .flat_map(|e| [e.place, e.kind, e.argument])
+        .collect();
+    let mut out = [0; 3];
+    // SAFETY: each pointer and length are of one list, and `out` is borrowed for writing. The function takes little stack.
+    let none = unsafe {
+        library::midgebillon_furthest(numbers.as_ptr(), numbers.len(), out.as_mut_ptr(), out.len())
+    };
+    let [place, kind, argument] = out;
+    (none == 0).then_some(Error {
+        place,
+        kind,
+        argument,
+    })
 }
 
 /// A text read by a book: the answer, the parses and the cells. It can only be made by [`read`], so its numbers are an answer.
@@ -264,6 +298,28 @@ mod tests {
         assert_eq!(line(&text, whole.len()).unwrap(), whole);
         assert_eq!(line(&text, whole.len() - 1), None);
         assert_eq!(line(&text, 0), None);
+    }
+
+    #[test]
+    fn furthest_error() {
+        let error = |place, kind, argument| Error {
+            place,
+            kind,
+            argument,
+        };
+        let errors = [
+            error(2, 9, 0),
+            error(5, 4, 1),
+            error(5, 3, 7),
+            error(5, 3, 6),
+            error(4, 1, 0),
+        ];
+        assert_eq!(furthest(&errors), Some(error(5, 3, 6)));
+        let (first, second) = errors.split_at(2);
+        let halves = [furthest(second).unwrap(), furthest(first).unwrap()];
+        assert_eq!(furthest(&halves), furthest(&errors));
+        assert_eq!(furthest(&errors[..1]), Some(errors[0]));
+        assert_eq!(furthest(&[]), None);
     }
 
     #[test]

@@ -2,13 +2,14 @@
 --
 -- Contents:
 -- - errors in a list of numbers: errorSize, errorAt, errorsIn
--- - what is left of them when they are joined: FurthestIn, Joins; no more than one result joins a list: joins-only
+-- - what is left of them when they are joined: FurthestIn, Joins, uneven-list; no more than one result joins a list:
+--   joins-only
 -- - the laws of joining, over results of the function: JoinsTo; results-associative, results-commutative, results-same,
 --   results-furthest
 -- - a list of which some errors are joined: first-joined, next-joined
 use mathlib.Core.Path.{_≡_, refl, sym, _∙_, ap, subst}
 use mathlib.Core.List.{List, [], _∷_, _++_, List·Memᴰ·not-nil}
-use Prim.Native.Nat.{ℕ, zero, suc, _+_, _*_}
+use Prim.Native.Nat.{ℕ, zero, suc, _+_, _*_, _/_}
 use native.Mathlib.Omega.{arith}
 use lib.ListN.{getD, length}
 use Rattle.semantics.specs.Errors as definition
@@ -41,6 +42,10 @@ abbrev pub Joins : List ℕ → Joined → Type 0
 Joins numbers (Joined.At e) = FurthestIn numbers e
 Joins numbers Joined.Empty = length numbers ≡ 0
 Joins numbers Joined.Uneven = (n : ℕ) → length numbers ≡ errorSize * n → ⊥
+
+pub uneven-list : (numbers : List ℕ) → (length numbers ≡ errorSize * (length numbers / errorSize) → ⊥) →
+    Joins numbers Joined.Uneven
+uneven-list numbers h n e = h (omega (arith, e))
 
 -- ---- No more than one result joins a list
 numbers-of : (p k a : ℕ) (e : Error) → e .place ≡ p → e .kind ≡ k → e .argument ≡ a →

@@ -6,7 +6,7 @@ use lib.ListN.{length}
 use borrow.Author.Needs.{needs}
 use Rattle.semantics.specs.Furthest.{Furthest}
 use Rattle.errors.specs.Maps.{errorOf}
-use Rattle.errors.specs.Lists.{errorAt, errorsIn, first-joined, next-joined}
+use Rattle.errors.specs.Lists.{errorAt, errorsIn, uneven-list, first-joined, next-joined}
 use Rattle.errors.proofs.list.join_list.Statement.{statement}
 use Rattle.errors.proofs.list.join_list.Tie as tie
 
@@ -21,7 +21,7 @@ mul-if1 : tie.Need-mul-if1 Inv-loop μ-loop
 mul-if1 c = omega arith
 
 returns : tie.Need-returns Inv-loop μ-loop
-returns c = λ n e. omega (arith, e)
+returns c = uneven-list (c .before .before .args .numbers .now) (c .if1 .taken)
 
 returns-2 : tie.Need-returns-2 Inv-loop μ-loop
 returns-2 c = omega arith

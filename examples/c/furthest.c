@@ -1,0 +1,36 @@
+/* furthest BOOK TEXT..: reads the rule in each file TEXT by the book in the file BOOK, and prints the furthest error of those that have no parse.
+ * Exit status: 0 an error was printed, 1 there was none, 2 wrong usage, 3 no memory, or the line can't be written. */
+#include "file.h"
+#include "midgebillon.h"
+
+#include <stdio.h>
+#include <stdlib.h>
+
+enum { NO_PARSE = 30 };
+
+int main(int argc, char **argv) {
+    static uint32_t cells[MIDGEBILLON_CELLS], parses[MIDGEBILLON_PARSES], answer[MIDGEBILLON_ANSWER], furthest[MIDGEBILLON_ERROR];
+    if (argc < 2) {
+        fputs("usage: furthest BOOK TEXT..\n", stderr);
+        return 2;
+    }
+    struct bytes book = load(argv[1]);
+    uint32_t *errors = room_for(NULL, sizeof furthest * (size_t)argc);
+    size_t length = 0;
+    for (int i = 2; i < argc; i++) {
+        struct bytes text = load(argv[i]);
+        midgebillon_read(book.at, book.length, text.at, text.length, 0, MIDGEBILLON_ALLOWANCE, cells, MIDGEBILLON_CELLS, parses, MIDGEBILLON_PARSES,
+                         answer, MIDGEBILLON_ANSWER);
+        if (answer[MIDGEBILLON_REFUSAL] == NO_PARSE)
+            for (int n = 0; n < MIDGEBILLON_ERROR; n++) errors[length++] = answer[MIDGEBILLON_PLACE + n];
+        free(text.at);
+    }
+    uint32_t none = midgebillon_furthest(errors, length, furthest, MIDGEBILLON_ERROR);
+    if (!none && (printf("place %u kind %u argument %u\n", (unsigned)furthest[0], (unsigned)furthest[1], (unsigned)furthest[2]) < 0 || fflush(stdout))) {
+        fputs("the line can't be written\n", stderr);
+        return 3;
+    }
+    free(errors);
+    free(book.at);
+    return none ? 1 : 0;
+}
