@@ -2,3 +2,4 @@
 pub mod Maps
 pub mod Failures
 pub mod Lists
+pub mod ListLaws

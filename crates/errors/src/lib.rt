@@ -1,9 +1,9 @@
-// Which error counts: the furthest, carried by value. Document 01, "Errors".
+// Which error counts: the furthest, carried by value. Document 01, "Errors"; document 02 g.
 //
 // Every function equals a definition of `semantics` (Errors, Run) on all errors; specs/Maps.antt says what each struct
 // and enum stands for. Where the run's definition takes a whole call, the function takes the call's numbers, and
-// specs/Failures.antt proves that the two agree. No function has a `requires`. The error of a step that takes nothing
-// is made in `tokens`.
+// specs/Failures.antt proves that the two agree. `join_list` gives the furthest, least of a lent list of errors
+// (specs/Lists.antt). No public function has a `requires`. The error of a step that takes nothing is made in `tokens`.
 //
 // The crate relies on the definitions of `semantics`, and assumes nothing.
 ghost use mathlib.Core.Path.{_≡_};
@@ -79,7 +79,7 @@ fn wins(a: Error, b: Error) -> bool
 }
 
 // Of two errors that which counts. In whatever order and grouping errors are joined, their furthest, least one is left
-// (specs/Lists.antt).
+// (semantics, FurthestLaws; specs/ListLaws.antt has it of this function).
 pub fn join(a: Error, b: Error) -> Error
     ensures { λ r. ⌜ JoinsTo a b r ⌝ }
 {

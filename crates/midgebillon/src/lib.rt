@@ -1,17 +1,19 @@
-// The reader for C and Rust: the call of document 01, "The answer", and the line of "Printing", each as a function that
-// other languages link.
+// The reader for C and Rust: the call of document 01, "The answer", the line of "Printing", and the furthest of several
+// errors of document 02 g, each as a function that other languages link.
 //
 // `midgebillon_read` writes the seven numbers of the answer to the front of a lent list: what `run::read` promises
 // holds of those numbers and of both lists (`ReadInto` of specs/Library.antt). `midgebillon_print` writes the line of
-// such numbers (`PrintsInto` and `lineFor` there). Neither has a `requires`: too short a list, and numbers that are no
-// answer, leave everything as it is. Neither keeps anything between calls.
+// such numbers (`PrintsInto` and `lineFor` there). `midgebillon_furthest` joins a list of errors (`JoinsInto` of
+// specs/Joining.antt). None has a `requires`: too short a list, and numbers that are no answer or no list of errors,
+// leave everything as it is. None keeps anything between calls.
 //
-// The crate relies on the promises of `run`, `printing` and `book`, and assumes nothing. What no theorem says: whoever
+// The crate relies on the promises of `run`, `printing`, `errors` and `book`, and assumes nothing. What no theorem says: whoever
 // calls from another language owes what a slice is: a pointer that is not null to as many numbers as the length says,
 // and no slice that is written overlaps another. include/midgebillon.h tells a C program so; examples/ has a wrapper
 // for Rust whose types do.
 //
-// specs/ has what both functions promise (Library) and laws, one for each way out of a function (LibraryLaws).
+// specs/ has what the functions promise (Library, Joining) and laws, one for each way out of the first two
+// (LibraryLaws).
 mod answer;
 mod joining;
 

@@ -10,6 +10,7 @@ pub mod Run
 pub mod RoundLaws
 pub mod ErrorLaws
 pub mod Furthest
+pub mod FurthestLaws
 pub mod Answer
 pub mod ExampleBook
 pub mod Exact

@@ -6,7 +6,8 @@ use lib.ListN.{length}
 use borrow.Author.Needs.{needs}
 use Rattle.semantics.specs.Furthest.{Furthest}
 use Rattle.errors.specs.Maps.{errorOf}
-use Rattle.errors.specs.Lists.{errorAt, errorsIn, uneven-list, first-joined, next-joined}
+use Rattle.errors.specs.Lists.{errorAt, errorsIn}
+use Rattle.errors.specs.ListLaws.{uneven-list, first-joined, next-joined}
 use Rattle.errors.proofs.list.join_list.Statement.{statement}
 use Rattle.errors.proofs.list.join_list.Tie as tie
 
