@@ -3,10 +3,11 @@
 
     python3 tools/landing.py BEFORE AFTER [--proved LOG LOG]
 
-prints, for two commits, what happened to the definitions, laws, worked answers, contracts and proofs of each crate: how many files (of contracts:
-functions) were changed, added, removed or stayed as they were, and their lines; and the names of the files of definitions and of the functions
-whose contracts changed, which a note speaks of. A file that was only moved or renamed counts as it is compared by git. With the outputs of
-`rt prove` of both commits, each from a fresh clone with nothing beside it, it prints the seconds of each crate too.
+prints, for two commits, what happened to the definitions, laws, worked answers, contracts and proofs: how many files (of
+contracts: functions) were changed, added, removed or stayed as they were, and their lines; and the names of the files
+of definitions and of the functions whose contracts changed, which a note speaks of. A file that was only moved or
+renamed counts as it is compared by git. With the outputs of `rt prove` of both commits, each from a fresh clone with
+nothing beside it, it prints the seconds of each crate too.
 """
 import argparse
 import collections
@@ -40,7 +41,8 @@ def kind(path):
 
 def lines(commit):
     """The lines of each file of a commit."""
-    return {path: git("show", f"{commit}:{path}").count("\n") for path in git("ls-tree", "-r", "--name-only", commit, "crates").split("\n") if kind(path)}
+    paths = git("ls-tree", "-r", "--name-only", commit, "crates").split("\n")
+    return {path: git("show", f"{commit}:{path}").count("\n") for path in paths if kind(path)}
 
 
 def fates(before, after):
@@ -66,9 +68,10 @@ def file_table(before, after):
     print("| files of | " + " | ".join(FATES) + " | lines before | lines after |")
     print("|---" * (len(FATES) + 3) + "|")
     for k in KINDS:
-        print(f"| {k} | " + " | ".join(str(counts[k, f]) for f in FATES) + " | " + " | ".join(f"{n:,}" for n in totals[k]) + " |")
-    sums = [sum(totals[k][i] for k in KINDS) for i in (0, 1)]
-    print("| together | " + " | ".join(str(sum(counts[k, f] for k in KINDS)) for f in FATES) + " | " + " | ".join(f"{n:,}" for n in sums) + " |")
+        print("| " + " | ".join([k, *(str(counts[k, f]) for f in FATES), *(f"{n:,}" for n in totals[k])]) + " |")
+    together = [str(sum(counts[k, f] for k in KINDS)) for f in FATES]
+    sums = [f"{sum(totals[k][i] for k in KINDS):,}" for i in (0, 1)]
+    print("| " + " | ".join(["together", *together, *sums]) + " |")
     named = sorted((f, p) for p, f in found.items() if kind(p) == "definitions")
     for fate in FATES:
         if [p for f, p in named if f == fate]:
@@ -84,10 +87,11 @@ def module(path):
 
 def contracts(commit):
     """The clauses of each function of a commit, as one text."""
+    clauses_of = re.compile(r"\bfn (\w+)(?:(?!\bfn \w).)*?\n((?:\s+(?:requires|ensures) \{.*?⌝ \}\n)+)", re.S)
     found = {}
     for path in git("ls-tree", "-r", "--name-only", commit, "crates").split("\n"):
         if kind(path) == "code":
-            for name, clauses in re.findall(r"\bfn (\w+)(?:(?!\bfn \w).)*?\n((?:\s+(?:requires|ensures) \{.*?⌝ \}\n)+)", git("show", f"{commit}:{path}"), re.S):
+            for name, clauses in clauses_of.findall(git("show", f"{commit}:{path}")):
                 found["::".join([*module(path), name])] = " ".join(clauses.split())
     return found
 

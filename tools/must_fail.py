@@ -1,18 +1,22 @@
 #!/usr/bin/env python3
-"""Checks, after `rt ci` or `rt must-fail`, that every wrong reader of every must-fail edit is refused by itself, and for a fact.
+"""Checks, after `rt ci` or `rt must-fail`, that every wrong reader of every must-fail edit is refused by itself, and for
+a fact.
 
     python3 tools/must_fail.py [CRATE ...]
 
-The prover refuses an edit as soon as one thing in it is wrong; an edit may change several functions. So this program reads what the prover said of
-each edit, target/must-fail/CRATE/EDIT/.log, and wants
+The prover refuses an edit as soon as one thing in it is wrong; an edit may change several functions. So this program
+reads what the prover said of each edit, target/must-fail/CRATE/EDIT/.log, and wants
 
-- for each function that the edit changes an error of its own: one in its proof, or the prover's word that what the function ensures is not proved.
-  An error that only follows from another ("was not admitted", "it calls .., which is not proved") is none of its own;
-- of definitions and constants, which have no proof of their own, at most one changed in an edit, and an error outside the proofs of the functions
-  that the edit changes;
-- that none of these errors only says that the proof no longer fits the code, as a name or a need that isn't there, and that no edit changes a proof.
+- for each function that the edit changes an error of its own: one in its proof, or the prover's word that what the
+  function ensures is not proved. An error that only follows from another ("was not admitted", "it calls .., which is
+  not proved") is none of its own;
+- of definitions and constants, which have no proof of their own, at most one changed in an edit, and an error outside
+  the proofs of the functions that the edit changes;
+- that none of these errors only says that the proof no longer fits the code, as a name or a need that isn't there, and
+  that no edit changes a proof.
 
-It prints each edit that fails with what is missing, then how many functions and definitions it looked at; its status is 1 if anything is missing.
+It prints each edit that fails with what is missing, then how many functions and definitions it looked at; its status is
+1 if anything is missing.
 """
 import argparse
 import collections
@@ -23,7 +27,9 @@ import sys
 
 ROOT = os.path.dirname(os.path.dirname(os.path.abspath(__file__)))
 FOLLOWS = re.compile(r"was not admitted")
-UNFIT = re.compile(r"is not in scope|has no field|has no `[^`]*` that can be named|unresolved|cannot find|one has `[^`]*\bNeed-")
+UNFIT = re.compile(
+    r"is not in scope|has no field|has no `[^`]*` that can be named|unresolved|cannot find|one has `[^`]*\bNeed-"
+)
 
 Change = collections.namedtuple("Change", "file line")
 Unit = collections.namedtuple("Unit", "kind file name line")
@@ -54,7 +60,8 @@ NAMED = re.compile(r"\s*(?:abbrev |unfoldable |pub )*(?:record |data )?([\w·′
 
 
 def unit(crate, change):
-    """The function, constant or definition in which a change stands: the last that begins before it. A line that names what it uses is none."""
+    """The function, constant or definition in which a change stands: the last that begins before it. A line that names
+    what it uses is none."""
     with open(f"{ROOT}/crates/{crate}/{change.file}") as file:
         lines = file.read().split("\n")
     if lines[change.line].startswith(("use ", "ghost use ", "pub use ")):
@@ -74,7 +81,8 @@ UNPROVED = re.compile(r"note: (\S*?/must-fail/[^/]+/[^/]+/)?(src/\S+?):(\d+):\d+
 
 
 def errors(log):
-    """The errors of a log that follow from no other: those in files, and the lines of functions of which the prover says that they are not proved."""
+    """The errors of a log that follow from no other: those in files, and the lines of functions of which the prover says
+    that they are not proved."""
     found, unproved = [], set()
     for line in log.split("\n"):
         told, note = ERROR.match(line), UNPROVED.match(line)
@@ -86,7 +94,8 @@ def errors(log):
 
 
 def own(function, error):
-    """Whether an error stands in the proof of a function. Functions that call each other have one proof, in which each has declarations by its name."""
+    """Whether an error stands in the proof of a function. Functions that call each other have one proof, in which each
+    has declarations by its name."""
     module = os.path.splitext(os.path.relpath(function.file, "src"))[0]
     folder = "" if module == "lib" else module + "/"
     if error.file == f"proofs/{folder}{function.name}/Proof.antt":
@@ -129,7 +138,8 @@ def main():
     options = argparse.ArgumentParser(description=__doc__, formatter_class=argparse.RawDescriptionHelpFormatter)
     options.add_argument("crates", nargs="*", metavar="CRATE")
     chosen = options.parse_args().crates
-    edits = sorted(tuple(re.match(r".*/crates/(\w+)/must-fail/(\w+)\.edit$", p).groups()) for p in glob.glob(f"{ROOT}/crates/*/must-fail/*.edit"))
+    paths = glob.glob(f"{ROOT}/crates/*/must-fail/*.edit")
+    edits = sorted(re.match(r".*/crates/(\w+)/must-fail/(\w+)\.edit$", path).groups() for path in paths)
     looked_at = failed = 0
     for crate, edit in edits:
         if chosen and crate not in chosen:
@@ -145,7 +155,7 @@ def main():
         failed += bool(found)
         for what in found:
             print(f"must-fail {crate}/{edit}: {what}")
-    print(f"{looked_at} changed functions and definitions of {len(edits)} must-fail edits looked at; {failed} edits show less than they say")
+    print(f"{looked_at} changed functions and definitions of {len(edits)} must-fail edits, {failed} edits show less")
     sys.exit(1 if failed else 0)
 
 

@@ -1,5 +1,6 @@
-/* furthest BOOK TEXT..: reads the rule in each file TEXT by the book in the file BOOK, and prints the furthest error of those that have no parse.
- * Exit status: 0 an error was printed, 1 there was none, 2 wrong usage, 3 no memory, or the line can't be written. */
+/* furthest BOOK TEXT..: reads the rule in each file TEXT by the book in the file BOOK, and prints the furthest error of
+ * those that have no parse. Exit status: 0 an error was printed, 1 there was none, 2 wrong usage, 3 no memory, or the
+ * line can't be written. */
 #include "file.h"
 #include "midgebillon.h"
 
@@ -9,7 +10,8 @@
 enum { NO_PARSE = 30 };
 
 int main(int argc, char **argv) {
-    static uint32_t cells[MIDGEBILLON_CELLS], parses[MIDGEBILLON_PARSES], answer[MIDGEBILLON_ANSWER], furthest[MIDGEBILLON_ERROR];
+    static uint32_t cells[MIDGEBILLON_CELLS], parses[MIDGEBILLON_PARSES];
+    uint32_t answer[MIDGEBILLON_ANSWER], furthest[MIDGEBILLON_ERROR] = {0};
     if (argc < 2) {
         fputs("usage: furthest BOOK TEXT..\n", stderr);
         return 2;
@@ -19,14 +21,15 @@ int main(int argc, char **argv) {
     size_t length = 0;
     for (int i = 2; i < argc; i++) {
         struct bytes text = load(argv[i]);
-        midgebillon_read(book.at, book.length, text.at, text.length, 0, MIDGEBILLON_ALLOWANCE, cells, MIDGEBILLON_CELLS, parses, MIDGEBILLON_PARSES,
-                         answer, MIDGEBILLON_ANSWER);
+        midgebillon_read(book.at, book.length, text.at, text.length, 0, MIDGEBILLON_ALLOWANCE, cells, MIDGEBILLON_CELLS,
+                         parses, MIDGEBILLON_PARSES, answer, MIDGEBILLON_ANSWER);
         if (answer[MIDGEBILLON_REFUSAL] == NO_PARSE)
             for (int n = 0; n < MIDGEBILLON_ERROR; n++) errors[length++] = answer[MIDGEBILLON_PLACE + n];
         free(text.at);
     }
     uint32_t none = midgebillon_furthest(errors, length, furthest, MIDGEBILLON_ERROR);
-    if (!none && (printf("place %u kind %u argument %u\n", (unsigned)furthest[0], (unsigned)furthest[1], (unsigned)furthest[2]) < 0 || fflush(stdout))) {
+    unsigned place = furthest[0], kind = furthest[1], argument = furthest[2];
+    if (!none && (printf("place %u kind %u argument %u\n", place, kind, argument) < 0 || fflush(stdout))) {
         fputs("the line can't be written\n", stderr);
         return 3;
     }

@@ -24,7 +24,8 @@ use Rattle.characters.specs.Cases.{by-test}
 use Rattle.characters.specs.Classes.{between}
 use Rattle.book.specs.Book.{Book}
 use Rattle.book.specs.Check.{Checked, refused, accepted, andThen, Reader, checked, records, section, placed}
-use Rattle.book.specs.Check.{spelling, entry, nonterminal, variant, step, passes, allPass, ended, total, entireBook}
+use Rattle.book.specs.Check.{spelling, entry, nonterminal, variant, step, passes, allPass, ended, total}
+use Rattle.book.specs.Check.{entireBook}
 use Rattle.book.specs.Check.{Outcome, outcome, checkBook}
 use Rattle.book.specs.ReaderLaws.{between-high, checked-bad, checked-good, checked-short}
 use Rattle.book.specs.declared.records.Step.{Step}
@@ -113,7 +114,8 @@ module _ (some bytes : List ℕ) (agree : Agree some bytes) (small : Bytes bytes
         then-alike P (All P) (place + k) m (one sum some place) (one sum bytes place) _ _
         (each sum place (place + k) (omega arith) (omega arith)) (λ x at p low.
         then-alike (All P) (All P) m m (records size one n (sum + size x) some at)
-        (records size one n (sum + size x) bytes at) _ _ (records-alike n (sum + size x) at m (omega arith) (omega arith)) (λ xs end all high.
+        (records size one n (sum + size x) bytes at) _ _
+        (records-alike n (sum + size x) at m (omega arith) (omega arith)) (λ xs end all high.
         read (p, all) high refl))
 
     -- a count that passes its test is at most `greatest`

@@ -1,5 +1,5 @@
-// The furthest of a lent list of errors. Document 02 g: "The desk joins errors from several rules in whatever order they
-// are finished."
+// The furthest of a lent list of errors. Document 02 g: "The desk joins errors from several rules in whatever order
+// they are finished."
 ghost use mathlib.Core.Path.{_≡_};
 ghost use Prim.Native.Nat.{_+_, _≤_};
 ghost use lib.ListN.{length};

@@ -1,5 +1,5 @@
--- What `midgebillon_furthest` promises: the furthest, least error of a list (`Joins` of errors' Lists.antt), or why there
--- is none.
+-- What `midgebillon_furthest` promises: the furthest, least error of a list (`Joins` of errors' Lists.antt), or why
+-- there is none.
 use mathlib.Core.Path.{_≡_}
 use mathlib.Core.List.{List}
 use Prim.Native.Nat.{ℕ, _≤_, _<_}

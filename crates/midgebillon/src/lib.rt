@@ -7,10 +7,10 @@
 // specs/Joining.antt). None has a `requires`: too short a list, and numbers that are no answer or no list of errors,
 // leave everything as it is. None keeps anything between calls.
 //
-// The crate relies on the promises of `run`, `printing`, `errors` and `book`, and assumes nothing. What no theorem says: whoever
-// calls from another language owes what a slice is: a pointer that is not null to as many numbers as the length says,
-// and no slice that is written overlaps another. include/midgebillon.h tells a C program so; examples/ has a wrapper
-// for Rust whose types do.
+// The crate relies on the promises of `run`, `printing`, `errors` and `book`, and assumes nothing. What no theorem
+// says: whoever calls from another language owes what a slice is: a pointer that is not null to as many numbers as the
+// length says, and no slice that is written overlaps another. include/midgebillon.h tells a C program so; examples/ has
+// a wrapper for Rust whose types do.
 //
 // specs/ has what the functions promise (Library, Joining) and laws, one for each way out of the first two
 // (LibraryLaws).

@@ -21,7 +21,7 @@ pub record Furthest (es : List Error) (e : Error) : Type 0 where
   pub others : (x : Error) → x ∈ es → NoBetter e x
 
 -- ---- Errors joined in any order and grouping
--- from the left, `two (two (one a) (one b)) (one c)`; from the right, `two (one a) (two (one b) (one c))`; or as it comes
+-- from the left, `two (two (one a) (one b)) (one c)`; from the right, `two (one a) (two (one b) (one c))`; or mixed
 pub data Grouping : Type 0 where
   one : Error → Grouping
   two : Grouping → Grouping → Grouping

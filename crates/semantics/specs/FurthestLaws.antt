@@ -1,8 +1,8 @@
 -- Document 02 g: the laws of the furthest error, for all errors and lists.
 --
 --   furthest-only      a list has no more than one furthest, least member
---   grouping-furthest  errors joined in any order and grouping give the furthest, least member of any list that has just
---                      these errors: "joining any nonempty list gives its furthest, least member"
+--   grouping-furthest  errors joined in any order and grouping give the furthest, least member of any list that has
+--                      just these errors: "joining any nonempty list gives its furthest, least member"
 --   groupings-agree    so two groupings of the same errors give the same error
 --   join-furthest      two errors joined give the furthest, least of the two
 --   join-associative, join-commutative, join-same
@@ -201,7 +201,8 @@ join-furthest a b = both-furthest (a ∷ []) (b ∷ []) a b (one-furthest a) (on
 pub join-commutative : (a b : Error) → join a b ≡ join b a
 join-commutative a b =
     furthest-only (b ∷ a ∷ []) (join a b) (join b a)
-    (furthest-same (a ∷ b ∷ []) (b ∷ a ∷ []) (join a b) (turned a b, turned b a) (join-furthest a b)) (join-furthest b a)
+    (furthest-same (a ∷ b ∷ []) (b ∷ a ∷ []) (join a b) (turned a b, turned b a) (join-furthest a b))
+    (join-furthest b a)
   where
     turned : (x y e : Error) → e ∈ (x ∷ y ∷ []) → e ∈ (y ∷ x ∷ [])
     turned x y e (List·Memᴰ·head d) = List·Memᴰ·tail (List·Memᴰ·head d)
