@@ -1,21 +1,20 @@
 -- Laws of the byte classes.
 --
 --   classAt, class-told, class-at-rest   a class's number tells the class
---   tabulate, tabulate-at                a table that lists a rule follows it
---   classTable, table-length, table-at   the table of the classes' numbers
+--   classTable, table-length             the table: two classes to a byte
+--   halfFor, table-at                    the half that has a byte's class, and that the table has it there
 --   above-space                          no byte above 32 is whitespace
 --
 -- Not here: that the table in the source is `classTable`. The proof of `class_table` computes that, once.
 use mathlib.Core.Path.{_≡_, refl, sym, ap, _∙_}
 use mathlib.Core.Bool.{Bool, true, false, cond, _&&_, _||_}
 use mathlib.Core.List.{List, [], _∷_}
-use Prim.Native.Nat.{ℕ, zero, suc, _+_, _<_}
-use native.Mathlib.Nat.{zero-add}
+use Prim.Native.Nat.{ℕ, zero, suc, _+_, _*_, _/_, _%_, _^_, _<_}
 use native.Mathlib.Omega.{arith}
 use lib.Dec.{leb, eqb}
 use lib.ListN.{length, getD}
-use borrow.Author.Tests.{ne-eqb, le-leb, lt-leb}
-use Rattle.characters.specs.Cases.{by-test}
+use borrow.Author.Tests.{eqb-true, eqb-false, ne-eqb, le-leb, lt-leb}
+use Rattle.characters.specs.Cases.{by-test, clash}
 use Rattle.characters.specs.Classes.{classNumber, classOf, between, isOf}
 use Rattle.characters.specs.declared.classes.Class.{Class}
 use Rattle.characters.specs.declared.classes.Class.the-variants.{Other, Whitespace, Digit, Letter, Refused}
@@ -43,23 +42,50 @@ unfoldable pub tabulate : (ℕ → ℕ) → ℕ → ℕ → List ℕ
 tabulate rule i zero = []
 tabulate rule i (suc n) = rule i ∷ tabulate rule (suc i) n
 
-pub tabulate-at : (rule : ℕ → ℕ) (i n k : ℕ) → k < n → getD (tabulate rule i n) k 0 ≡ rule (i + k)
-unfolding tabulate
-tabulate-at rule i zero k h = absurd (omega arith)
-tabulate-at rule i (suc n) zero h = ap rule (omega arith)
-tabulate-at rule i (suc n) (suc k) h = tabulate-at rule (suc i) n k (omega arith) ∙ ap rule (omega arith)
+-- row r of the table: in its half d, counted from the right, the class of the byte that begins with the hexadecimal
+-- digit d and ends in r, for the digits below n
+unfoldable pub packed : ℕ → ℕ → ℕ
+packed r zero = 0
+packed r (suc d) = classNumber (classOf (d * 16 + r)) * 2 ^ (d * 4) + packed r d
 
--- the table: the number of each byte's class
+-- the table: the number of each byte's class, two to a byte
 unfoldable pub classTable : List ℕ
-classTable = tabulate (λ b. classNumber (classOf b)) 0 256
+classTable = tabulate (λ r. packed r 16) 0 16
 
-pub table-length : length classTable ≡ 256
+pub table-length : length classTable ≡ 16
 unfolding classTable tabulate
 table-length = refl
 
-pub table-at : (b : ℕ) → b < 256 → getD classTable b 0 ≡ classNumber (classOf b)
-unfolding classTable
-table-at b h = tabulate-at (λ i. classNumber (classOf i)) 0 256 b h ∙ ap (λ i. classNumber (classOf i)) (zero-add b)
+-- the half that has a byte's class in its row
+abbrev pub halfFor : ℕ → ℕ → ℕ
+halfFor row b = row / 2 ^ (b / 16 * 4) % 16
+
+-- the test: whether rows have the class of each byte below n
+unfoldable hasClasses : List ℕ → ℕ → Bool
+hasClasses rows zero = true
+hasClasses rows (suc b) = eqb (halfFor (getD rows (b % 16) 0) b) (classNumber (classOf b)) && hasClasses rows b
+
+-- rows that pass have the class of each of these bytes
+has-class :
+    (rows : List ℕ) (n b : ℕ) → b < n → hasClasses rows n ≡ true →
+    halfFor (getD rows (b % 16) 0) b ≡ classNumber (classOf b)
+unfolding hasClasses
+has-class rows zero b h has = absurd (omega (arith, h))
+has-class rows (suc n) b h has =
+    by-test (eqb (halfFor (getD rows (n % 16) 0) n) (classNumber (classOf n)))
+    (λ right.
+    let below : hasClasses rows (suc n) ≡ hasClasses rows n = rw (right) in
+    by-test (eqb b n)
+    (λ last. rw (eqb-true b n last) (eqb-true _ _ right))
+    (λ not-last. has-class rows n b (omega (arith, h, eqb-false b n not-last)) (sym below ∙ has)))
+    (λ wrong. clash has (rw (wrong)))
+
+table-has-classes : hasClasses classTable 256 ≡ true
+unfolding hasClasses classTable tabulate packed classOf
+table-has-classes = refl
+
+pub table-at : (b : ℕ) → b < 256 → halfFor (getD classTable (b % 16) 0) b ≡ classNumber (classOf b)
+table-at b h = has-class classTable 256 b h table-has-classes
 
 pub above-space : (b : ℕ) → 32 < b → isOf Whitespace b ≡ false
 unfolding classOf

@@ -1,8 +1,5 @@
 // The class of each byte, read from one table. A class is known outside this crate through `class_of` and `is_of`
-// alone, so that the table may be stored in another way.
-//
-// Compiled code lays a constant array out on the stack at each reading. So a loop over many bytes lays the table out
-// once, and reads it as a slice (`is_in`).
+// alone, so that nothing else depends on how the table is stored.
 ghost use mathlib.Core.Path.{_≡_};
 ghost use lib.ListN.{getD};
 ghost use Rattle.characters.specs.Slices.{atEntry};
@@ -19,18 +16,29 @@ pub enum Class {
 }
 
 // The table. That it lists the rule is computed in this function's proof, and nowhere else.
-pub fn class_table() -> [u8; 256]
+pub fn class_table() -> [u64; 16]
     ensures { λ r. ⌜ r ≡ classTable ⌝ }
 {
     CLASSES
 }
 
-fn number_in(table: &[u8], byte: u8) -> u8
+// The number of a byte's class: a half of one byte of its row. `table[index]` would lay the table out on the stack at
+// each reading; the turns of this loop are unrolled, and become one read of a table in read-only memory.
+fn number_in(table: &[u64], byte: u8) -> u8
     requires { ⌜ now table ≡ classTable ⌝ }
     ensures { λ r. ⌜ r ≡ classNumber (classOf byte) ⌝ }
 {
-    let index = byte as usize;
-    table[index]
+    let index = (byte % 16) as usize;
+    let mut row = 0;
+    let mut i = 0;
+    while i < 16 {
+        if i == index {
+            row = table[i];
+        }
+        i += 1;
+    }
+    let shift = byte / 16 * 4;
+    ((row >> shift) % 16) as u8
 }
 
 pub fn class_of(byte: u8) -> Class
@@ -59,7 +67,7 @@ fn number_of(class: Class) -> u8
     }
 }
 
-pub fn is_in(table: &[u8], byte: u8, class: Class) -> bool
+pub fn is_in(table: &[u64], byte: u8, class: Class) -> bool
     requires { ⌜ now table ≡ classTable ⌝ }
     ensures { λ r. ⌜ r ≡ isOf class byte ⌝ }
 {

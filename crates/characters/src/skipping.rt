@@ -22,7 +22,7 @@ pub enum Span {
     Digits,
 }
 
-fn in_span(table: &[u8], byte: u8, span: Span) -> bool
+fn in_span(table: &[u64], byte: u8, span: Span) -> bool
     requires { ⌜ now table ≡ classTable ⌝ }
     ensures { λ r. ⌜ r ≡ belongs span byte ⌝ }
 {
@@ -45,7 +45,7 @@ pub fn span_end(text: &[u8], place: usize, span: Span) -> usize
     ensures { λ r. ⌜ r ≡ spanEnd span (atEntry text) place ⌝ }
 {
     let classes = class_table();
-    let table: &[u8] = &classes;
+    let table: &[u64] = &classes;
     let mut at = place;
     while at < text.len() {
         if !in_span(table, text[at], span) {
