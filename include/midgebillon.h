@@ -1,15 +1,21 @@
-/* The margin rule reader, for C: reads a rule's text by a rule book, and prints the answer as a line. "Document 01" is the specification, "The margin rule reader".
+/* The margin rule reader, for C: reads a rule's text by a rule book, and prints the answer as a line. "Document 01" is
+ * the specification, "The margin rule reader".
  *
- * The library is proved: what each function says below holds for every book, text and list (crates/midgebillon/specs has it as definitions).
- * `rt staticlib midgebillon` proves it and writes target/staticlib/libmidgebillon.a, for x86-64; it needs nothing but the C library's memory functions.
+ * The library is proved: what each function says below holds for every book, text and list (crates/midgebillon/specs
+ * has it as definitions). `rt staticlib midgebillon` proves it and writes target/staticlib/libmidgebillon.a, for
+ * x86-64; it needs nothing but the C library's memory functions.
  *
  * What the caller owes:
- * - a list is passed as a pointer and a number of elements. The pointer is never null, also where the number is 0, and is aligned as its type asks;
- *   so many elements stand behind it and can be read, or written where the pointer is not to const;
- * - a list that is written (cells, parses, answer of midgebillon_read; out of the other two) overlaps no other list of the same call;
- * - stack: 4 MiB for a call. midgebillon_read has half a megabyte of working memory there, and a book can be made whose calls nest 200 levels deep with up to
- *   16 kilobytes each; a thread with less stack can crash. This size is counted from the compiled code and measured, not proved.
- * No other value is wrong to pass: the functions refuse what they can't use, and never fail, call back, allocate or loop for ever.
+ * - a list is passed as a pointer and a number of elements. The pointer is never null, also where the number is 0, and
+ *   is aligned as its type asks; so many elements stand behind it and can be read, or written where the pointer is not
+ *   to const;
+ * - a list that is written (cells, parses, answer of midgebillon_read; out of the other two) overlaps no other list of
+ *   the same call;
+ * - stack: 4 MiB for a call. midgebillon_read has half a megabyte of working memory there, and a book can be made whose
+ *   calls nest 200 levels deep with up to 12 kilobytes each; a thread with less stack can crash. This size is counted
+ *   from the compiled code and measured, not proved.
+ * No other value is wrong to pass: the functions refuse what they can't use, and never fail, call back, allocate or
+ * loop for ever.
  *
  * No function keeps anything between calls, so any number of threads can call them at once, each with its own lists. */
 #ifndef MIDGEBILLON_H
@@ -35,10 +41,11 @@ enum {
 /* the greatest allowance: the units of work that a call may take */
 enum { MIDGEBILLON_ALLOWANCE = 1000000 };
 
-/* The seven numbers of an answer, by their places in the list. Place, kind and argument are 0 unless the refusal has them. */
+/* The seven numbers of an answer, by their places in the list. Place, kind and argument are 0 unless the refusal has
+ * them. */
 enum {
     MIDGEBILLON_REFUSAL,  /* 0: the text has a value. Else why it has none, see below */
-    MIDGEBILLON_PLACE,    /* refusals 3 to 8: a place of the book; 10, 11 and 30: of the text. Counted in bytes, from 0 */
+    MIDGEBILLON_PLACE,    /* refusals 3 to 8: a place of the book; 10, 11 and 30: of the text; in bytes, from 0 */
     MIDGEBILLON_KIND,     /* refusal 30: the furthest error, 1 to 12, see below */
     MIDGEBILLON_ARGUMENT, /* refusal 30: what that error says besides */
     MIDGEBILLON_WORK,     /* the units of work that the run took; 0 in refusals 1 to 11, the allowance in 20 */
@@ -60,21 +67,23 @@ enum {
  *
  * Kinds of errors in refusal 30, and their arguments:
  *
- *  1  a character was wanted (its code)       5  a variable was found           9  digits were wanted
- *  2  a word was wanted (its number)          6  a reserved word was found     10  a number was too large
- *  3  an identifier was wanted                7  a name was unknown            11  a nonterminal was wanted (its number)
- *  4  the text ended before a token           8  another kind of variable      12  more was wanted (the nonterminal whose
- *                                                was wanted (that kind)            variant it was) */
+ *  1  a character was wanted (its code)   5  a variable was found         9  digits were wanted
+ *  2  a word was wanted (its number)      6  a reserved word was found   10  a number was too large
+ *  3  an identifier was wanted            7  a name was unknown          11  a nonterminal was wanted (its number)
+ *  4  the text ended before a token       8  another kind of variable    12  more was wanted (the nonterminal whose
+ *                                            was wanted (that kind)          variant it was) */
 
 /* Reads `text` by `book`, from the nonterminal number `start`, with at most `allowance` units of work.
  *
- * The first seven numbers of `answer` become the answer; those behind them stay. Where `answer_length` is under seven, nothing at all is touched.
+ * The first seven numbers of `answer` become the answer; those behind them stay. Where `answer_length` is under seven,
+ * nothing at all is touched.
  *
- * On success and in refusals 31 and 32 the lists hold the result: in `parses` four numbers for each parse, which are its rest (where it ends in the text),
- * level, associativity (0 Left, 1 Right, 2 None, 3 Both) and value cell; in `cells` three numbers for each cell, cell n at 3n - 3, whose first says what it
- * is: 1 empty chain; 2 chain, item; 3 variant, chain; 4 name's place in the text, length; 5 high half, low half of a number; 6 name's number in the book, kind;
- * 7 absent; 8 list of a chain. A chain, an item and a value are numbers of cells. What is not used of the first 12,288 and 256 numbers is 0; in refusals
- * 20 to 23 and 30 all of them are. Numbers beyond those are never touched. */
+ * On success and in refusals 31 and 32 the lists hold the result: in `parses` four numbers for each parse, which are
+ * its rest (where it ends in the text), level, associativity (0 Left, 1 Right, 2 None, 3 Both) and value cell; in
+ * `cells` three numbers for each cell, cell n at 3n - 3, whose first says what it is: 1 empty chain; 2 chain, item;
+ * 3 variant, chain; 4 name's place in the text, length; 5 high half, low half of a number; 6 name's number in the book,
+ * kind; 7 absent; 8 list of a chain. A chain, an item and a value are numbers of cells. What is not used of the first
+ * 12,288 and 256 numbers is 0; in refusals 20 to 23 and 30 all of them are. Numbers beyond those are never touched. */
 void midgebillon_read(const uint8_t *book, size_t book_length,
                       const uint8_t *text, size_t text_length,
                       uint32_t start, uint32_t allowance,
@@ -82,15 +91,18 @@ void midgebillon_read(const uint8_t *book, size_t book_length,
                       uint32_t *parses, size_t parses_length,
                       uint32_t *answer, size_t answer_length);
 
-/* Writes the line of an answer to the front of `out`, with the line feed that ends it and no zero byte behind, and gives its length: "value " and the value, as
- * `value (1 (0 1) (0 2))`, or `refused N place P kind K argument A line L column C`. `book`, `text`, `cells` and `answer` are those of the call of midgebillon_read.
+/* Writes the line of an answer to the front of `out`, with the line feed that ends it and no zero byte behind, and
+ * gives its length: "value " and the value, as `value (1 (0 1) (0 2))`, or
+ * `refused N place P kind K argument A line L column C`. `book`, `text`, `cells` and `answer` are those of the call of
+ * midgebillon_read.
  *
- * 0, with `out` untouched, where the line has more than `out_length` bytes, or the numbers are no answer: fewer than seven; a refusal that is not in the table
- * above; or a value (refusal 0) whose book is not accepted, or whose cell is 0, above 4,096 or not in `cells`. No line has length 0.
+ * 0, with `out` untouched, where the line has more than `out_length` bytes, or the numbers are no answer: fewer than
+ * seven; a refusal that is not in the table above; or a value (refusal 0) whose book is not accepted, or whose cell is
+ * 0, above 4,096 or not in `cells`. No line has length 0.
  *
- * A refusal's line has less than 128 bytes. A value's can be far longer than its text, since a cell is printed wherever it is used: try with more room
- * up to a limit of your own. A call takes time in proportion to the room, the text and the cells, however
- * long the line. */
+ * A refusal's line has less than 128 bytes. A value's can be far longer than its text, since a cell is printed wherever
+ * it is used: try with more room up to a limit of your own. A call takes time in proportion to the room, the text and
+ * the cells, however long the line. */
 size_t midgebillon_print(const uint8_t *book, size_t book_length,
                          const uint8_t *text, size_t text_length,
                          const uint32_t *cells, size_t cells_length,
@@ -107,9 +119,10 @@ enum {
     MIDGEBILLON_UNEVEN = 61     /* its length is not three times a number */
 };
 
-/* Joins the errors of a list, three numbers each, `errors_length` numbers in all: gives 0, and the first three numbers of `out` become the furthest of them;
- * of those at that place the one of least kind, and of those of that kind the one of least argument. In whatever order the errors stand, and however often, it is
- * the same one; and errors that were joined before can be joined again, with more. Numbers of `out` behind the third stay.
+/* Joins the errors of a list, three numbers each, `errors_length` numbers in all: gives 0, and the first three numbers
+ * of `out` become the furthest of them; of those at that place the one of least kind, and of those of that kind the one
+ * of least argument. In whatever order the errors stand, and however often, it is the same one; and errors that were
+ * joined before can be joined again, with more. Numbers of `out` behind the third stay.
  *
  * Where there is no such error, one of the numbers above, and `out` is untouched. */
 uint32_t midgebillon_furthest(const uint32_t *errors, size_t errors_length,
