@@ -64,6 +64,11 @@ wanted 0 'value (1 (0 1) (2 (0 2) (0 3)))' examples/rules.book examples/rule.txt
 printf '(1' >"$built/open.txt"
 wanted 1 'refused 30 place 2 kind 1 argument 41 line 1 column 3' examples/rules.book "$built/open.txt"
 wanted 1 'refused 30 place 0 kind 11 argument 0 line 1 column 1' examples/rules.book "$built/missing.txt"
+# a tab moves the column to the next of 9, 17, 25 and so on
+printf '\t(1' >"$built/tab.txt"
+wanted 1 'refused 30 place 3 kind 1 argument 41 line 1 column 11' examples/rules.book "$built/tab.txt"
+printf '(1\n\t(' >"$built/lines.txt"
+wanted 1 'refused 30 place 4 kind 1 argument 41 line 2 column 9' examples/rules.book "$built/lines.txt"
 wanted 1 'refused 3 place 0 kind 0 argument 0 line 0 column 0' "$built/missing.book" examples/rule.txt
 # longer than the room that either program begins with
 repeated 40 '1-' >"$built/chain.txt" && printf '1' >>"$built/chain.txt"

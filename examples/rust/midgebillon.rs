@@ -284,6 +284,11 @@ mod tests {
             line(b"(1", 4096).unwrap(),
             b"refused 30 place 2 kind 1 argument 41 line 1 column 3\n"
         );
+        // a tab moves the column to the next of 9, 17, 25 and so on
+        assert_eq!(
+            line(b"\t(1", 4096).unwrap(),
+            b"refused 30 place 3 kind 1 argument 41 line 1 column 11\n"
+        );
         let no_book = read(b"", b"", 0, MOST_WORK).unwrap().answer();
         assert!(matches!(no_book, Answer::Refused { number: 3, .. }));
         let no_allowance = read(BOOK, b"1", 0, 0).unwrap().answer();

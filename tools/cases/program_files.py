@@ -2,7 +2,7 @@
 
 example.book is document 01's example book; right, none and both are the same with another associativity of minus.
 forms.book has a variant with every form of items. longest.book and longest.txt are as long as an accepted book and text
-can be; the longer ones are not accepted.
+can be; the longer ones are not accepted. tabs.txt has the greatest column that a text can have.
 """
 from cases.books import BOTH, COMMITTED, LEFT, NONE, RIGHT, book, word
 from cases.books import CHARACTER, COMMA_LIST, DELIMITED, IDENTIFIER, NONTERMINAL, NUMBER, OPTIONAL, OPTIONAL_DELIMITED
@@ -58,4 +58,5 @@ def files():
         "longest.txt": b"1" + b" " * 4095,
         "longer.txt": b"1" + b" " * 4096,
         "far_longer.txt": b"\x80" * 10000,
+        "tabs.txt": b"\t" * 4096,
     }

@@ -1,4 +1,4 @@
-"""Vectors: calls with all that document 01 makes of them.
+"""Vectors: calls with all that documents 01 and 02 make of them.
 
 One JSON object a line: `book` and `text` (hexadecimal), `start`, `allowance`, `cells_len` and `parses_len` (how many
 numbers are lent; where not given, all that a call writes and three more, which must stay), `answer` (refusal, place,

@@ -1,9 +1,9 @@
 -- Laws of numbers.
 --
 --   decimal-digit, decimal-digits     a number in decimal: its last digit, and those before
---   feeds-, since-                    the loops for the line and the column of a place
+--   feeds-, column-step, column-end   the loops for the line and the column of a place
+--   after-, column-bounds             the column after a byte
 use mathlib.Core.Path.{_≡_, refl, sym, ap, _∙_}
-use mathlib.Core.Bool.{cond}
 use mathlib.Core.List.{List, [], _∷_, _++_}
 use Prim.Native.Nat.{ℕ, zero, suc, _+_, _/_, _%_, _≤_, _<_}
 use native.Mathlib.Omega.{arith}
@@ -13,7 +13,7 @@ use lib.ListN.{length, getD, drop, drop-of-length-le}
 use lib.Seq.{drop-cons}
 use borrow.Author.Tests.{lt-ltb, le-ltb, ltb-true, ltb-false, eq-eqb, ne-eqb}
 use Rattle.characters.specs.Cases.{by-test}
-use Rattle.printing.specs.Printing.{digits, decimal, lineFeeds, sinceLineFeed}
+use Rattle.printing.specs.Printing.{digits, decimal, lineFeeds, tabStop, columnAfter, columnFrom}
 
 -- ---- Digits
 module _ (turns n : ℕ) where
@@ -66,21 +66,37 @@ module _ (bytes : List ℕ) (i n : ℕ) where
   unfolding lineFeeds
   feeds-end h = rw (drop-of-length-le bytes h) (omega arith)
 
-  pub since-hit : i < length bytes → getD bytes i 0 ≡ 10 →
-      sinceLineFeed 0 (drop (i + 1) bytes) ≡ sinceLineFeed n (drop i bytes)
-  unfolding sinceLineFeed
-  since-hit h e =
-      let begins : cond (eqb (getD bytes i 0) 10) 0 (suc n) ≡ 0 = rw (eq-eqb (getD bytes i 0) 10 e) in
-      rw (drop-cons bytes i 0 h, add-one i) (ap (λ (k : ℕ). sinceLineFeed k (drop (suc i) bytes)) (sym begins))
+  pub column-step : i < length bytes →
+      columnFrom (columnAfter n (getD bytes i 0)) (drop (i + 1) bytes) ≡ columnFrom n (drop i bytes)
+  unfolding columnFrom
+  column-step h = rw (drop-cons bytes i 0 h, add-one i)
 
-  pub since-miss : i < length bytes → (getD bytes i 0 ≡ 10 → ⊥) →
-      sinceLineFeed (n + 1) (drop (i + 1) bytes) ≡ sinceLineFeed n (drop i bytes)
-  unfolding sinceLineFeed
-  since-miss h e =
-      let goes-on : cond (eqb (getD bytes i 0) 10) 0 (suc n) ≡ suc n = rw (ne-eqb (getD bytes i 0) 10 e) in
-      rw (drop-cons bytes i 0 h, add-one i, add-one n)
-      (ap (λ (k : ℕ). sinceLineFeed k (drop (suc i) bytes)) (sym goes-on))
+  pub column-end : length bytes ≤ i → columnFrom n (drop i bytes) ≡ n
+  unfolding columnFrom
+  column-end h = rw (drop-of-length-le bytes h)
 
-  pub since-end : length bytes ≤ i → sinceLineFeed n (drop i bytes) ≡ n
-  unfolding sinceLineFeed
-  since-end h = rw (drop-of-length-le bytes h)
+-- ---- The column after a byte
+module _ (column b next : ℕ) where
+  pub after-line-feed : b ≡ 10 → next ≡ 1 → next ≡ columnAfter column b
+  unfolding columnAfter
+  after-line-feed e is = rw (eq-eqb b 10 e) is
+
+  pub after-tab : (b ≡ 10 → ⊥) → b ≡ 9 → next ≡ tabStop column → next ≡ columnAfter column b
+  unfolding columnAfter
+  after-tab h e is = rw (ne-eqb b 10 h, eq-eqb b 9 e) is
+
+  pub after-other : (b ≡ 10 → ⊥) → (b ≡ 9 → ⊥) → next ≡ suc column → next ≡ columnAfter column b
+  unfolding columnAfter
+  after-other h g is = rw (ne-eqb b 10 h, ne-eqb b 9 g) is
+
+-- it is moved by at most 8, and never in front of 1
+pub column-bounds : (column b : ℕ) → 1 ≤ column →
+    (1 ≤ columnAfter column b) × (columnAfter column b ≤ column + 8)
+unfolding columnAfter
+column-bounds column b h =
+    by-test (eqb b 10)
+    (λ t. rw t (omega (arith, h), omega (arith, h)))
+    (λ t.
+    by-test (eqb b 9)
+    (λ u. rw (t, u) (omega (arith, h), omega (arith, h)))
+    (λ u. rw (t, u) (omega (arith, h), omega (arith, h))))

@@ -1,7 +1,7 @@
--- Document 01, "Printing": the line for an answer, as a list of bytes.
+-- Document 01, "Printing", with the columns of document 02, a: the line for an answer, as a list of bytes.
 use mathlib.Core.Bool.{Bool, true, false, cond, _||_}
 use mathlib.Core.List.{List, [], _∷_, _++_}
-use Prim.Native.Nat.{ℕ, zero, suc, _+_, _/_, _%_}
+use Prim.Native.Nat.{ℕ, zero, suc, _+_, _-_, _*_, _/_, _%_}
 use lib.Dec.{ltb, eqb}
 use lib.ListN.{take, drop}
 use Rattle.book.specs.Book.{Entry, nthEntry}
@@ -77,15 +77,28 @@ unfoldable mutual
 abbrev pub valueBytes : List Entry → List ℕ → List ℕ → ℕ → List ℕ
 valueBytes names text numbers n = printed names (treeAt text (cellsIn (take cellsSize numbers)) n)
 
--- ---- "For 11 and 30, L is 1 plus line feeds before the place, C is 1 plus bytes since the last; else both 0"
+-- ---- "For 11 and 30, L is 1 plus line feeds before the place"; "else both 0"
 unfoldable pub lineFeeds : List ℕ → ℕ
 lineFeeds [] = 0
 lineFeeds (b ∷ bs) = cond (eqb b lineFeed) (suc (lineFeeds bs)) (lineFeeds bs)
 
--- bytes since the last line feed, or since the start, n of them before these bytes
-unfoldable pub sinceLineFeed : ℕ → List ℕ → ℕ
-sinceLineFeed n [] = n
-sinceLineFeed n (b ∷ bs) = sinceLineFeed (cond (eqb b lineFeed) 0 (suc n)) bs
+-- ---- C is the column of the place, 1 at the beginning and after a line feed. Document 02, a: "A tab now moves the
+-- column to the next of 9, 17, 25 and so on; every other byte still moves it by one."
+abbrev pub tab : ℕ
+tab = 9
+
+-- the next of 9, 17, 25 and so on: the least that is above the column (`next-stop` of Worked)
+abbrev pub tabStop : ℕ → ℕ
+tabStop column = 9 + 8 * ((column - 1) / 8)
+
+-- the column after a byte
+unfoldable pub columnAfter : ℕ → ℕ → ℕ
+columnAfter column b = cond (eqb b lineFeed) 1 (cond (eqb b tab) (tabStop column) (suc column))
+
+-- the column after bytes, the first of which stands in this column
+unfoldable pub columnFrom : ℕ → List ℕ → ℕ
+columnFrom column [] = column
+columnFrom column (b ∷ bs) = columnFrom (columnAfter column b) bs
 
 abbrev pub hasLine : Answer → Bool
 hasLine a = eqb (a .refusal) highByte || eqb (a .refusal) noParse
@@ -94,7 +107,7 @@ abbrev pub lineOf : List ℕ → Answer → ℕ
 lineOf text a = cond (hasLine a) (suc (lineFeeds (take (a .place) text))) 0
 
 abbrev pub columnOf : List ℕ → Answer → ℕ
-columnOf text a = cond (hasLine a) (suc (sinceLineFeed 0 (take (a .place) text))) 0
+columnOf text a = cond (hasLine a) (columnFrom 1 (take (a .place) text)) 0
 
 -- ---- The line
 -- `value `

@@ -1,12 +1,17 @@
 // The line and the column of a place.
 ghost use mathlib.Core.Path.{_≡_};
-ghost use Prim.Native.Nat.{suc, _≤_};
+ghost use Prim.Native.Nat.{suc, _*_, _≤_};
 ghost use lib.ListN.{length, take};
 ghost use Rattle.characters.specs.Slices.{atEntry};
-ghost use Rattle.printing.specs.Printing.{lineFeeds, sinceLineFeed};
+ghost use Rattle.printing.specs.Printing.{lineFeeds, columnAfter, columnFrom};
 use characters::part;
 
+const TAB: u8 = 9;
+
 const LINE_FEED: u8 = 10;
+
+// How many columns lie from one tab stop to the next.
+const TAB_SIZE: usize = 8;
 
 fn line_feeds(bytes: &[u8]) -> usize
     ensures { λ r. ⌜ (r ≡ lineFeeds (atEntry bytes)) × (r ≤ length (atEntry bytes)) ⌝ }
@@ -22,20 +27,19 @@ fn line_feeds(bytes: &[u8]) -> usize
     found
 }
 
-fn since_line_feed(bytes: &[u8]) -> usize
-    ensures { λ r. ⌜ (r ≡ sinceLineFeed 0 (atEntry bytes)) × (r ≤ length (atEntry bytes)) ⌝ }
+// The column behind a byte: a tab moves to the next of 9, 17, 25 and so on. A byte moves by at most 8 and a place has
+// 32 bits, so no column comes near the limit of its type.
+fn next_column(column: usize, byte: u8) -> usize
+    requires { ⌜ (1 ≤ column) × (column ≤ 8 * 4294967296) ⌝ }
+    ensures { λ r. ⌜ r ≡ columnAfter column byte ⌝ }
 {
-    let mut since = 0;
-    let mut i = 0;
-    while i < bytes.len() {
-        if bytes[i] == LINE_FEED {
-            since = 0;
-        } else {
-            since += 1;
-        }
-        i += 1;
+    if byte == LINE_FEED {
+        return 1;
     }
-    since
+    if byte == TAB {
+        return (column + TAB_SIZE - 1) / TAB_SIZE * TAB_SIZE + 1;
+    }
+    column + 1
 }
 
 pub fn line(text: &[u8], place: u32) -> usize
@@ -45,7 +49,14 @@ pub fn line(text: &[u8], place: u32) -> usize
 }
 
 pub fn column(text: &[u8], place: u32) -> usize
-    ensures { λ r. ⌜ r ≡ suc (sinceLineFeed 0 (take place (atEntry text))) ⌝ }
+    ensures { λ r. ⌜ r ≡ columnFrom 1 (take place (atEntry text)) ⌝ }
 {
-    since_line_feed(part(text, 0, place as usize)) + 1
+    let before = part(text, 0, place as usize);
+    let mut column = 1;
+    let mut i = 0;
+    while i < before.len() {
+        column = next_column(column, before[i]);
+        i += 1;
+    }
+    column
 }

@@ -75,6 +75,8 @@ pub fn places() {
     );
     case(b"a byte of 255 at the start: ", b"example.book", b"\xff");
     case(b"a refusal without a line: ", b"example.book", b"\n1 2");
+    case(b"behind a tab: ", b"example.book", b"\t(1");
+    file_case(b"behind 4,096 tabs: ", b"example.book", b"tabs.txt");
 }
 
 // Files: missing ones, the longest accepted, and longer ones.
