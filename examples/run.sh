@@ -1,5 +1,6 @@
 #!/usr/bin/env bash
-# Builds the examples in C and in Rust on the static library and runs both: on the example rule, and on what else document 01 says of the line.
+# Builds the examples in C and in Rust on the static library and runs both: on the example rule, and on what else the
+# documents say of the line.
 # The library is proved and written first, unless it is newer than the crates' files or LIBRARY names another archive.
 # The status is 0 if every line and exit status is as wanted.
 set -euo pipefail

@@ -97,7 +97,8 @@ void midgebillon_read(const uint8_t *book, size_t book_length,
  * midgebillon_read.
  *
  * In refusals 11 and 30 line and column are those of the place, from 1; else both are 0. A tab moves the column to the
- * next of 9, 17, 25 and so on, and every other byte, a carriage return too, moves it by one; a line feed begins a line.
+ * next of 9, 17, 25 and so on, and every other byte, a carriage return too, moves it by one; behind a line feed it is 1
+ * again.
  *
  * 0, with `out` untouched, where the line has more than `out_length` bytes, or the numbers are no answer: fewer than
  * seven; a refusal that is not in the table above; or a value (refusal 0) whose book is not accepted, or whose cell is

@@ -15,8 +15,8 @@ writes, or --library FILE.
 
     python3 tools/replay.py --through definitions VECTORS.jsonl ..
 
-The definitions of document 01, translated into Python (tools/definitions.py): no proof, but it reaches vectors that are
-too long for the prover. --processes N runs N at a time; --limit-work N leaves out vectors of more work.
+The definitions, translated into Python (tools/definitions.py): no proof, but it reaches vectors that are too long for
+the prover. --processes N runs N at a time; --limit-work N leaves out vectors of more work.
 
 It prints the first few vectors that differ, by file and line, then how many there are and how many differ. The status
 is 1 if any differs.

@@ -2,9 +2,9 @@
 
 One JSON object a line: `book` and `text` (hexadecimal), `start`, `allowance`, `cells_len` and `parses_len` (how many
 numbers are lent; where not given, all that a call writes and three more, which must stay), `answer` (refusal, place,
-kind, argument, work, number of parses, value cell), `cells` (its numbers, trailing zeros cut; null where both lists are
-untouched), `parses` (rest, level, associativity, cell), and `printed` (the line, without its line feed). Other keys are
-remarks.
+kind, argument, work, number of parses, value cell), `cells` (its numbers, trailing zeros cut) and `parses` (rest,
+level, associativity, cell), both null where the lists are untouched, and `printed` (the line, without its line feed).
+Other keys are remarks.
 """
 import json
 import os

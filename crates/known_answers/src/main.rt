@@ -1,6 +1,6 @@
-// Replays known answers: calls with their whole answers by document 01 (data/vectors.bin), and books and texts with
-// what the Rust answered (data/rust.bin). It writes each case that differs, with the first number that does, and then
-// how many cases there are and how many differ.
+// Replays known answers: calls with their whole answers by documents 01 and 02 (data/vectors.bin), and books and texts
+// with what the Rust answered (data/rust.bin). It writes each case that differs, with the first number that does, and
+// then how many cases there are and how many differ.
 //
 // Of a vector everything is compared: the seven numbers of the answer; every number of both lists, also those beyond
 // what a call writes; the line, in exactly enough room, and that one byte too few leaves the room untouched. Of an

@@ -1,6 +1,6 @@
-// A vector: a call, and all that document 01 makes of it. Behind the lengths the head has the start, the allowance, the
-// lengths of the lent lists, the seven numbers of the answer, 1 if the lists are written (else 0), and how many numbers
-// of the cells and of the parses are given. These stand behind the line; zeros follow them.
+// A vector: a call, and all that the documents make of it. Behind the lengths the head has the start, the allowance,
+// the lengths of the lent lists, the seven numbers of the answer, 1 if the lists are written (else 0), and how many
+// numbers of the cells and of the parses are given. These stand behind the line; zeros follow them.
 use crate::difference::At;
 use crate::difference::Difference;
 use crate::difference::Part;

@@ -2,7 +2,7 @@
 -- and the columns of document 02, a.
 use mathlib.Core.Path.{_≡_, refl, ap, _∙_}
 use mathlib.Core.List.{List, [], _∷_, _++_}
-use Prim.Native.Nat.{ℕ, zero, suc, _+_, _*_, _≤_, _<_}
+use Prim.Native.Nat.{ℕ, zero, suc, _+_, _-_, _*_, _/_, _≤_, _<_}
 use native.Mathlib.Omega.{arith}
 use lib.ListN.{length, replicate, length-replicate}
 use lib.Seq.{take-all}
@@ -47,9 +47,10 @@ no-line : (lineOf badByte (answer 31 0 0 0 5 2 0) ≡ 0) × (columnOf badByte (a
 no-line = (refl, refl)
 
 -- ---- Columns
--- "the next of 9, 17, 25 and so on": it is above the column, and none of them lies between
-next-stop : (column : ℕ) → (column < tabStop column) × ((k : ℕ) → column < 9 + 8 * k → tabStop column ≤ 9 + 8 * k)
-next-stop column = (omega arith, λ k h. omega (arith, h))
+-- "the next of 9, 17, 25 and so on": it is one of them, above the column, and none of them lies between
+next-stop : (column : ℕ) → ((k : ℕ) × (tabStop column ≡ 9 + 8 * k)) × (column < tabStop column)
+    × ((k : ℕ) → column < 9 + 8 * k → tabStop column ≤ 9 + 8 * k)
+next-stop column = (((column - 1) / 8, refl), omega arith, λ k h. omega (arith, h))
 
 -- the column of refusal 30 at a place
 columnAt : List ℕ → ℕ → ℕ
