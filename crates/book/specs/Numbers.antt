@@ -47,6 +47,15 @@ mostNonterminals = 32
 abbrev pub mostVariants : ℕ
 mostVariants = 128
 
+-- ---- Bytes of a record
+-- "mark, number of variants"
+abbrev pub nonterminalSize : ℕ
+nonterminalSize = 2
+
+-- of a variant: "level; associativity ..; flags ..; steps"; of a step: "kind, a, b, c"
+abbrev pub recordSize : ℕ
+recordSize = 4
+
 -- ---- Fields
 -- "reserved 0 or 1"
 abbrev pub reserved : ℕ

@@ -63,6 +63,10 @@ pub record ListEntry (text : List ℕ) (a : Answered) (i : ℕ) (p : Parse Tree)
   pub associativity : getD (a .parses) (parseSize * i + 2) 0 ≡ associativityNumber (p .associativity)
   pub value : StandsFor text (a .cells) (getD (a .parses) (parseSize * i + 3) 0) (p .value)
 
+-- one of the entries that count holds it
+abbrev pub Lists : List ℕ → Answered → Parse Tree → Type 0
+Lists text a p = (i : ℕ) × (i < a .answer .parses) × ListEntry text a i p
+
 -- "its derivation reaches the end"
 pub record ReachesEnd (book : Book) (text : List ℕ) (start : ℕ) (p : Parse Tree) : Type 0 where
   pub derived : DerivesText book text start p
@@ -92,8 +96,7 @@ module _ (book : Book) (text : List ℕ) (start : ℕ) where
 
   pub record Exact (a : Answered) : Type 0 where
     -- "exactly those with a finite derivation"
-    pub derivable : (p : Parse Tree) →
-        DerivesText book text start p ↔ ((i : ℕ) × (i < a .answer .parses) × ListEntry text a i p)
+    pub derivable : (p : Parse Tree) → DerivesText book text start p ↔ Lists text a p
     -- "each once": a parse stands in one entry, and each entry that counts holds one parse
     pub once : (p : Parse Tree) (i k : ℕ) → i < a .answer .parses → k < a .answer .parses →
         ListEntry text a i p → ListEntry text a k p → i ≡ k

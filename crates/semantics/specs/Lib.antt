@@ -12,6 +12,8 @@ pub mod ErrorLaws
 pub mod Furthest
 pub mod FurthestLaws
 pub mod Answer
+pub mod Allowance
 pub mod ExampleBook
 pub mod Exact
+pub mod Extension
 pub mod Theorem
