@@ -35,6 +35,9 @@ between-over low high b h = rw (lt-leb b high h) (and-false (leb low b))
 pub between-high : (low high b : ℕ) → between low high b ≡ true → b ≤ high
 between-high low high b e = by-test (leb b high) (λ t. leb-true b high t) (λ t. clash e (rw t (and-false (leb low b))))
 
+pub between-low : (low high b : ℕ) → between low high b ≡ true → low ≤ b
+between-low low high b e = by-test (leb low b) (λ t. leb-true low b t) (λ t. clash e (rw t refl))
+
 -- ---- A byte
 module _ (fits : ℕ → Bool) (number at : ℕ) (book : List ℕ) (place : ℕ) where
   pub checked-bad : place < length book → fits (getD book place 0) ≡ false →
@@ -51,8 +54,9 @@ module _ (fits : ℕ → Bool) (number at : ℕ) (book : List ℕ) (place : ℕ)
   unfolding checked
   checked-good h e = rw (lt-ltb place (length book) h, e)
 
-  -- a byte that was read is the one at the place, and passes the test
+  -- a byte that was read is the one at the place, which the book has, and passes the test
   pub record ByteRead (v q : ℕ) : Type 0 where
+    pub inside : place < length book
     pub value : v ≡ getD book place 0
     pub next : q ≡ place + 1
     pub fitted : fits v ≡ true
@@ -65,7 +69,7 @@ module _ (fits : ℕ → Bool) (number at : ℕ) (book : List ℕ) (place : ℕ)
       (λ good. let g = checked-good h good in
       let value : v ≡ getD book place 0 = cc in
       let next : q ≡ place + 1 = cc in
-      record { value = value; next = next; fitted = ap fits value ∙ good })
+      record { inside = h; value = value; next = next; fitted = ap fits value ∙ good })
       (λ bad. let b = checked-bad h bad in let z : _≡_ {A = ℕ} 0 1 = cc in absurd (omega arith)))
       (λ t.
       let s = checked-short (ltb-false place (length book) t) in let z : _≡_ {A = ℕ} 0 1 = cc in absurd (omega arith))

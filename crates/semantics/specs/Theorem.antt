@@ -1,3 +1,5 @@
+-- The theorems of the definitions.
+--
 -- Found is derivable: `Exact` of every answer that isn't refused before the run and meets no limit. The proof, file by
 -- file:
 --
@@ -15,6 +17,8 @@ pub mod Exactly
 pub mod Results
 pub mod Tokens
 pub mod Sets
+pub mod Records
+pub mod Sections
 pub mod BookFacts
 -- cells: what each stands for stays, and two that stand for the same are one
 pub mod Meanings
