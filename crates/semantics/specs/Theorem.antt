@@ -38,3 +38,7 @@ pub mod Standing
 pub mod Listing
 pub mod Outcomes
 pub mod Found
+--
+-- A larger allowance changes nothing (specs/Allowance.antt): two runs side by side, of which the second has more units
+pub mod SideBySide
+pub mod Longer
