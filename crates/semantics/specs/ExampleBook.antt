@@ -64,17 +64,17 @@ readsWithin allowance book text = rowOf text (answeredWithin allowance book text
 abbrev pub reads : List ℕ → List ℕ → Row
 reads book text = rowOf text (answerTo book text)
 
-abbrev n : ℕ → Tree
+abbrev pub n : ℕ → Tree
 n i = Tree.variant 0 (no-trees ▸ Tree.number i)
 
-abbrev minus : Tree → Tree → Tree
+abbrev pub minus : Tree → Tree → Tree
 minus a b = Tree.variant 1 (no-trees ▸ a ▸ b)
 
 abbrev times : Tree → Tree → Tree
 times a b = Tree.variant 2 (no-trees ▸ a ▸ b)
 
 -- what the rows compute with: every definition that is shut
-computing : Unit {0}
+unfoldable pub computing : Unit {0}
 unfolding classOf leading spanEnd commentAt commentEnd roundEnd skipRounds skipFrom identifierAt decimal numberOf
     numberAt same isReserved lookupFrom checked records spelling entry nonterminal variant stepOf step allPass ended
     entireBook checkBook outwards govern governor isSome characterEnd identifierEnd reservedAt freeEnd variableAt stepAt

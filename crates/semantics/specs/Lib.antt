@@ -16,4 +16,5 @@ pub mod Allowance
 pub mod ExampleBook
 pub mod Exact
 pub mod Extension
+pub mod ExtensionExample
 pub mod Theorem

@@ -39,6 +39,9 @@ pub mod Listing
 pub mod Outcomes
 pub mod Found
 --
+-- Adding a variant loses nothing (specs/Extension.antt): one induction over derivations
+pub mod Extension
+--
 -- A larger allowance changes nothing (specs/Allowance.antt): two runs side by side, of which the second has more units
 pub mod SideBySide
 pub mod Longer

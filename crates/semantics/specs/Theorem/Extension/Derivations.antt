@@ -1,0 +1,114 @@
+-- A book with one variant more derives all that it derived before. No rule of derivations has a premise that a further
+-- variant breaks: a rule asks that there are variants, of their levels, steps and marks, of words and names, and of the
+-- path, and none of these changes at a number that the shorter book has.
+use mathlib.Core.Path.{_≡_, refl, sym, _∙_}
+use mathlib.Core.List.{List, [], _∷_}
+use Prim.Native.Nat.{ℕ, _≤_, _<_}
+use native.Mathlib.Omega.{arith}
+use lib.ListN.{length}
+use Rattle.characters.specs.Skipping.{skipFrom}
+use Rattle.book.specs.Book.{Book, nthNonterminal, nthVariant}
+use Rattle.book.specs.declared.records.Step.{Step}
+use Rattle.semantics.specs.Values.{Tree, Trees, Parse}
+use Rattle.semantics.specs.Uses.{Path, base}
+use Rattle.semantics.specs.Tokens.{reservedAt, freeEnd, variableAt, hasClaimant, claimed}
+use Rattle.semantics.specs.Steps.{stepAt, Todo, stepsOf}
+use Rattle.semantics.specs.Derivations.{Attempt, variantOf, inside, Derives, by-variant, by-governor}
+use Rattle.semantics.specs.Derivations.{by-identifier, Through, done, by-token, by-child, by-absent, by-one}
+use Rattle.semantics.specs.Derivations.{by-list, by-unopened, by-stop, by-more, by-last, by-ending}
+use Rattle.semantics.specs.Theorem.Results.{option-cases}
+
+-- what the rules ask of a book, and what of it a longer one retains
+pub record Retains (book longer : Book) : Type 0 where
+  pub words : longer .words ≡ book .words
+  pub names : longer .names ≡ book .names
+  pub marks : (N : ℕ) → nthNonterminal longer N .mark ≡ nthNonterminal book N .mark
+  pub firsts : (N : ℕ) → nthNonterminal longer N .first ≡ nthNonterminal book N .first
+  pub counts : (N : ℕ) → nthNonterminal book N .count ≤ nthNonterminal longer N .count
+  pub inside : (N i : ℕ) → i < nthNonterminal book N .count → variantOf book N i < length (book .variants)
+  pub variants : (j : ℕ) → j < length (book .variants) → nthVariant longer j ≡ nthVariant book j
+  pub steps : (j : ℕ) → stepsOf longer (nthVariant book j) ≡ stepsOf book (nthVariant book j)
+
+module _ (book longer : Book) (text : List ℕ) (retains : Retains book longer) where
+  -- ---- Tokens
+  reserved-still : (at : ℕ) → reservedAt longer text at ≡ reservedAt book text at
+  unfolding reservedAt
+  reserved-still at = rw (retains .words) refl
+
+  free-still : (at : ℕ) → freeEnd longer text at ≡ freeEnd book text at
+  unfolding freeEnd
+  free-still at = rw (reserved-still at) refl
+
+  variable-still : (at : ℕ) → variableAt longer text at ≡ variableAt book text at
+  unfolding variableAt
+  variable-still at =
+      option-cases (freeEnd book text at)
+      (λ missing. rw (free-still at ∙ missing, missing, variableAt) refl)
+      (λ end there. rw (free-still at ∙ there, there, variableAt, retains .names) refl)
+
+  claimant-still : (P : Path) (scope u : ℕ) → hasClaimant longer text P scope u ≡ hasClaimant book text P scope u
+  unfolding hasClaimant
+  claimant-still [] scope u = refl
+  claimant-still (f ∷ P) scope u = rw (retains .marks (f .nonterminal), claimant-still P scope u) refl
+
+  claimed-still : (P : Path) (scope u : ℕ) → claimed longer text P scope u ≡ claimed book text P scope u
+  claimed-still P scope u = rw (variable-still u, claimant-still P scope u) refl
+
+  step-still : (s : Step) (x : ℕ) → stepAt longer text s x ≡ stepAt book text s x
+  unfolding stepAt
+  step-still (Step.Character a) x = refl
+  step-still (Step.Word a) x = rw (retains .words) refl
+  step-still Step.Identifier x = rw (free-still (skipFrom text x), stepAt) refl
+  step-still Step.Number x = refl
+  step-still Step.Variable x = rw (variable-still (skipFrom text x), stepAt) refl
+  step-still (Step.VariableOfKind a) x = rw (variable-still (skipFrom text x), stepAt) refl
+  step-still Step.RejectVariable x = rw (variable-still (skipFrom text x), stepAt) refl
+  step-still Step.RejectReserved x = rw (reserved-still (skipFrom text x)) refl
+  step-still (Step.Nonterminal M) x = refl
+  step-still (Step.Optional M) x = refl
+  step-still (Step.Many M) x = refl
+  step-still (Step.CommaList M) x = refl
+  step-still (Step.Delimited M b c) x = refl
+  step-still (Step.OptionalDelimited M b c) x = refl
+
+  -- ---- Derivations
+  -- the variant of an attempt is the shorter book's
+  abbrev Same : Attempt → Type 0
+  Same a = nthVariant longer (a .variant) ≡ nthVariant book (a .variant)
+
+  -- so the path of its children is the same
+  child-still : (a : Attempt) {at M : ℕ} {q : Parse Tree} → Same a →
+      Derives longer text (inside book a at) M at q → Derives longer text (inside longer a at) M at q
+  child-still a same d = rw same d
+
+  variant-still : (N i : ℕ) → variantOf longer N i ≡ variantOf book N i
+  variant-still N i = rw (retains .firsts N) refl
+
+  mutual
+    pub derives-still : {P : Path} {N u : ℕ} {p : Parse Tree} → Derives book text P N u p → Derives longer text P N u p
+    derives-still (by-variant {N = N} {p = p} {i = i} e few high t) =
+        let less = retains .counts N in
+        let j = variant-still N i in
+        let same : nthVariant longer (variantOf book N i) ≡ nthVariant book (variantOf book N i) =
+        retains .variants (variantOf book N i) (retains .inside N i few) in
+        by-variant {p = p} {i = i} e (omega arith) (rw (j, same) high)
+        (rw (j, same, retains .steps (variantOf book N i)) (through-still same t))
+    derives-still (by-governor e d c) = by-governor e (derives-still d) c
+    derives-still (by-identifier {P = P} {N = N} {u = u} e mark free end v) =
+        by-identifier e (rw (retains .marks N) mark) (claimed-still P base u ∙ free) (free-still u ∙ end) v
+
+    through-still : {a : Attempt} {todo : List (Todo Trees)} {x : ℕ} {items : Trees} → Same a →
+        Through book text a todo x items → Through longer text a todo x items
+    through-still same (done e) = done (rw (sym same) at e)
+    through-still same (by-token e t) = by-token (step-still _ _ ∙ e) (through-still same t)
+    through-still same (by-child {a = a} e d t) =
+        by-child (step-still _ _ ∙ e) (child-still a same (derives-still d)) (through-still same t)
+    through-still same (by-absent e t) = by-absent (step-still _ _ ∙ e) (through-still same t)
+    through-still same (by-one {a = a} e d t) =
+        by-one (step-still _ _ ∙ e) (child-still a same (derives-still d)) (through-still same t)
+    through-still same (by-list e t) = by-list (step-still _ _ ∙ e) (through-still same t)
+    through-still same (by-unopened e t) = by-unopened (step-still _ _ ∙ e) (through-still same t)
+    through-still same (by-stop t) = by-stop (through-still same t)
+    through-still same (by-more {a = a} d e t) = by-more (child-still a same (derives-still d)) e (through-still same t)
+    through-still same (by-last {a = a} d e t) = by-last (child-still a same (derives-still d)) e (through-still same t)
+    through-still same (by-ending e t) = by-ending e (through-still same t)
