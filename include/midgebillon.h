@@ -78,6 +78,9 @@ enum {
  * The first seven numbers of `answer` become the answer; those behind them stay. Where `answer_length` is under seven,
  * nothing at all is touched.
  *
+ * An answer other than 20 under an allowance from 1 to 1,000,000 is the same under each larger one up to there; so are
+ * both lists, if they held the same before.
+ *
  * On success and in refusals 31 and 32 the lists hold the result: in `parses` four numbers for each parse, which are
  * its rest (where it ends in the text), level, associativity (0 Left, 1 Right, 2 None, 3 Both) and value cell; in
  * `cells` three numbers for each cell, cell n at 3n - 3, whose first says what it is: 1 empty chain; 2 chain, item;

@@ -3,9 +3,9 @@
 
     python3 tools/landing.py BEFORE AFTER [--proved LOG LOG]
 
-prints, for two commits, what happened to the definitions, laws, worked answers, contracts and proofs: how many files (of
-contracts: functions) were changed, added, removed or stayed as they were, and their lines; and the names of the files
-of definitions and of the functions whose contracts changed, which a note speaks of. A file that was only moved or
+prints, for two commits, what happened to the definitions, laws, worked answers, contracts and proofs: how many files
+(of contracts: functions) were changed, added, removed or stayed as they were, and their lines; and the names of the
+files of definitions and of the functions whose contracts changed, which a note speaks of. A file that was only moved or
 renamed counts as it is compared by git. With the outputs of `rt prove` of both commits, each from a fresh clone with
 nothing beside it, it prints the seconds of each crate too.
 """
@@ -20,7 +20,7 @@ ROOT = os.path.dirname(os.path.dirname(os.path.abspath(__file__)))
 KINDS = ["definitions", "laws", "worked answers", "code", "proofs"]
 FATES = ["changed", "added", "removed", "untouched"]
 LAWS = re.compile(r"Laws\b|Laws/|Theorem|run_model/specs/(Keeps|Sim|Views)")
-WORKED = re.compile(r"specs/(ExampleBook|Worked|Cases)\.antt$")
+WORKED = re.compile(r"specs/(ExampleBook|ExtensionExample|Worked|Cases)\.antt$")
 
 
 def git(*words):
