@@ -2,3 +2,4 @@
 pub mod Library
 pub mod LibraryLaws
 pub mod Joining
+pub mod TwoCallLaws

@@ -163,20 +163,21 @@ module _ {A : Type 0} (size : A → ℕ) (one : ℕ → Reader A) (bytes : List 
       rw (f .all) (split-more n m sum place (f .first) (f .at) (f .others) end (f .read)
       (records-split n m all (sum + size (f .first)) (f .at) (f .others) end (omega (arith, is)) (f .read-on)))
 
+pub at-number : {A : Type 0} (P : A → Type 0) (d : A) (i : ℕ) (x : A) (xs : List A) → P x →
+    ((k : ℕ) → P (getD xs k d)) → P (getD (x ∷ xs) i d)
+at-number P d zero x xs here others = here
+at-number P d (suc i) x xs here others = others i
+
 -- What holds of every record that `one` reads holds of all records; d stands for one that there isn't
 module _ {A : Type 0} (size : A → ℕ) (one : ℕ → Reader A) (P : A → Type 0) (bytes : List ℕ)
     (each : (sum place : ℕ) (x : A) (end : ℕ) → one sum bytes place ≡ accepted x end → P x) (d : A) (beyond : P d) where
-  at-number : (i : ℕ) (x : A) (xs : List A) → P x → ((k : ℕ) → P (getD xs k d)) → P (getD (x ∷ xs) i d)
-  at-number zero x xs here others = here
-  at-number (suc i) x xs here others = others i
-
   pub records-each : (n sum place : ℕ) {xs : List A} {end : ℕ} →
       records size one n sum bytes place ≡ accepted xs end → (i : ℕ) → P (getD xs i d)
   unfolding records
   records-each zero sum place e i = subst (λ (l : List A). P (getD l i d)) (accepted-inj e) beyond
   records-each (suc n) sum place {xs} {end} e i =
       let f = records-first size one bytes n sum place xs end e in
-      rw (f .all) (at-number i (f .first) (f .others) (each sum place (f .first) (f .at) (f .read))
+      rw (f .all) (at-number P d i (f .first) (f .others) (each sum place (f .first) (f .at) (f .read))
       (records-each n (sum + size (f .first)) (f .at) (f .read-on)))
 
 -- Where each record begins at the sum of the sizes before it, it ends within the sum of all; d stands for one that

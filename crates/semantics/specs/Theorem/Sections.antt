@@ -4,7 +4,7 @@
 use mathlib.Core.Path.{_≡_, refl, sym, ap, subst, _∙_}
 use mathlib.Core.Bool.{Bool, true}
 use mathlib.Core.List.{List, [], _∷_, map}
-use Prim.Native.Nat.{ℕ, zero, suc, _+_, _≤_, _<_}
+use Prim.Native.Nat.{ℕ, _+_, _≤_, _<_}
 use native.Mathlib.Omega.{arith}
 use lib.Dec.{eqb}
 use lib.ListN.{length, getD}
@@ -21,6 +21,7 @@ use Rattle.book.specs.declared.records.Nonterminal.{Nonterminal}
 use Rattle.book.specs.declared.records.Variant.{Variant}
 use Rattle.book.specs.declared.records.Step.{Step}
 use Rattle.semantics.specs.Theorem.Records.{refused-accepted, accepted-inj, accepted-end, by-then, by-byte}
+use Rattle.semantics.specs.Theorem.Records.{at-number}
 
 -- ---- Records
 module _ (bytes : List ℕ) where
@@ -87,14 +88,9 @@ unfolding allPass
 all-pass steps [] bytes place e j = refl
 all-pass steps (v ∷ vs) bytes place e j =
     by-test (passes steps (v .1))
-    (λ t. at-number j t (λ k. all-pass steps vs bytes place (rw t at e) k))
+    (λ t. at-number (λ w. passes steps w ≡ true) noVariant j (v .1) (map (λ v. v .1) vs) t
+    (all-pass steps vs bytes place (rw t at e)))
     (λ t. absurd (refused-accepted (rw t at e)))
-  where
-    at-number : (j : ℕ) → passes steps (v .1) ≡ true →
-        ((k : ℕ) → passes steps (getD (map (λ v. v .1) vs) k noVariant) ≡ true) →
-        passes steps (getD (map (λ v. v .1) (v ∷ vs)) j noVariant) ≡ true
-    at-number zero t others = t
-    at-number (suc j) t others = others j
 
 -- the sections one after the other; and what is asked of passing variants, all of them meet
 pub record Sections (bytes : List ℕ) (book : Book) : Type 0 where

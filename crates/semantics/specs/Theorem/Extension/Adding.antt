@@ -15,7 +15,7 @@ use Rattle.semantics.specs.Theorem.Sections.{Sections, book-sections}
 use Rattle.semantics.specs.Theorem.BookFacts.{no-variants}
 use Rattle.semantics.specs.Theorem.Found.{found-is-exactly-derivable}
 use Rattle.semantics.specs.Theorem.Extension.Places.{steps-place}
-use Rattle.semantics.specs.Theorem.Extension.Bytes.{Agree, bytes-agree}
+use Rattle.semantics.specs.Theorem.Extension.Bytes.{BytesAgree, bytes-agree}
 use Rattle.semantics.specs.Theorem.Extension.Books.{last-grown, Grown, book-grown}
 use Rattle.semantics.specs.Theorem.Extension.Retained.{retained}
 use Rattle.semantics.specs.Theorem.Extension.Derivations.{Retains, derives-still}
@@ -27,7 +27,7 @@ module _ (bytes extended : List ℕ) (e : Extends bytes extended) where
   after : Sections extended (e .extendedBook)
   after = book-sections extended (e .extendedBook) (e .accepted-too)
 
-  agree : Agree (e .book) bytes extended (ownStepCount (e .variant))
+  agree : BytesAgree (e .book) bytes extended (ownStepCount (e .variant))
   agree =
       let inside : stepCountAt (e .book) < length bytes =
       omega (arith, before .steps .inside, steps-place bytes (e .book) before) in

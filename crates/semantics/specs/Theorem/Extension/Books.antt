@@ -23,7 +23,7 @@ use Rattle.semantics.specs.Theorem.Records.{records-split}
 use Rattle.semantics.specs.Theorem.Sections.{nonterminal-told, variant-told, Counted, Sections}
 use Rattle.semantics.specs.Theorem.Extension.Places.{total-same, names-place, nonterminals-place}
 use Rattle.semantics.specs.Theorem.Extension.Places.{nonterminals-count, variants-place, steps-place, steps-end}
-use Rattle.semantics.specs.Theorem.Extension.Bytes.{Agree}
+use Rattle.semantics.specs.Theorem.Extension.Bytes.{BytesAgree}
 use Rattle.semantics.specs.Theorem.Extension.Alike.{entries-alike, nonterminals-alike, variants-alike}
 use Rattle.semantics.specs.Theorem.Extension.Alike.{steps-alike, Lengthened, nothing-more, lengthened-section}
 
@@ -68,7 +68,7 @@ pub record Grown (book extension : Book) : Type 0 where
 
 -- ---- Words, names and nonterminals
 module _ (book extension : Book) (bytes other : List ℕ) (stepsMore : ℕ)
-    (agree : Agree book bytes other stepsMore) (a : Sections bytes book) (b : Sections other extension) where
+    (agree : BytesAgree book bytes other stepsMore) (a : Sections bytes book) (b : Sections other extension) where
   -- where the number of variants of the last nonterminal stands
   abbrev lastAt : ℕ
   lastAt = lastCountAt book

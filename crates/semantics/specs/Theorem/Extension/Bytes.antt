@@ -12,7 +12,7 @@ use Rattle.semantics.specs.Extension.{variantCountAt, stepCountAt, lastC
 use Rattle.semantics.specs.Extension.{appended}
 
 -- what of them agrees: all but three counts; from the count of steps on the other's are shifted by a record's size
-pub record Agree (book : Book) (bytes other : List ℕ) (stepsMore : ℕ) : Type 0 where
+pub record BytesAgree (book : Book) (bytes other : List ℕ) (stepsMore : ℕ) : Type 0 where
   pub front : (i : ℕ) → i < lastCountAt book → getD other i 0 ≡ getD bytes i 0
   pub number : getD other (lastCountAt book) 0 ≡ getD bytes (lastCountAt book) 0 + 1
   pub variantCount : getD other (variantCountAt book) 0 ≡ getD bytes (variantCountAt book) 0 + 1
@@ -111,7 +111,7 @@ module _ (book : Book) (variant steps bytes : List ℕ)
       ∙ getD-drop (stepCountAt book) counted k 0
       ∙ subst (λ (n : ℕ). getD counted n 0 ≡ getD counted i 0) (sym here) refl))
 
-  pub bytes-agree : Agree book bytes other (ownStepCount variant)
+  pub bytes-agree : BytesAgree book bytes other (ownStepCount variant)
   bytes-agree = record {
     front = λ i h. before i (omega arith) ∙ unchanged i (λ e. omega arith) (λ e. omega arith) (λ e. omega arith);
     number = before (lastCountAt book) (omega arith) ∙ new-number;

@@ -1,5 +1,5 @@
 -- The places of an accepted book's sections, as numbers: what stands before each is as long as its records are.
-use mathlib.Core.Path.{_≡_, refl, sym, subst}
+use mathlib.Core.Path.{_≡_, sym, subst}
 use mathlib.Core.List.{List, [], _∷_}
 use Prim.Native.Nat.{ℕ, _+_, _*_, _≤_}
 use native.Mathlib.Omega.{arith}
@@ -16,6 +16,11 @@ use Rattle.semantics.specs.Theorem.Records.{records-end, records-inside}
 use Rattle.semantics.specs.Theorem.Sections.{nonterminal-told, variant-told, step-told, Sections}
 use Rattle.semantics.specs.Theorem.BookFacts.{unplaced-length}
 
+-- ---- Records of one size
+pub total-same : {A : Type 0} (k : ℕ) (xs : List A) → total (λ (x : A). k) xs ≡ k * length xs
+total-same k [] = sym (mul-zero k)
+total-same k (x ∷ xs) = let h = total-same k xs in omega (arith, mul-suc k (length xs))
+
 -- ---- Words and names
 module _ (bytes : List ℕ) where
   pub letters-end : (at size place : ℕ) (x : List ℕ) (end : ℕ) →
@@ -24,12 +29,8 @@ module _ (bytes : List ℕ) where
   letters-end at size place x end e =
       let ends = records-end (λ b. 1) (λ i. checked (shaped i) badSpelling at) bytes (λ b. 1)
       (λ sum p b q told. checked-told (shaped sum) badSpelling at bytes p b q told .next) size 0 place x end e in
-      let many : total (λ b. 1) x ≡ length x = ones x in
+      let ones = total-same 1 x in
       omega arith
-    where
-      ones : (l : List ℕ) → total (λ b. 1) l ≡ length l
-      ones [] = refl
-      ones (b ∷ l) = let h = ones l in omega arith
 
   pub spelling-end : (place : ℕ) (x : List ℕ) (end : ℕ) → spelling bytes place ≡ accepted x end →
       end ≡ place + 1 + length x
@@ -47,11 +48,6 @@ module _ (bytes : List ℕ) where
       let ends = spelling-end (place + 1) letters last told in
       let here : last ≡ end = accepted-end all in
       subst (λ (x : Entry). end ≡ place + entrySize x) (accepted-inj all) (omega arith)))
-
--- ---- Records of one size
-pub total-same : {A : Type 0} (k : ℕ) (xs : List A) → total (λ (x : A). k) xs ≡ k * length xs
-total-same k [] = sym (mul-zero k)
-total-same k (x ∷ xs) = let h = total-same k xs in omega (arith, mul-suc k (length xs))
 
 -- ---- Where the sections of a book begin
 module _ (bytes : List ℕ) (book : Book) (a : Sections bytes book) where

@@ -15,28 +15,29 @@ use Rattle.semantics.specs.Theorem.Extension.Books.{OneMore, Grown}
 use Rattle.semantics.specs.Theorem.Extension.Derivations.{Retains}
 
 -- ---- Nonterminals
-record Kept (x y : Nonterminal) : Type 0 where
+-- of the same mark, with the same first variant and no fewer
+record NoFewer (x y : Nonterminal) : Type 0 where
   mark : y .mark ≡ x .mark
   first : y .first ≡ x .first
   count : x .count ≤ y .count
 
-same : (x : Nonterminal) → Kept x x
+same : (x : Nonterminal) → NoFewer x x
 same x = record { mark = refl; first = refl; count = omega arith }
 
-nth-kept : (init : List Nonterminal) (last grown d : Nonterminal) → OneMore last grown → (N : ℕ) →
-    Kept (getD (init ++ (last ∷ [])) N d) (getD (init ++ (grown ∷ [])) N d)
-nth-kept [] last grown d more zero =
+nth-no-fewer : (init : List Nonterminal) (last grown d : Nonterminal) → OneMore last grown → (N : ℕ) →
+    NoFewer (getD (init ++ (last ∷ [])) N d) (getD (init ++ (grown ∷ [])) N d)
+nth-no-fewer [] last grown d more zero =
     record { mark = more .mark; first = more .first; count = omega (arith, more .count) }
-nth-kept [] last grown d more (suc N) = same d
-nth-kept (x ∷ init) last grown d more zero = same x
-nth-kept (x ∷ init) last grown d more (suc N) = nth-kept init last grown d more N
+nth-no-fewer [] last grown d more (suc N) = same d
+nth-no-fewer (x ∷ init) last grown d more zero = same x
+nth-no-fewer (x ∷ init) last grown d more (suc N) = nth-no-fewer init last grown d more N
 
 -- ---- The extension
 module _ (bytes : List ℕ) (book : Book) (a : Sections bytes book) (extension : Book) (g : Grown book extension) where
-  kept : (N : ℕ) → Kept (nthNonterminal book N) (nthNonterminal extension N)
-  kept N =
+  no-fewer : (N : ℕ) → NoFewer (nthNonterminal book N) (nthNonterminal extension N)
+  no-fewer N =
       let l = g .nonterminals in
-      rw (l .before, l .after) (nth-kept (l .init) (l .last) (l .grown) _ (l .one-more) N)
+      rw (l .before, l .after) (nth-no-fewer (l .init) (l .last) (l .grown) _ (l .one-more) N)
 
   variants-kept : (j : ℕ) → j < length (book .variants) → nthVariant extension j ≡ nthVariant book j
   variants-kept j h = rw (g .variants) (List·getD-append (book .variants) (g .variant ∷ []) noVariant j h)
@@ -53,9 +54,9 @@ module _ (bytes : List ℕ) (book : Book) (a : Sections bytes book) (extension :
   retained = record {
     words = g .words;
     names = g .names;
-    marks = λ N. kept N .mark;
-    firsts = λ N. kept N .first;
-    counts = λ N. kept N .count;
+    marks = λ N. no-fewer N .mark;
+    firsts = λ N. no-fewer N .first;
+    counts = λ N. no-fewer N .count;
     inside = λ N i h. omega (arith, variants-inside bytes book a N);
     variants = variants-kept;
     steps = steps-kept;
