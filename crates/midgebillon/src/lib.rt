@@ -12,8 +12,8 @@
 // length says, and no slice that is written overlaps another. include/midgebillon.h tells a C program so; examples/ has
 // a wrapper for Rust whose types do.
 //
-// specs/ has what the functions promise (Library, Joining) and laws, one for each way out of the first two
-// (LibraryLaws).
+// specs/ has what the functions promise (Library, Joining) and laws: one for each way out of the first two
+// (LibraryLaws), and that what run says of two calls holds of the library's (TwoCallLaws).
 mod answer;
 mod joining;
 
