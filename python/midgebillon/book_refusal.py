@@ -1,0 +1,113 @@
+"""Why the reader's check refuses a book (3 to 8), in words: which field, what it is, what it may be."""
+from . import book as books
+from .notation_reader import shown
+from .refusal import Refusal
+
+CHARACTERS = "a character is one of 33 to 126"
+
+# What the fields are called, and their ranges.
+FIELDS = {
+    ("word", "reserved"): ("whether word {n} is reserved", "0 or 1"),
+    ("word", "length"): ("the length of word {n}", "1 to 15"),
+    ("word", "spelling"): ("the spelling of word {n}", ""),
+    ("name", "kind"): ("the kind of name {n}", "0 to 7"),
+    ("name", "length"): ("the length of name {n}", "1 to 15"),
+    ("name", "spelling"): ("the spelling of name {n}", ""),
+    ("nonterminal", "mark"): ("the mark of nonterminal {n}", "0, 1 or 2"),
+    ("nonterminal", "variants"): ("the number of variants of nonterminal {n}", "0 to 16, and 0 with mark 2"),
+    ("variant", "level"): ("the level of variant {n}", "0 to 255"),
+    ("variant", "associativity"): ("the associativity of variant {n}", "0 to 3"),
+    ("variant", "flags"): ("the flags of variant {n}", "0 to 3"),
+    ("variant", "steps"): ("the number of steps of variant {n}", "0 to 8"),
+    ("step", "kind"): ("the kind of step {n}", "0 to 13"),
+    ("step", "a"): ("byte a of step {n}", ""),
+    ("step", "b"): ("byte b of step {n}", ""),
+    ("step", "c"): ("byte c of step {n}", ""),
+}
+COUNTS = {"word": "0 to 64", "name": "0 to 64", "nonterminal": "1 to 32"}
+
+
+def _called(field):
+    if field.record is None:
+        return f"the count of {field.section}s"
+    return FIELDS[field.section, field.name][0].format(n=field.record)
+
+
+def _sum(data, section, name):
+    """What the records of a section have of something in all."""
+    return sum(f.value or 0 for f in books.fields(data) if (f.section, f.name) == (section, name) and f.record is not None)
+
+
+def _count(data, field):
+    if field.section in COUNTS:
+        return f"it has to be {COUNTS[field.section]}"
+    above = "nonterminal" if field.section == "variant" else "variant"
+    total = _sum(data, above, f"{field.section}s")
+    most = 128 if field.section == "variant" else 255
+    if total > most:
+        return f"the {above}s have {total} {field.section}s in all, and {most} are the most"
+    return f"the {above}s have {total} in all"
+
+
+def _step(data, field):
+    """What byte a, b or c of a step has to be, by the step's kind."""
+    kind = next(f.value for f in books.fields(data) if (f.section, f.record, f.name) == ("step", field.record, "kind"))
+    counts = {f.section: f.value for f in books.fields(data) if f.record is None}
+    delimited = kind in (books.DELIMITED, books.OPTIONAL_DELIMITED)
+    if field.name == "a" and kind == books.CHARACTER or field.name != "a" and delimited:
+        return CHARACTERS
+    if field.name == "a" and kind == books.VARIABLE_OF_KIND:
+        return "a kind is 0 to 7"
+    if field.name == "a" and kind == books.WORD:
+        return f"words are numbered from 0, and the book has {counts['word']}"
+    if field.name == "a" and kind in books.TAKES_NONTERMINAL:
+        return f"nonterminals are numbered from 0, and the book has {counts['nonterminal']}"
+    return f"a step of kind {kind} doesn't use it, so it has to be 0"
+
+
+def _spelling(data, field):
+    size = field.value
+    spelling = data[field.place + 1 : field.place + 1 + size].decode("latin-1")
+    shape = "a spelling is a letter or underscore, then letters, digits or underscores, 1 to 15 in all"
+    return f"{spelling!r} can't be spelled so: {shape}" if size else f"it is empty: {shape}"
+
+
+def reason(refusal, place, data):
+    """The refusal in a sentence."""
+    field = books.field_at(data, place)
+    if refusal == Refusal.BYTES_LEFT_OVER:
+        left = len(data) - place
+        return f"behind the book's end {left} byte{' is' if left == 1 else 's are'} left over"
+    if refusal == Refusal.BOOK_ENDS_EARLY:
+        return f"the book ends too early: {_called(field)} is missing"
+    if refusal == Refusal.BAD_PASSING:
+        return f"variant {field.record} is passing, and then it has to be one nonterminal and nothing else"
+    said = f"{_called(field)} is {field.value}"
+    if refusal == Refusal.BAD_COUNT:
+        return f"{said}: {_count(data, field)}"
+    if refusal == Refusal.BAD_SPELLING:
+        return f"{field.section} {field.record}: {_spelling(data, field)}"
+    if field.name == "associativity" and field.value <= books.BOTH:
+        associativity = books.ASSOCIATIVITIES[field.value]
+        return f"level 255 goes with both alone, and variant {field.record} has {associativity} with it"
+    if field.section == "step" and field.name != "kind":
+        return f"{said}: {_step(data, field)}"
+    return f"{said}: it has to be {FIELDS[field.section, field.name][1]}"
+
+
+def explained(refusal, place, view, file):
+    """The refusal with the byte, or with the line of the notation that made it."""
+    why = f"{reason(refusal, place, view.data)} (refusal {refusal.value})"
+    if view.source is None:
+        return f"{file}: byte {place}: {why}\n{around(view.data, place)}"
+    field = books.field_at(view.data, place)
+    if refusal == Refusal.BAD_PASSING:  # its place is the variant's first byte
+        field = books.field_at(view.data, place + 2)
+    return shown(view.source.text, view.source.span(field), why, file)
+
+
+def around(data, place):
+    """A picture of the bytes around a place."""
+    start = max(0, place - 8)
+    row = [f"{byte:02X}" for byte in data[start : place + 8]]
+    return f"    {' '.join(row)}\n    {'   ' * (place - start)}^^"

@@ -1,0 +1,256 @@
+"""What a book's steps would take at the furthest place that they reach in a text.
+
+This is help for people, beside the reader and not proved: levels, associativities and claims are left out, so the steps
+may reach further than any parse. The reader's own error tells one thing that was wanted, at the furthest place of calls
+that failed; in `(1 - x)` that is `)` at the minus, since `1` alone is an expression there. The steps reach `x`.
+
+An Earley parser: an item is a rule's number, how many of its symbols were taken, and the place where it began.
+"""
+import re
+from typing import NamedTuple
+
+from . import book as books
+from .reading import skip
+
+MOST_ITEMS = 150_000  # beyond them no help is given: that is a second or two
+
+IDENTIFIER = re.compile(rb"[A-Za-z_][A-Za-z0-9_]*")
+DIGITS = re.compile(rb"[0-9]+")
+LOOKS = (books.NO_VARIABLE, books.NO_RESERVED)  # steps that take nothing
+
+
+class Terminal(NamedTuple):
+    """A step that takes a token, or only looks at it."""
+
+    kind: int
+    a: int = 0
+
+
+class Part(NamedTuple):
+    """A nonterminal of the book, or (with another step's kind) what such a step reads of it."""
+
+    kind: int
+    a: int
+    b: int = 0
+    c: int = 0
+
+
+class Rule(NamedTuple):
+    part: Part
+    symbols: tuple
+
+
+COMMA = Terminal(books.CHARACTER, ord(","))
+
+
+def _symbol(step):
+    if step.kind not in books.TAKES_NONTERMINAL:
+        return Terminal(step.kind, step.a)
+    return Part(step.kind, step.a, step.b, step.c)
+
+
+class Grammar:
+    """A book's variants as rules over terminals and parts. `of` has the numbers of each part's rules."""
+
+    def __init__(self, book):
+        self.book, self.rules, self.of = book, [], {}
+        for number in range(len(book.nonterminals)):
+            self._add(Part(books.NONTERMINAL, number))
+        self.nullable = self._nullables()
+
+    def _add(self, first):
+        """Rules for a part and for all that it leads to."""
+        todo = [first]
+        while todo:
+            part = todo.pop()
+            if part not in self.of:
+                rows = self._rows(part)
+                self.of[part] = range(len(self.rules), len(self.rules) + len(rows))
+                self.rules += [Rule(part, row) for row in rows]
+                todo += [symbol for row in rows for symbol in row if isinstance(symbol, Part)]
+
+    def _rows(self, part):
+        """What a part may be: rows of symbols, as document 01, "Derivations", has them."""
+        one, commas = Part(books.NONTERMINAL, part.a), Part(books.COMMA_LIST, part.a)
+        delimited = (Terminal(books.CHARACTER, part.b), commas, Terminal(books.CHARACTER, part.c))
+        if part.kind == books.NONTERMINAL:
+            nonterminal = self.book.nonterminals[part.a]
+            if nonterminal.mark == books.IDENTIFIER_MARK:
+                return [(Terminal(books.IDENTIFIER),)]
+            return [tuple(map(_symbol, variant.steps)) for variant in nonterminal.variants]
+        return {
+            books.OPTIONAL: [(), (one,)],
+            books.MANY: [(), (one, part)],
+            books.COMMA_LIST: [(), (one,), (one, COMMA, commas)],
+            books.DELIMITED: [delimited],
+            books.OPTIONAL_DELIMITED: [(), delimited],
+        }[part.kind]
+
+    def _nullables(self):
+        """The parts that may take nothing, by rounds until one adds none."""
+        nullable, before = set(), -1
+        while len(nullable) > before:
+            before = len(nullable)
+            takes_nothing = lambda s: s in nullable or isinstance(s, Terminal) and s.kind in LOOKS
+            nullable |= {rule.part for rule in self.rules if all(map(takes_nothing, rule.symbols))}
+        return nullable
+
+    def takes_nothing(self, symbol):
+        """Whether a symbol may."""
+        return symbol in self.nullable or isinstance(symbol, Terminal) and symbol.kind in LOOKS
+
+    def begins(self, part):
+        """The symbols that a part's rules may begin with, but those that only look."""
+        for number in self.of[part]:
+            for symbol in self.rules[number].symbols:
+                if isinstance(symbol, Part) or symbol.kind not in LOOKS:
+                    yield symbol
+                if not self.takes_nothing(symbol):
+                    break
+
+    def first(self, part):
+        """The terminals that a part may begin with, in the book's order."""
+        seen, out, todo = {part}, [], [part]
+        while todo:
+            symbol = todo.pop(0)
+            if isinstance(symbol, Terminal):
+                out.append(symbol)
+                continue
+            begun = [each for each in dict.fromkeys(self.begins(symbol)) if each not in seen]
+            seen.update(begun)
+            todo = begun + todo
+        return out
+
+
+class Tokens:
+    """Whether a terminal's token stands at a place, and where it ends."""
+
+    def __init__(self, book, text):
+        self.book, self.text = book, text
+        self.reserved = {word.spelling for word in book.words if word.label}
+        self.kinds = {name.spelling: name.label for name in book.names}  # the last of equal ones
+
+    def _is_variable(self, word):
+        return word in self.kinds and word not in self.reserved
+
+    def word(self, place):
+        """The identifier at a place, or nothing."""
+        found = IDENTIFIER.match(self.text, place)
+        return found.group().decode() if found else ""
+
+    def end(self, terminal, place):
+        """The place behind the token, or None. The place is one behind skipped text."""
+        kind, word = terminal.kind, self.word(place)
+        if kind == books.CHARACTER:
+            return place + 1 if self.text[place : place + 1] == bytes([terminal.a]) else None
+        if kind == books.NUMBER:
+            digits = DIGITS.match(self.text, place)
+            return digits.end() if digits and int(digits.group()) < 2**64 else None
+        if kind in LOOKS:
+            found = word in self.reserved if kind == books.NO_RESERVED else self._is_variable(word)
+            return None if found else place
+        return place + len(word) if word and self._fits(terminal, word) else None
+
+    def _fits(self, terminal, word):
+        if terminal.kind == books.WORD:
+            return word == self.book.words[terminal.a].spelling
+        if terminal.kind == books.IDENTIFIER:
+            return word not in self.reserved
+        return self._is_variable(word) and terminal.kind in (books.VARIABLE, books.VARIABLE_OF_KIND) and (
+            terminal.kind == books.VARIABLE or self.kinds[word] == terminal.a
+        )
+
+
+class Wanted(NamedTuple):
+    """The furthest place that the steps reach, the terminals and nonterminals that would go on there, and whether the
+    steps alone can read the whole text."""
+
+    place: int
+    symbols: tuple
+    fits: bool
+
+
+class _Chart:
+    def __init__(self, book, text, start):
+        self.grammar, self.tokens, self.text = Grammar(book), Tokens(book, text), text
+        self.start, self.first = Part(books.NONTERMINAL, start), skip(text, 0)
+        self.items = {}  # by place
+        self.waiting = {}  # the items that go on behind a part, by the place and the part
+        self.count = 0
+
+    def add(self, place, item):
+        """Whether the item is new there."""
+        items = self.items.setdefault(place, {})
+        if item in items:
+            return False
+        items[item] = None
+        self.count += 1
+        return True
+
+    def run(self):
+        """Fills the chart place by place. Whether it was finished."""
+        self.items[self.first] = {}
+        self.begin(self.first, self.start)
+        done = set()
+        while len(done) < len(self.items):
+            place = min(self.items.keys() - done)
+            todo = list(self.items[place])
+            while todo:
+                if self.count > MOST_ITEMS:
+                    return False
+                todo += self.step(place, todo.pop())
+            done.add(place)
+        return True
+
+    def begin(self, place, part):
+        return [item for number in self.grammar.of[part] if self.add(place, item := (number, 0, place))]
+
+    def step(self, place, item):
+        """What an item gives at its own place; what it gives further on waits there."""
+        number, taken, origin = item
+        part, symbols = self.grammar.rules[number]
+        if taken == len(symbols):
+            return [moved for moved in self.waiting.get((origin, part), ()) if self.add(place, moved)]
+        symbol, moved = symbols[taken], (number, taken + 1, origin)
+        if isinstance(symbol, Part):
+            return self.part(place, symbol, moved)
+        end = self.tokens.end(symbol, place)
+        if end is None:
+            return []
+        behind = place if symbol.kind in LOOKS else skip(self.text, end)
+        return [moved] if self.add(behind, moved) and behind == place else []
+
+    def part(self, place, symbol, moved):
+        """A part that took nothing before anything waited for it is taken at once."""
+        self.waiting.setdefault((place, symbol), []).append(moved)
+        found = self.begin(place, symbol)
+        return found + [moved] if symbol in self.grammar.nullable and self.add(place, moved) else found
+
+    def wanted(self):
+        place, symbols = max(self.items), {}
+        if place == self.first:
+            self.collect(self.start, symbols)
+        for number, taken, origin in self.items[place]:
+            rule = self.grammar.rules[number]
+            if origin < place and taken < len(rule.symbols):
+                self.collect(rule.symbols[taken], symbols)
+        whole = any(
+            origin == self.first and self.grammar.rules[number] == (self.start, self.grammar.rules[number].symbols[:taken])
+            for number, taken, origin in self.items.get(len(self.text), ())
+        )
+        return Wanted(place, tuple(sorted(symbols, key=len, reverse=True)), whole)
+
+    def collect(self, symbol, symbols):
+        """The symbol as the book has it: a nonterminal by itself, a list by what it may go on with."""
+        if isinstance(symbol, Terminal) or symbol.kind == books.NONTERMINAL:
+            symbols[symbol] = None
+        else:
+            for each in self.grammar.begins(symbol):
+                if each != symbol:
+                    self.collect(each, symbols)
+
+
+def wanted(book, text, start):
+    """What the steps want at the furthest place, or None where that takes too long."""
+    chart = _Chart(book, text, start)
+    return chart.wanted() if chart.run() else None

@@ -1,0 +1,182 @@
+"""The notation for books: both ways without loss, and what it says of a text that is no book."""
+import unittest
+
+from midgebillon import check, decode, encode, from_text, to_text
+from midgebillon.book_refusal import explained
+from midgebillon.notation import is_text
+from midgebillon.notation_reader import NotationError
+from midgebillon.view import view
+from random_books import random_book
+from vectors import ROOT, accepted_books
+
+RANDOM_BOOKS = 1000
+
+
+class RoundTrips(unittest.TestCase):
+    def same(self, data):
+        """Bytes to text to bytes, and that text to itself; the text has every name and number."""
+        book = decode(data)
+        self.assertEqual(encode(book), data)
+        text = to_text(book)
+        source = from_text(text)
+        self.assertEqual(source.data, data, text)
+        self.assertEqual(to_text(decode(source.data), source.names, [""] * len(book.variants)), text)
+        self.assertTrue(is_text(text.encode()))
+        self.assertFalse(is_text(data), "a book in bytes is taken for text")
+
+    def test_every_accepted_book_of_the_vectors(self):
+        books = accepted_books()
+        self.assertGreater(len(books), 100)
+        for data in books:
+            self.same(data)
+
+    def test_random_books(self):
+        kinds, marks, flags = set(), set(), set()
+        for seed in range(RANDOM_BOOKS):
+            book = random_book(seed)
+            data = encode(book)
+            self.assertIsNone(check(data), f"seed {seed}: the reader refuses the book")
+            self.same(data)
+            marks |= {nonterminal.mark for nonterminal in book.nonterminals}
+            flags |= {(v.flags, v.associativity) for v in book.variants}
+            kinds |= {step.kind for variant in book.variants for step in variant.steps}
+        self.assertEqual((kinds, marks, len(flags)), (set(range(14)), {0, 1, 2}, 16))
+
+    def test_the_example(self):
+        with open(f"{ROOT}/examples/rules.grammar", encoding="utf-8") as file:
+            text = file.read()
+        with open(f"{ROOT}/examples/rules.book", "rb") as file:
+            self.assertEqual(from_text(text).data, file.read())
+
+    def test_names_and_comments_stay(self):
+        text = "amount\n  | number  # 0 plain\n"
+        found = view(text.encode())
+        self.assertEqual(to_text(found.book, found.names, [found.label(0)]), text)
+
+    def test_spaces_comments_and_line_ends_do_not_matter(self):
+        plain = from_text("words kg\nweight\n  | number \"kg\"  ; left 3\n").data
+        other = "\ufeff# a book\r\n\twords\tkg # of weight\r\n\r\nweight\r\n|number\"kg\";left 3# 0\r\n"
+        self.assertEqual(view(other.encode()).data, plain)
+
+
+# A text, the line and column of the first problem, and a part of what is said.
+PROBLEMS = [
+    ("", 1, 1, "the book has no nonterminal"),
+    ("# nothing\n", 2, 1, "the book has no nonterminal"),
+    ("| number\n", 1, 1, "below its nonterminal's name"),
+    ("e = number\n", 1, 3, "stands alone on its line"),
+    ("e: number\n", 1, 2, "stands alone on its line"),
+    ("e ::= number\n", 1, 3, "stands alone on its line"),
+    ("'a'\n", 1, 1, "a line is a nonterminal's name"),
+    ("number\n", 1, 1, "has a meaning of its own"),
+    ("e\ne\n", 2, 1, "there is a nonterminal e already"),
+    ("e (identifyer)\n", 1, 3, "(claims variables) or (identifier)"),
+    ("e (identifier\n", 1, 3, "(claims variables) or (identifier)"),
+    ("e\nwords a\n", 2, 1, "words stand before the first nonterminal"),
+    ("names x\ne\n", 1, 7, "x:0"),
+    ("names x:a\ne\n", 1, 9, "is a number"),
+    ("names x:256\ne\n", 1, 9, "at most 255"),
+    ("words é\ne\n", 1, 7, "a letter or underscore"),
+    ("e\n  |\n", 2, 3, "| empty"),
+    ("e\n  | ; left 1\n", 2, 3, "| empty"),
+    ("e\n  | empty number\n", 2, 11, "behind empty stands no step"),
+    ("e\n  | number | e\n", 2, 12, "a line of its own"),
+    ("e\n  | expr\n", 2, 5, "expr is no nonterminal"),
+    ("expression\n  | expresion\n", 2, 5, "did you mean expression?"),
+    ("e\n  | e+\n", 2, 6, "e e*"),
+    ("e\n  | e, e\n", 2, 6, "e,*"),
+    ("e\n  | number*\n", 2, 11, "only a nonterminal may have *"),
+    ("e\n  | * e\n", 2, 5, "right behind a nonterminal's name"),
+    ("e\n  | '<='\n", 2, 5, "'<' '='"),
+    ("e\n  | 'if'\n", 2, 5, '"if"'),
+    ("e\n  | ''\n", 2, 5, "a character is missing"),
+    ("e\n  | '-\n", 2, 5, "the apostrophe behind the character is missing"),
+    ("e\n  | 'é'\n", 2, 5, "one of ASCII"),
+    ('e\n  | "-"\n', 2, 5, "'-'"),
+    ('e\n  | "<="\n', 2, 5, "'<' '='"),
+    ('e\n  | "if"\n', 2, 5, "words if"),
+    ('words then\ne\n  | "than"\n', 3, 5, "did you mean then?"),
+    ("words if\ne\n  | if\n", 3, 5, '"if"'),
+    ('e\n  | "if\n', 2, 5, "the quotation mark that ends the word is missing"),
+    ('words a b\ne\n  | "a":1\n', 3, 9, "word 1 isn't spelled a"),
+    ('words a b\ne\n  | "a":\n', 3, 9, "the number of a word is missing"),
+    ("e\n  | variable:x\n", 2, 14, "is a number"),
+    ("e\n  | !number\n", 2, 5, "variable or reserved"),
+    ("e\n  | !\n", 2, 5, "variable or reserved"),
+    ("e\n  | ('(' e ')')\n", 2, 5, "('[' amount,* ']')"),
+    ("e\n  | (e)\n", 2, 5, "('[' amount,* ']')"),
+    ("e\n  | e ;\n", 2, 8, "behind ;"),
+    ("e\n  | e ; left\n", 2, 13, "the level of an operator is missing"),
+    ("e\n  | e ; left x\n", 2, 14, "is a number"),
+    ("e\n  | e ; left 256\n", 2, 14, "at most 255"),
+    ("e\n  | e ; 1\n", 2, 9, "left 1"),
+    ("e\n  | e ; left 1 right 2\n", 2, 16, "said twice"),
+    ("e\n  | e ; left 1, passing\n", 2, 15, "no commas"),
+    ("e\n  | e ; pasing\n", 2, 9, "did you mean passing?"),
+    ("e\n  | $\n", 2, 5, "no step begins so"),
+    ("e\n\t| $\n", 2, 11, "no step begins so"),
+]
+
+# A text that the notation takes and the reader's check refuses: the refusal, line, column, a part of what is said.
+REFUSED = [
+    (f"words {' '.join('w%d' % i for i in range(65))}\ne\n", 4, 1, 253, "the count of words is 65: it has to be 0 to 64"),
+    (f"names {' '.join('w%d:0' % i for i in range(65))}\ne\n", 4, 1, 381, "the count of names is 65"),
+    ("\n".join(f"e{i}" for i in range(33)) + "\n", 4, 33, 1, "the count of nonterminals is 33: it has to be 1 to 32"),
+    ("".join(f"e{i}\n" + "| number\n" * 16 for i in range(8)) + "f\n| number\n", 4, 138, 1, "129 variants in all"),
+    ("words a-b\ne\n", 5, 1, 7, "'a-b' can't be spelled so"),
+    ("words <= kg\ne\n", 5, 1, 7, "'<=' can't be spelled so"),
+    ("words abcdefghijklmnop\ne\n", 5, 1, 7, "1 to 15"),
+    ("names x1:0 :3\ne\n", 5, 1, 12, "it is empty"),
+    ("names x:8\ne\n", 6, 1, 9, "the kind of name 0 is 8: it has to be 0 to 7"),
+    ("e\n" + "  | number\n" * 17, 6, 18, 3, "number of variants of nonterminal 0 is 17: it has to be 0 to 16"),
+    ("e (identifier)\n  | number\n", 6, 2, 3, "and 0 with mark 2"),
+    ("e\n  | number ; left 255\n", 6, 2, 14, "level 255 goes with both alone"),
+    ("e\n  | e e e e e e e e e\n", 6, 2, 21, "number of steps of variant 0 is 9: it has to be 0 to 8"),
+    ("e\n  | ' '\n", 6, 2, 5, "33 to 126"),
+    ("e\n  | number (' ' e,* ')')\n", 6, 2, 13, "33 to 126"),
+    ("e\n  | ('(' e,* '\x7f')?\n", 6, 2, 14, "33 to 126"),
+    ("e\n  | variable:8\n", 6, 2, 14, "a kind is 0 to 7"),
+    ("e\n  | number ; passing\n", 7, 2, 14, "one nonterminal and nothing else"),
+    ("e\n  | e e ; uncommitted passing\n", 7, 2, 23, "one nonterminal and nothing else"),
+]
+
+
+class Problems(unittest.TestCase):
+    def test_each_problem_has_its_place(self):
+        for text, line, column, part in PROBLEMS:
+            with self.subTest(text=text), self.assertRaises(NotationError) as raised:
+                from_text(text)
+            self.assertIn(f"book:{line}:{column}: ", raised.exception.shown("book"), text)
+            self.assertIn(part, raised.exception.shown("book").split("\n")[0], text)
+
+    def test_a_picture_has_its_caret_below_the_place(self):
+        with self.assertRaises(NotationError) as raised:
+            from_text("e\n\t| number expr  # a remark\n")
+        lines = raised.exception.shown("book").split("\n")
+        self.assertEqual(lines[1].index("expr"), lines[2].index("^"))
+        self.assertEqual(lines[2].count("^"), len("expr"))
+
+    def test_every_line_with_a_problem_is_told(self):
+        with self.assertRaises(NotationError) as raised:
+            from_text("e\n  | x\n  | number\n  | y\n")
+        self.assertEqual([p.message[0] for p in raised.exception.problems], ["x", "y"])
+
+    def test_more_than_a_byte_counts(self):
+        texts = ["words" + " a" * 256 + "\ne\n", "e\n" + "| number\n" * 300, "e\n| " + "e " * 256, ("e\n| " + "e " * 8) * 40]
+        for text in texts:
+            with self.assertRaises(NotationError):
+                from_text(text)
+
+    def test_refusals_of_the_reader_are_led_back(self):
+        for text, number, line, column, part in REFUSED:
+            with self.subTest(text=text):
+                found = view(text.encode())
+                refusal, place = check(found.data)
+                said = explained(refusal, place, found, "book")
+                self.assertEqual(refusal, number)
+                self.assertTrue(said.startswith(f"book:{line}:{column}: "), said)
+                self.assertIn(part, said)
+
+
+if __name__ == "__main__":
+    unittest.main()
