@@ -4,7 +4,7 @@ import unittest
 from midgebillon import check, decode, encode, from_text, to_text
 from midgebillon.book_refusal import explained
 from midgebillon.notation import is_text
-from midgebillon.notation_reader import NotationError
+from midgebillon.notation_tokens import NotationError
 from midgebillon.view import view
 from random_books import random_book
 from vectors import ROOT, accepted_books
@@ -55,7 +55,7 @@ class RoundTrips(unittest.TestCase):
 
     def test_spaces_comments_and_line_ends_do_not_matter(self):
         plain = from_text("words kg\nweight\n  | number \"kg\"  ; left 3\n").data
-        other = "\ufeff# a book\r\n\twords\tkg # of weight\r\n\r\nweight\r\n|number\"kg\";left 3# 0\r\n"
+        other = "\ufeff# words of a book\r\n\twords\tkg # of weight\r\n\r\nweight\r\n|number\"kg\";left 3# 0\r\n"
         self.assertEqual(view(other.encode()).data, plain)
 
 
@@ -98,6 +98,7 @@ PROBLEMS = [
     ('words then\ne\n  | "than"\n', 3, 5, "did you mean then?"),
     ("words if\ne\n  | if\n", 3, 5, '"if"'),
     ('e\n  | "if\n', 2, 5, "the quotation mark that ends the word is missing"),
+    ('words i\ne\n  | "if\n', 3, 5, "the quotation mark that ends the word is missing"),
     ('words a b\ne\n  | "a":1\n', 3, 9, "word 1 isn't spelled a"),
     ('words a b\ne\n  | "a":\n', 3, 9, "the number of a word is missing"),
     ("e\n  | variable:x\n", 2, 14, "is a number"),

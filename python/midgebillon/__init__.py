@@ -18,7 +18,8 @@ not.
 from .book import Book, decode, encode
 from .library import NoLibrary
 from .notation import to_text
-from .notation_reader import NotationError, Source, from_text
+from .notation_reader import Source, from_text
+from .notation_tokens import NotationError
 from .reading import MOST_WORK, Answer, Parse, Reading, check, furthest, read
 from .refusal import Error, ErrorKind, Refusal
 from .tree import Absent, Identifier, List, Number, Variable, Variant, printed

@@ -1,6 +1,6 @@
 """Why the reader's check refuses a book (3 to 8), in words: which field, what it is, what it may be."""
 from . import book as books
-from .notation_reader import shown
+from .notation_tokens import shown
 from .refusal import Refusal
 
 CHARACTERS = "a character is one of 33 to 126"
@@ -24,7 +24,11 @@ FIELDS = {
     ("step", "b"): ("byte b of step {n}", ""),
     ("step", "c"): ("byte c of step {n}", ""),
 }
-COUNTS = {"word": "0 to 64", "name": "0 to 64", "nonterminal": "1 to 32"}
+COUNTS = {
+    "word": f"0 to {books.MOST_WORDS}",
+    "name": f"0 to {books.MOST_NAMES}",
+    "nonterminal": f"1 to {books.MOST_NONTERMINALS}",
+}
 
 
 def _called(field):
@@ -43,7 +47,7 @@ def _count(data, field):
         return f"it has to be {COUNTS[field.section]}"
     above = "nonterminal" if field.section == "variant" else "variant"
     total = _sum(data, above, f"{field.section}s")
-    most = 128 if field.section == "variant" else 255
+    most = books.MOST_VARIANTS if field.section == "variant" else books.MOST_STEPS
     if total > most:
         return f"the {above}s have {total} {field.section}s in all, and {most} are the most"
     return f"the {above}s have {total} in all"

@@ -13,7 +13,7 @@ from .explanation import Explanation, empty_elements
 from .json_form import as_json
 from .library import ROOT, NoLibrary, loaded
 from .notation import to_text
-from .notation_reader import NotationError
+from .notation_tokens import NotationError
 from .picture import line_and_column
 from .reading import MOST_WORK, check, read
 from .tree import node_count, printed

@@ -1,0 +1,178 @@
+"""Reads a variant's line in the notation: its steps, and what stands behind its semicolon."""
+import re
+
+from . import book as books
+from .notation import ENTRIES, NOT_FOR_NONTERMINALS, PLAIN_STEPS, SUFFIXES
+from .notation_tokens import Span, Token, Wrong, near
+
+IDENTIFIER = re.compile(r"[A-Za-z_][A-Za-z0-9_]*")
+
+
+class Steps:
+    """Reads the steps of a variant's line."""
+
+    def __init__(self, words, names):
+        self.words, self.names = words, names
+
+    def step(self, line):
+        """A step, and the spans of its four bytes."""
+        token = line.take()
+        if token.sort == "character":
+            return self._simple(books.CHARACTER, token, self._code(token))
+        if token.sort == "word":
+            return self._simple(books.WORD, token, self._word(token, line))
+        if token.sort == "name":
+            return self._named(token, line)
+        if token.text == "!":
+            return self._refusing(token, line)
+        if token.text == "(":
+            return self._delimited(token, line)
+        raise Wrong(token.span, self._no_step(token))
+
+    @staticmethod
+    def _simple(kind, token, a=0):
+        return books.Step(kind, a), [token.span] * 4
+
+    @staticmethod
+    def _code(token):
+        if ord(token.text[1]) > 127:
+            raise Wrong(token.span, "a character of a rule is one of ASCII, 33 to 126")
+        return ord(token.text[1])
+
+    def _word(self, token, line):
+        spelling = token.text[1:-1]
+        numbers = [i for i, word in enumerate(self.words) if word.spelling == spelling]
+        if not numbers or len(token.text) < 2 or token.text[-1] != '"':
+            raise Wrong(token.span, self._no_word(token))
+        if not line.take_if(":"):
+            return numbers[0]
+        at, number = line.here(), line.number("the number of a word")
+        if number not in numbers:
+            raise Wrong(at, f"word {number} isn't spelled {spelling}: that one has number {numbers[0]}")
+        return number
+
+    def _no_word(self, token):
+        spelling = token.text[1:-1]
+        if len(token.text) < 2 or token.text[-1] != '"':
+            return "the quotation mark that ends the word is missing"
+        if len(spelling) == 1 and not IDENTIFIER.fullmatch(spelling):
+            return f"a character stands between apostrophes: '{spelling}'"
+        if not IDENTIFIER.fullmatch(spelling):
+            return f"no word can be spelled so; characters stand between apostrophes: {_characters(spelling)}"
+        declare = f": put a line `words {spelling}` before the nonterminals"
+        return f"{spelling} is no word of this book{near(spelling, [w.spelling for w in self.words]) or declare}"
+
+    def _named(self, token, line):
+        plain = next((kind for kind, name in PLAIN_STEPS.items() if name == token.text), None)
+        if plain == books.VARIABLE and line.take_if(":"):
+            at = line.here()
+            return books.Step(books.VARIABLE_OF_KIND, line.number("the kind of a variable")), [token.span, at, at, at]
+        if plain is not None:
+            self._no_suffix(token, line)
+            return self._simple(plain, token)
+        number = self._nonterminal(token)
+        suffix = line.next()
+        kind = next((k for k, s in SUFFIXES.items() if s and suffix and line.is_next(s)), books.NONTERMINAL)
+        if kind != books.NONTERMINAL:
+            line.take()
+        elif suffix and suffix.text == "+":
+            raise Wrong(suffix.span, f"no step reads one or more: write {token.text} {token.text}*")
+        elif suffix and suffix.text == ",":
+            raise Wrong(suffix.span, f"a list with commas between is written {token.text},*; a comma itself ','")
+        return books.Step(kind, number), [token.span] * 4
+
+    @staticmethod
+    def _no_suffix(token, line):
+        following = line.next()
+        if following and following.text in ("?", "*", ",*", "+"):
+            message = f"only a nonterminal may have {following.text}: give {token.text} a nonterminal of its own"
+            raise Wrong(following.span, message)
+
+    def _nonterminal(self, token):
+        if token.text not in self.names:
+            known = [*self.names, *NOT_FOR_NONTERMINALS - set(ENTRIES)]
+            message = f"{token.text} is no nonterminal of this book{near(token.text, known)}"
+            if any(word.spelling == token.text for word in self.words):
+                message = f'a word stands between quotation marks: "{token.text}"'
+            raise Wrong(token.span, message)
+        return self.names.index(token.text)
+
+    def _refusing(self, token, line):
+        following = line.take()
+        text = "!" + (following.text if following else "")
+        kind = next((kind for kind, name in PLAIN_STEPS.items() if name == text), None)
+        if kind is None:
+            raise Wrong(token.span, "behind ! stands variable or reserved")
+        return self._simple(kind, Token("sign", text, Span(token.span.start, following.span.end)))
+
+    def _delimited(self, token, line):
+        parts = [line.take() for _ in range(5)]
+        if [part and (part.sort if part.sort != "sign" else part.text) for part in parts] != [
+            "character", "name", ",*", "character", ")",
+        ]:
+            raise Wrong(token.span, "parentheses hold a list between two characters, as ('[' amount,* ']')")
+        opening, name, _, closing, _ = parts
+        kind = books.OPTIONAL_DELIMITED if line.take_if("?") else books.DELIMITED
+        step = books.Step(kind, self._nonterminal(name), self._code(opening), self._code(closing))
+        return step, [token.span, name.span, opening.span, closing.span]
+
+    @staticmethod
+    def _no_step(token):
+        if token.sort == "several":
+            return _several(token.text)
+        if token.text == "|":
+            return "each variant has a line of its own"
+        if token.text in ("?", "*", ",*", "+"):
+            return f"{token.text} stands right behind a nonterminal's name"
+        return "no step begins so; a character stands between apostrophes, a word between quotation marks"
+
+
+def _characters(spelling):
+    return " ".join(f"'{c}'" for c in spelling)
+
+
+def _several(text):
+    """What is wrong with apostrophes that don't hold one character."""
+    inside = text.strip("'")
+    if len(text) < 2 or text[-1] != "'":
+        return "the apostrophe behind the character is missing"
+    if not inside:
+        return "a character is missing between the apostrophes"
+    if IDENTIFIER.fullmatch(inside):
+        return f'a word stands between quotation marks: "{inside}"'
+    return f"apostrophes hold one character; write {_characters(inside)}, which reads them with or without spaces between"
+
+
+def attributes_of(line):
+    """Level, associativity and flags behind a variant's steps, and the spans of the three."""
+    whole = Span(line.tokens[0].span.start, line.end.start)
+    level, associativity, flags, spans = None, books.BOTH, books.COMMITTED, [whole] * 3
+    if line.next() is None:
+        return (books.DEFAULT_LEVEL, associativity, flags), spans
+    line.take()
+    if line.next() is None:
+        raise Wrong(line.end, "behind ; stands a level, as left 1, or passing or uncommitted")
+    while line.next() is not None:
+        token = line.take()
+        if token.text in books.ASSOCIATIVITIES and level is None:
+            at = line.here()
+            level, associativity = line.number("the level of an operator"), books.ASSOCIATIVITIES.index(token.text)
+            spans[:2] = [at, token.span]
+        elif token.text == "passing" and not flags & books.PASSING:
+            flags, spans[2] = flags + books.PASSING, token.span
+        elif token.text == "uncommitted" and flags & books.COMMITTED:
+            flags -= books.COMMITTED
+        else:
+            raise Wrong(token.span, _no_attribute(token))
+    return (books.DEFAULT_LEVEL if level is None else level, associativity, flags), spans
+
+
+def _no_attribute(token):
+    if token.text in (*books.ASSOCIATIVITIES, "passing", "uncommitted"):
+        return "this is said twice"
+    if token.sort == "number":
+        return f"a level has its associativity before it: left {token.text}, right, none or both"
+    if token.text == ",":
+        return "spaces stand between, no commas"
+    known = (*books.ASSOCIATIVITIES, "passing", "uncommitted")
+    return f"behind ; stands left, right, none or both with a level, passing or uncommitted{near(token.text, known)}"
