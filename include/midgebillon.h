@@ -9,11 +9,11 @@
  * - a list is passed as a pointer and a number of elements. The pointer is never null, also where the number is 0, and
  *   is aligned as its type asks; so many elements stand behind it and can be read, or written where the pointer is not
  *   to const;
- * - a list that is written (cells, parses, answer of midgebillon_read; out of the other two) overlaps no other list of
- *   the same call;
- * - stack: 4 MiB for a call. midgebillon_read has half a megabyte of working memory there, and a book can be made whose
- *   calls nest 200 levels deep with up to 12 kilobytes each; a thread with less stack can crash. This size is counted
- *   from the compiled code and measured, not proved.
+ * - a list that is written (cells, parses, answer of midgebillon_read and midgebillon_read_in, and index, store, rows
+ *   of the latter; out of the other two) overlaps no other list of the same call;
+ * - stack: 4 MiB for a call; 3 MiB for one of midgebillon_read_in. midgebillon_read has half a megabyte of working
+ *   memory there, and a book can be made whose calls nest 200 levels deep with up to 12 kilobytes each; a thread with
+ *   less stack can crash. These sizes are counted from the compiled code and measured, not proved.
  * No other value is wrong to pass: the functions refuse what they can't use, and never fail, call back, allocate or
  * loop for ever.
  *
@@ -94,10 +94,34 @@ void midgebillon_read(const uint8_t *book, size_t book_length,
                       uint32_t *parses, size_t parses_length,
                       uint32_t *answer, size_t answer_length);
 
+/* how many numbers the working memory of midgebillon_read_in must have */
+enum {
+    MIDGEBILLON_INDEX = 1091,  /* of type size_t */
+    MIDGEBILLON_STORE = 17408, /* of type uint32_t */
+    MIDGEBILLON_ROWS = 104922  /* of type uint32_t */
+};
+
+/* midgebillon_read with working memory that is lent, and not on the stack: `index`, `store` and `rows`, 498,048 bytes
+ * in three lists, each aligned as its type asks and overlapping no other list. Whatever the memory held, the answer and
+ * both lists are those of midgebillon_read. Nothing is known of the memory afterwards, also not of what lies behind the
+ * numbers that are needed; the next call may be lent it as it is.
+ *
+ * Where one of the three has fewer numbers than said above, the answer is refusal 1, place 0, and `cells` and `parses`
+ * stay as they are. Where `answer_length` is under seven, nothing at all is touched, the working memory included. */
+void midgebillon_read_in(const uint8_t *book, size_t book_length,
+                         const uint8_t *text, size_t text_length,
+                         uint32_t start, uint32_t allowance,
+                         uint32_t *cells, size_t cells_length,
+                         uint32_t *parses, size_t parses_length,
+                         size_t *index, size_t index_length,
+                         uint32_t *store, size_t store_length,
+                         uint32_t *rows, size_t rows_length,
+                         uint32_t *answer, size_t answer_length);
+
 /* Writes the line of an answer to the front of `out`, with the line feed that ends it and no zero byte behind, and
  * gives its length: "value " and the value, as `value (1 (0 1) (0 2))`, or
  * `refused N place P kind K argument A line L column C`. `book`, `text`, `cells` and `answer` are those of the call of
- * midgebillon_read.
+ * midgebillon_read or midgebillon_read_in.
  *
  * In refusals 11 and 30 line and column are those of the place, from 1; else both are 0. A tab moves the column to the
  * next of 9, 17, 25 and so on, and every other byte, a carriage return too, moves it by one; behind a line feed it is 1

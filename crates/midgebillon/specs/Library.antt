@@ -1,18 +1,19 @@
--- What the two functions for other languages promise, in the terms of the call and of the line.
+-- What the functions for other languages promise that read and print, in the terms of the call and of the line.
 use mathlib.Core.Path.{_≡_}
 use mathlib.Core.Bool.{Bool, true, false, cond, _&&_, _||_}
 use mathlib.Core.List.{List, [], _++_}
 use Prim.Native.Nat.{ℕ, _*_, _≤_, _<_}
 use lib.Dec.{leb, eqb}
 use lib.ListN.{length, getD, set, drop}
+use Rattle.characters.specs.Slices.{Lent, atEntry, atExit}
 use Rattle.characters.specs.Classes.{between}
 use Rattle.book.specs.Book.{Entry}
 use Rattle.book.specs.Check.{checkBook, Outcome}
 use Rattle.book.specs.Index.{verdict}
 use Rattle.book.specs.declared.checking.Verdict.{Verdict}
 use Rattle.semantics.specs.Numbers.{cellSize, mostCells, noParse, differentValues, notAccepted, isLimit}
-use Rattle.semantics.specs.Answer.{Answer, answer, answerOf}
-use Rattle.run.specs.Promise.{Reads}
+use Rattle.semantics.specs.Answer.{Answer, Answered, answer, answerOf}
+use Rattle.run.specs.Promise.{Reads, answerWith}
 use Rattle.run.specs.declared.reader.Answer as code
 use Rattle.printing.specs.Printing.{lineBytes}
 use Rattle.printing.specs.declared.line.Length.{Length}
@@ -33,15 +34,34 @@ storing a l =
     5 (a .parses)) 6 (a .value)
 
 -- ---- Reading
--- Fewer than seven places: nothing at all is touched. Else the first seven numbers with both lists are what the call
--- promises, and the numbers behind stay
-pub record ReadInto (bytes text : List ℕ) (start allowance : ℕ)
-    (cells cells′ parses parses′ numbers numbers′ : List ℕ) : Type 0 where
-  pub few : length numbers < answerSize → (cells′ ≡ cells) × (parses′ ≡ parses) × (numbers′ ≡ numbers)
-  pub reads : answerSize ≤ length numbers →
-      Reads bytes text start (answerOf cells parses bytes text start allowance)
-      (record { answer = answerAt numbers′; cells = cells′; parses = parses′ })
-  pub behind : drop answerSize numbers′ ≡ drop answerSize numbers
+abbrev pub Stays : Lent → Type 0
+Stays list = atExit list ≡ atEntry list
+
+-- Fewer than seven places for the answer: nothing is touched. Else its first seven numbers with both lists are the
+-- expected ones, as the call promises it, and the numbers behind stay
+pub record AnswersInto (book text : Lent) (start : ℕ) (expected : Answered) (cells parses answer : Lent) : Type 0 where
+  pub few : length (atEntry answer) < answerSize → Stays cells × Stays parses × Stays answer
+  pub reads : answerSize ≤ length (atEntry answer) →
+      Reads (atEntry book) (atEntry text) start expected
+      (record { answer = answerAt (atExit answer); cells = atExit cells; parses = atExit parses })
+  pub behind : drop answerSize (atExit answer) ≡ drop answerSize (atEntry answer)
+
+-- `midgebillon_read`: what is expected is what document 01 says
+abbrev pub ReadInto : Lent → Lent → ℕ → ℕ → Lent → Lent → Lent → Type 0
+ReadInto book text start allowance cells parses answer =
+    AnswersInto book text start
+    (answerOf (atEntry cells) (atEntry parses) (atEntry book) (atEntry text) start allowance) cells parses answer
+
+-- `midgebillon_read_in`: the same where the working memory has its sizes, else refusal 1. Where nothing is touched, the
+-- working memory isn't, either; in any other call nothing is known of it at exit
+pub record ReadIntoWith (book text : Lent) (start allowance : ℕ)
+    (cells parses index store rows answer : Lent) : Type 0 where
+  pub answers :
+      AnswersInto book text start
+      (answerWith (atEntry index) (atEntry store) (atEntry rows) (atEntry cells) (atEntry parses) (atEntry book)
+      (atEntry text) start allowance)
+      cells parses answer
+  pub few : length (atEntry answer) < answerSize → Stays index × Stays store × Stays rows
 
 -- ---- Numbers that are an answer
 -- a refusal of the table of "The answer"

@@ -1,6 +1,7 @@
--- Laws of the two functions, one for each way out.
+-- Laws of the functions that read and print, one for each way out.
 --
---   untouched, answers                       `midgebillon_read`: too few numbers, and the call
+--   untouched, answers                       `midgebillon_read`, `midgebillon_read_in`: too few numbers, and the call
+--   with-room                                with enough working memory `midgebillon_read_in` is `midgebillon_read`
 --   some-line                                no line is empty
 --   few-numbers, no-answer, line-printed     `midgebillon_print`: too few numbers, numbers that are no answer, the line
 use mathlib.Core.Path.{_≡_, refl, sym, subst, ap, _∙_}
@@ -12,18 +13,19 @@ use lib.Dec.{leb, eqb}
 use lib.ListN.{length, drop}
 use borrow.Author.Tests.{le-leb, lt-leb, le-ltb, eqb-true, eqb-false, eq-eqb, ne-eqb}
 use Rattle.characters.specs.Cases.{by-test, clash}
+use Rattle.characters.specs.Slices.{Lent, atEntry, atExit}
 use Rattle.book.specs.Book.{Entry}
 use Rattle.book.specs.Check.{checkBook, Outcome}
 use Rattle.book.specs.Index.{bookIn, verdict, CheckedInto}
 use Rattle.book.specs.declared.checking.Verdict.{Verdict}
-use Rattle.semantics.specs.Answer.{Answer, answerOf}
-use Rattle.run.specs.Promise.{answerIn, answered, Reads}
+use Rattle.semantics.specs.Answer.{Answer, Answered}
+use Rattle.run.specs.Promise.{answerIn, answered, Reads, noRoom}
 use Rattle.run.specs.declared.reader.Answer as code
 use Rattle.printing.specs.Printing.{lineBytes, refusedLine}
 use Rattle.printing.specs.Lines.{Prints}
 use Rattle.printing.specs.declared.line.Length.{Length}
-use Rattle.midgebillon.specs.Library.{answerAt, storing, ReadInto, isAnswer, namesOf, lineFor, PrintsInto}
-use Rattle.midgebillon.specs.Library.{lengthOf}
+use Rattle.midgebillon.specs.Library.{answerAt, storing, Stays, AnswersInto, ReadInto, ReadIntoWith}
+use Rattle.midgebillon.specs.Library.{isAnswer, namesOf, lineFor, PrintsInto, lengthOf}
 
 -- ---- Reading
 -- the numbers stored are read back, and those behind them stay
@@ -38,21 +40,35 @@ stored a (x ∷ y ∷ z ∷ t ∷ u ∷ []) h = absurd (omega arith)
 stored a (x ∷ y ∷ z ∷ t ∷ u ∷ v ∷ []) h = absurd (omega arith)
 stored a (x ∷ y ∷ z ∷ t ∷ u ∷ v ∷ w ∷ l) h = (refl, refl)
 
-module _ (bytes text : List ℕ) (start allowance : ℕ) (cells parses numbers : List ℕ) where
-  pub untouched : length numbers < 7 → ReadInto bytes text start allowance cells cells parses parses numbers numbers
-  untouched h = record { few = λ k. (refl, refl, refl); reads = λ k. absurd (omega (arith, h, k)); behind = refl }
+module _ (book text : Lent) (start : ℕ) (expected : Answered) (cells parses answer : Lent) where
+  pub untouched : length (atEntry answer) < 7 → Stays cells → Stays parses → Stays answer →
+      AnswersInto book text start expected cells parses answer
+  untouched h same-cells same-parses same-answer =
+      record {
+        few = λ k. (same-cells, same-parses, same-answer);
+        reads = λ k. absurd (omega (arith, h, k));
+        behind = ap (λ (l : List ℕ). drop 7 l) same-answer;
+      }
 
-  pub answers : (cells′ parses′ numbers′ : List ℕ) (a : code.Answer) → 7 ≤ length numbers →
-      Reads bytes text start (answerOf cells parses bytes text start allowance) (answered a cells′ parses′) →
-      numbers′ ≡ storing a numbers → ReadInto bytes text start allowance cells cells′ parses parses′ numbers numbers′
-  answers cells′ parses′ numbers′ a h r e =
-      subst (λ (l : List ℕ). ReadInto bytes text start allowance cells cells′ parses parses′ numbers l) (sym e)
-      (record {
+  pub answers : (a : code.Answer) → 7 ≤ length (atEntry answer) →
+      Reads (atEntry book) (atEntry text) start expected (answered a (atExit cells) (atExit parses)) →
+      atExit answer ≡ storing a (atEntry answer) → AnswersInto book text start expected cells parses answer
+  answers a h r e =
+      let at = stored a (atEntry answer) h in
+      record {
         few = λ k. absurd (omega (arith, h, k));
-        reads = λ k. subst (λ x. Reads bytes text start (answerOf cells parses bytes text start allowance)
-            (record { answer = x; cells = cells′; parses = parses′ })) (sym (stored a numbers h .0)) r;
-        behind = stored a numbers h .1;
-      })
+        reads = λ k. subst (λ (x : Answer). Reads (atEntry book) (atEntry text) start expected
+            (record { answer = x; cells = atExit cells; parses = atExit parses }))
+            (sym (ap (λ (l : List ℕ). answerAt l) e ∙ at .0)) r;
+        behind = ap (λ (l : List ℕ). drop 7 l) e ∙ at .1;
+      }
+
+-- with enough working memory what `midgebillon_read_in` promises is what `midgebillon_read` promises
+module _ (book text : Lent) (start allowance : ℕ) (cells parses index store rows answer : Lent) where
+  pub with-room : noRoom (atEntry index) (atEntry store) (atEntry rows) ≡ false →
+      ReadIntoWith book text start allowance cells parses index store rows answer →
+      ReadInto book text start allowance cells parses answer
+  with-room room r = rw room at (r .answers)
 
 -- ---- Printing
 -- no line is empty, so that the length 0 says that there is none
