@@ -29,8 +29,7 @@ def rows():
 def main():
     table = b"".join(rows())
     with tempfile.TemporaryDirectory() as folder:
-        reader.static_library(f"{folder}/libreader.a")
-        with open(f"{folder}/libreader.a", "rb") as library:
+        with open(reader.static_library(folder), "rb") as library:
             parts = library.read().split(table)
     strays = sum(part.count(row) for part in parts for row in set(rows()))
     print(f"class table of {len(table)} bytes: {len(parts) - 1} in the library, rows elsewhere: {strays}")

@@ -1,20 +1,20 @@
-// Times the call of tools/reader/exported.rt.txt on texts of the example book of document 01, and prints for each the
-// work and the best time of a call, whole and per unit of work. `python3 tools/reader.py --speed` compiles and runs it.
+// Times midgebillon_read_in on texts of the example book of document 01, and prints for each the work and the best time
+// of a call, whole and per unit of work. `python3 tools/reader.py --speed` compiles and runs it.
 #include <stdint.h>
 #include <stdio.h>
 #include <string.h>
 #include <time.h>
 
-void reader_read_in(const uint8_t *book, size_t, const uint8_t *text, size_t, uint32_t start, uint32_t allowance, uint32_t *cells, size_t,
-                     uint32_t *parses, size_t, size_t *index, size_t, uint32_t *store, size_t, uint32_t *rows, size_t, uint32_t *answer, size_t);
+#include "midgebillon.h"
 
 static const uint8_t book[] = {
     0, 0, 1, 0, 4, 4, 0xff, 3, 1, 1, 1, 0, 1, 3, 2, 0, 1, 3, 0xff, 3, 1, 3, 10,
     3, 0, 0, 0, 8, 0, 0, 0, 0, 0x2d, 0, 0, 8, 0, 0, 0, 8, 0, 0, 0, 0, 0x2a, 0, 0, 8, 0, 0, 0, 0, 0x28, 0, 0, 8, 0, 0, 0, 0, 0x29, 0, 0,
 };
 
-static uint32_t cells[12288], parses[256], store[17408], rows[104922], answer[7];
-static size_t index_of_book[1091];
+static uint32_t cells[MIDGEBILLON_CELLS], parses[MIDGEBILLON_PARSES], answer[MIDGEBILLON_ANSWER];
+static size_t index_of_book[MIDGEBILLON_INDEX];
+static uint32_t store[MIDGEBILLON_STORE], rows[MIDGEBILLON_ROWS];
 
 static double now(void) {
     struct timespec t;
@@ -23,8 +23,9 @@ static double now(void) {
 }
 
 static void call(const char *text, size_t size) {
-    reader_read_in(book, sizeof book, (const uint8_t *)text, size, 0, 1000000, cells, 12288, parses, 256, index_of_book, 1091, store, 17408, rows,
-                    104922, answer, 7);
+    midgebillon_read_in(book, sizeof book, (const uint8_t *)text, size, 0, MIDGEBILLON_ALLOWANCE, cells,
+                        MIDGEBILLON_CELLS, parses, MIDGEBILLON_PARSES, index_of_book, MIDGEBILLON_INDEX, store,
+                        MIDGEBILLON_STORE, rows, MIDGEBILLON_ROWS, answer, MIDGEBILLON_ANSWER);
 }
 
 static void time_of(const char *name, const char *text) {

@@ -13,18 +13,18 @@ pub const MOST_WORK: u32 = 1_000_000;
 /// Room for most lines.
 const LINE: usize = 4096;
 
-// Of tools/reader/exported.rt.txt; a slice is a pointer and a length.
+// Of include/midgebillon.h.
 #[rustfmt::skip]
 extern "C" {
-    fn reader_read_in(
+    fn midgebillon_read_in(
         book: *const u8, book_len: usize, text: *const u8, text_len: usize, start: u32, allowance: u32,
         cells: *mut u32, cells_len: usize, parses: *mut u32, parses_len: usize, index: *mut usize, index_len: usize,
         store: *mut u32, store_len: usize, rows: *mut u32, rows_len: usize, answer: *mut u32, answer_len: usize,
     );
 
-    fn reader_print(
-        book: *const u8, book_len: usize, text: *const u8, text_len: usize, index: *const usize, index_len: usize,
-        cells: *const u32, cells_len: usize, answer: *const u32, answer_len: usize, line: *mut u8, line_len: usize,
+    fn midgebillon_print(
+        book: *const u8, book_len: usize, text: *const u8, text_len: usize,
+        cells: *const u32, cells_len: usize, answer: *const u32, answer_len: usize, out: *mut u8, out_len: usize,
     ) -> usize;
 }
 
@@ -57,7 +57,7 @@ impl Reader {
     pub fn call(&mut self, book: &[u8], text: &[u8], start: u32, allowance: u32) -> u32 {
         // Safety: each pointer is that of a slice with the length beside it, and no two overlap.
         unsafe {
-            reader_read_in(
+            midgebillon_read_in(
                 book.as_ptr(), book.len(), text.as_ptr(), text.len(), start, allowance,
                 self.cells.as_mut_ptr(), CELLS, self.parses.as_mut_ptr(), PARSES, self.index.as_mut_ptr(), INDEX,
                 self.store.as_mut_ptr(), STORE, self.rows.as_mut_ptr(), ROWS, self.numbers.as_mut_ptr(), self.numbers.len(),
@@ -93,8 +93,8 @@ impl Reader {
         let mut line = vec![0; room];
         // Safety: as in `call`.
         let size = unsafe {
-            reader_print(
-                book.as_ptr(), book.len(), text.as_ptr(), text.len(), self.index.as_ptr(), INDEX,
+            midgebillon_print(
+                book.as_ptr(), book.len(), text.as_ptr(), text.len(),
                 self.cells.as_ptr(), CELLS, self.numbers.as_ptr(), self.numbers.len(), line.as_mut_ptr(), room,
             )
         };
