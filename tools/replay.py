@@ -11,7 +11,8 @@ three vectors of little work for each refusal.
     python3 tools/replay.py --through library VECTORS.jsonl ..
 
 The static library, called as C does: target/staticlib/libmidgebillon.a, which `rt staticlib midgebillon` proves and
-writes, or --library FILE.
+writes, or --library FILE. Each vector is read by midgebillon_read, and by midgebillon_read_in in working memory that is
+full of rubbish; the first that isn't refused with 1 also with each list of that memory one number too short.
 
     python3 tools/replay.py --through definitions VECTORS.jsonl ..
 
@@ -25,6 +26,7 @@ import argparse
 import ctypes
 import multiprocessing
 import os
+import random
 import re
 import subprocess
 import sys
@@ -128,6 +130,8 @@ def through_reader(vectors, options):
 
 # ---- Through the static library
 NUMBERS = 7  # of an answer
+MEMORY = {"index": (ctypes.c_size_t, 1091), "store": (ctypes.c_uint32, 17408), "rows": (ctypes.c_uint32, 104922)}
+SHORT = [1, 0, 0, 0, 0, 0, 0]  # the answer where a list is too short
 FILL = 0xF111F111  # what a list holds before a call
 Numbers = ctypes.POINTER(ctypes.c_uint32)
 Bytes = ctypes.c_char_p
@@ -143,6 +147,9 @@ def loaded(archive, folder):
     texts, lists = [Bytes, Length] * 2, [Numbers, Length]
     library.midgebillon_read.restype = None
     library.midgebillon_read.argtypes = [*texts, ctypes.c_uint32, ctypes.c_uint32, *lists * 3]
+    memory = [word for kind, _ in MEMORY.values() for word in (ctypes.POINTER(kind), Length)]
+    library.midgebillon_read_in.restype = None
+    library.midgebillon_read_in.argtypes = [*texts, ctypes.c_uint32, ctypes.c_uint32, *lists * 2, *memory, *lists]
     library.midgebillon_print.restype = Length
     library.midgebillon_print.argtypes = [*texts, *lists * 2, ctypes.POINTER(ctypes.c_uint8), Length]
     return library
@@ -163,18 +170,55 @@ class Lent:
         return difference(name, self.numbers[:], list(wanted) + [self.fill] * (len(self.numbers) - len(wanted)))
 
 
-def library_reading(library, v, book, text):
-    """The lists after a call of midgebillon_read, and what differs in them. A call with room for six numbers of the
-    answer touches nothing."""
+class Memory:
+    """The working memory that is lent to midgebillon_read_in, full of new rubbish at each call. One list can be a
+    number too short."""
+
+    def __init__(self):
+        self.lists = {name: Lent(length, kind) for name, (kind, length) in MEMORY.items()}
+        self.random, self.short = random.Random(0), None
+
+    def length(self, name):
+        return self.lists[name].length - (name == self.short)
+
+    def words(self):
+        words, self.before = [], {}
+        for name, (numbers, _) in ((name, each.words()) for name, each in self.lists.items()):
+            self.before[name] = self.random.randbytes(ctypes.sizeof(numbers))
+            ctypes.memmove(numbers, self.before[name], ctypes.sizeof(numbers))
+            words += [numbers, self.length(name)]
+        return words
+
+    def differences(self, anywhere):
+        """Which lists the call has touched: anywhere, or behind their ends."""
+        for name, (kind, _) in MEMORY.items():
+            first = 0 if anywhere else self.length(name) * ctypes.sizeof(kind)
+            if bytes(self.lists[name].numbers)[first:] != self.before[name][first:]:
+                yield f"{name} is touched"
+
+
+def library_calls(library, v, book, text, memory):
+    """The calls of both functions, each of cells, parses and answer as they are passed."""
+    given = [book, len(book), text, len(text), v["start"], v["allowance"]]
+    own = lambda cells, parses, answer: library.midgebillon_read(*given, *cells, *parses, *answer)
+    lending = lambda *lists: library.midgebillon_read_in(*given, *lists[0], *lists[1], *memory.words(), *lists[2])
+    return own, lending
+
+
+def library_reading(call, v, known_answer, known_cells, known_parses):
+    """The lists after a call, and what differs in them."""
     cells, parses, answer = *map(Lent, lent(v)), Lent(NUMBERS + BEYOND)
-    call = [book, len(book), text, len(text), v["start"], v["allowance"], *cells.words(), *parses.words()]
-    library.midgebillon_read(*call, answer.numbers, NUMBERS - 1)
-    found = [each.difference("too few numbers for the answer:", []) for each in (cells, parses, answer)]
-    library.midgebillon_read(*call, *answer.words())
-    known_cells, known_parses = known_lists(v, FILL)
-    found += [answer.difference("answer", v["answer"])]
+    call(cells.words(), parses.words(), answer.words())
+    found = [answer.difference("answer", known_answer)]
     found += [cells.difference("cells", known_cells), parses.difference("parses", known_parses)]
     return cells, answer, found
+
+
+def library_untouched(call, v):
+    """What differs after a call with room for six numbers of the answer, which touches nothing."""
+    lists = *map(Lent, lent(v)), Lent(NUMBERS - 1)
+    call(*(each.words() for each in lists))
+    return [each.difference("too few numbers for the answer:", []) for each in lists]
 
 
 def library_printing(library, v, book, text, cells, answer):
@@ -189,18 +233,37 @@ def library_printing(library, v, book, text, cells, answer):
         yield out.difference(f"line in room of {room}:", wanted)
 
 
-def library_differences(library, v):
+def library_differences(library, v, memory):
     book, text = bytes.fromhex(v["book"]), bytes.fromhex(v["text"])
-    cells, answer, found = library_reading(library, v, book, text)
-    return [what for what in [*found, *library_printing(library, v, book, text, cells, answer)] if what]
+    known = v["answer"], *known_lists(v, FILL)
+    own, lending = library_calls(library, v, book, text, memory)
+    lent_found = [*library_untouched(lending, v), *memory.differences(anywhere=True)]
+    lent_found += [*library_reading(lending, v, *known)[2], *memory.differences(anywhere=False)]
+    cells, answer, found = library_reading(own, v, *known)
+    found += [*library_untouched(own, v), *library_printing(library, v, book, text, cells, answer)]
+    return [what for what in found if what] + [f"in lent memory: {what}" for what in lent_found if what]
+
+
+def short_memory(library, v, memory):
+    """What differs where a list of the working memory is one number too short: refusal 1, and both lists untouched."""
+    _, lending = library_calls(library, v, bytes.fromhex(v["book"]), bytes.fromhex(v["text"]), memory)
+    for memory.short in MEMORY:
+        found = [*library_reading(lending, v, SHORT, [], [])[2], *memory.differences(anywhere=False)]
+        if any(found):
+            yield f"{memory.short} one too short", "; ".join(filter(None, found))
+    memory.short = None
 
 
 def through_library(vectors, options):
     if not os.path.exists(options.library):
         sys.exit(f"no {options.library}: `rt staticlib midgebillon` writes it")
+    memory = Memory()
     with tempfile.TemporaryDirectory() as folder:
         library = loaded(options.library, folder)
-        differing = [(place, "; ".join(found)) for place, v in vectors if (found := library_differences(library, v))]
+        differences = [(place, library_differences(library, v, memory)) for place, v in vectors]
+        differing = [(place, "; ".join(found)) for place, found in differences if found]
+        others = [v for _, v in vectors if v["answer"] != SHORT]
+        differing += [found for v in others[:1] for found in short_memory(library, v, memory)]
     return told("library", len(vectors), differing)
 
 
