@@ -130,7 +130,7 @@ def through_reader(vectors, options):
 
 # ---- Through the static library
 NUMBERS = 7  # of an answer
-MEMORY = {"index": (ctypes.c_size_t, 1091), "store": (ctypes.c_uint32, 17408), "rows": (ctypes.c_uint32, 104922)}
+MEMORY = {"index": ctypes.c_size_t, "store": ctypes.c_uint32, "rows": ctypes.c_uint32}  # the types of their numbers
 SHORT = [1, 0, 0, 0, 0, 0, 0]  # the answer where a list is too short
 FILL = 0xF111F111  # what a list holds before a call
 Numbers = ctypes.POINTER(ctypes.c_uint32)
@@ -147,7 +147,7 @@ def loaded(archive, folder):
     texts, lists = [Bytes, Length] * 2, [Numbers, Length]
     library.midgebillon_read.restype = None
     library.midgebillon_read.argtypes = [*texts, ctypes.c_uint32, ctypes.c_uint32, *lists * 3]
-    memory = [word for kind, _ in MEMORY.values() for word in (ctypes.POINTER(kind), Length)]
+    memory = [word for kind in MEMORY.values() for word in (ctypes.POINTER(kind), Length)]
     library.midgebillon_read_in.restype = None
     library.midgebillon_read_in.argtypes = [*texts, ctypes.c_uint32, ctypes.c_uint32, *lists * 2, *memory, *lists]
     library.midgebillon_print.restype = Length
@@ -171,11 +171,13 @@ class Lent:
 
 
 class Memory:
-    """The working memory that is lent to midgebillon_read_in, full of new rubbish at each call. One list can be a
-    number too short."""
+    """The working memory that is lent to midgebillon_read_in, of the header's sizes and full of new rubbish at each
+    call. One list can be a number too short."""
 
     def __init__(self):
-        self.lists = {name: Lent(length, kind) for name, (kind, length) in MEMORY.items()}
+        with open(f"{ROOT}/include/midgebillon.h", encoding="utf-8") as header:
+            sizes = dict(re.findall(r"MIDGEBILLON_(\w+) = (\d+)", header.read()))
+        self.lists = {name: Lent(int(sizes[name.upper()]), kind) for name, kind in MEMORY.items()}
         self.random, self.short = random.Random(0), None
 
     def length(self, name):
@@ -191,7 +193,7 @@ class Memory:
 
     def differences(self, anywhere):
         """Which lists the call has touched: anywhere, or behind their ends."""
-        for name, (kind, _) in MEMORY.items():
+        for name, kind in MEMORY.items():
             first = 0 if anywhere else self.length(name) * ctypes.sizeof(kind)
             if bytes(self.lists[name].numbers)[first:] != self.before[name][first:]:
                 yield f"{name} is touched"
@@ -247,10 +249,11 @@ def library_differences(library, v, memory):
 def short_memory(library, v, memory):
     """What differs where a list of the working memory is one number too short: refusal 1, and both lists untouched."""
     _, lending = library_calls(library, v, bytes.fromhex(v["book"]), bytes.fromhex(v["text"]), memory)
-    for memory.short in MEMORY:
+    for name in MEMORY:
+        memory.short = name
         found = [*library_reading(lending, v, SHORT, [], [])[2], *memory.differences(anywhere=False)]
         if any(found):
-            yield f"{memory.short} one too short", "; ".join(filter(None, found))
+            yield f"{name} one too short", "; ".join(filter(None, found))
     memory.short = None
 
 
