@@ -20,11 +20,10 @@ import shutil
 import subprocess
 import sys
 
-from reader import CASES, ROOT, TOOLCHAIN, dependencies, libraries, source
+from reader import LIBRARY, ROOT, static_library
 
-CRATE = "midgebillon"
 HEADER = f"{ROOT}/include/midgebillon.h"
-PROVED = f"{ROOT}/target/staticlib/lib{CRATE}.a"
+PROVED = f"{ROOT}/target/staticlib/lib{LIBRARY}.a"
 NOT_PROVED = "not proved: compiled without its proofs"
 
 PKG_CONFIG = """prefix=${{pcfiledir}}/../..
@@ -52,15 +51,14 @@ def version():
         return re.search(r'define MIDGEBILLON_VERSION "(.*)"', header.read())[1]
 
 
-def compiled(archive):
-    """The crate's code as a static library, without its proofs, with the symbol that says so."""
-    words = [CASES, "--toolchain", TOOLCHAIN, "--staticlib", archive, source(CRATE), "--crate-name", CRATE]
-    run(*words, *libraries(dependencies()[CRATE]))
+def compiled(folder):
+    """The static library without its proofs, with the symbol that says so."""
+    archive, part = static_library(folder), f"{folder}/not_proved.o"
     label = f'const char midgebillon_not_proved[] = "{NOT_PROVED}";\n'
-    part = f"{os.path.dirname(archive)}/not_proved.o"
     run("gcc", "-fPIC", "-c", "-x", "c", "-", "-o", part, input=label, text=True)
     run("ar", "r", archive, part, stderr=subprocess.DEVNULL)
     os.remove(part)
+    return archive
 
 
 def linked(archive, shared):
@@ -73,17 +71,13 @@ def build(quick):
     """Writes the folder and gives its name."""
     folder = f"{ROOT}/target/{'quick' if quick else 'proved'}"
     if not quick:
-        run("rt", "staticlib", CRATE, cwd=ROOT)
+        run("rt", "staticlib", LIBRARY, cwd=ROOT)
     shutil.rmtree(folder, ignore_errors=True)
     os.makedirs(f"{folder}/include")
     os.makedirs(f"{folder}/lib/pkgconfig")
     for header in os.listdir(f"{ROOT}/include"):
         shutil.copy(f"{ROOT}/include/{header}", f"{folder}/include")
-    archive = f"{folder}/lib/libmidgebillon.a"
-    if quick:
-        compiled(archive)
-    else:
-        shutil.copy(PROVED, archive)
+    archive = compiled(f"{folder}/lib") if quick else shutil.copy(PROVED, f"{folder}/lib")
     linked(archive, f"{folder}/lib/libmidgebillon.so")
     with open(f"{folder}/lib/pkgconfig/midgebillon.pc", "w", encoding="utf-8") as file:
         file.write(PKG_CONFIG.format(version=version(), remark=f" ({NOT_PROVED})" if quick else ""))

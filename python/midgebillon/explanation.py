@@ -169,7 +169,7 @@ class Explanation:
             return []
         said = self._wanted(found)
         if found.place == place:
-            return [] if told and len(found.symbols) == 1 else [f"What would go on here: {said}."]
+            return [] if told and len(found.symbols) == 1 else [f"What would go on here: {said}"]
         ends = "where the text ends" if found.place == len(self.text) else "here"
         there = _at(self.text, _shown(self.text, found.place), self.file, f"wanted {ends}: {said}")
         return [f"If the rule is meant to go on, the steps of the book fit up to another place:\n{there}"]
@@ -186,7 +186,11 @@ class Explanation:
         word, digits = tokens.word(place), DIGITS.match(self.text, place)
         if word in tokens.reserved:
             return [f"{word} is a reserved word"]
-        return [f"this number is above {2**64 - 1}, the greatest"] if digits and int(digits.group()) >= 2**64 else []
+        if digits and int(digits.group()) >= 2**64:
+            return [f"this number is above {2**64 - 1}, the greatest"]
+        known = {entry.spelling for entry in (*self.view.book.words, *self.view.book.names)}
+        close = difflib.get_close_matches(word, sorted(known), 1) if word and word not in known else []
+        return [f"did you mean {close[0]}?"] if close else []
 
     # ---- 31
     def _none_whole(self, number):

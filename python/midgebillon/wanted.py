@@ -238,7 +238,7 @@ class _Chart:
             origin == self.first and self.grammar.rules[number] == (self.start, self.grammar.rules[number].symbols[:taken])
             for number, taken, origin in self.items.get(len(self.text), ())
         )
-        return Wanted(place, tuple(sorted(symbols, key=len, reverse=True)), whole)
+        return Wanted(place, tuple(sorted(symbols, key=lambda s: (isinstance(s, Terminal), s))), whole)
 
     def collect(self, symbol, symbols):
         """The symbol as the book has it: a nonterminal by itself, a list by what it may go on with."""
