@@ -89,7 +89,7 @@ class Readings(unittest.TestCase):
                 Library(path)
 
     def test_documentation(self):
-        self.assertEqual(doctest.testmod(midgebillon), (0, 5))
+        self.assertEqual(doctest.testmod(midgebillon), (0, 9))
 
 
 class LargeTrees(unittest.TestCase):

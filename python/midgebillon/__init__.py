@@ -7,21 +7,39 @@
     ...   | expression '-' expression ; left 1
     ... ''')
     >>> reading = midgebillon.read(source.data, b"5 - 3 - 1")
-    >>> midgebillon.printed(reading.value)
-    '(1 (1 (0 5) (0 3)) (0 1))'
-    >>> midgebillon.read(source.data, b"5 -").refusal.name
-    'NONE_WHOLE'
+    >>> print(reading.value)
+    (1 (1 (0 5) (0 3)) (0 1))
+    >>> minus, fives = reading.value, reading.value.items[0].items[0]
+    >>> minus.number, fives
+    (1, Variant(number=0, items=(Number(value=5),)))
+
+A refusal has a number and a name; an explanation has its place and what was wanted there:
+
+    >>> reading = midgebillon.read(source.data, b"5 - x")
+    >>> print(reading.refusal)
+    refusal 31, none whole
+    >>> print(midgebillon.Explanation(reading, midgebillon.View(source.data, source), 0, "rule", "book"))
+    rule:1:3: the rule is read up to here, and the rest of it is left over (refusal 31)
+        5 - x
+          ^
+    Read so far: 5, as the value (0 5)
+    If the rule is meant to go on, the steps of the book fit up to another place:
+    rule:1:5: wanted here: expression; expression begins with a number
+        5 - x
+            ^
 
 The reading itself is the library's, which is proved; this package, as the notation for books and all explanations, is
 not.
 """
 from .book import Book, decode, encode
+from .explanation import Explanation
 from .library import NoLibrary
 from .notation import to_text
 from .notation_reader import Source, from_text
 from .notation_tokens import NotationError
 from .reading import MOST_WORK, Answer, Parse, Reading, check, furthest, read
 from .refusal import Error, ErrorKind, Refusal
-from .tree import Absent, Identifier, List, Number, Variable, Variant, printed
+from .tree import Absent, Identifier, List, Number, Tree, Variable, Variant, printed
+from .view import View, view
 
 __version__ = "0.1.0"

@@ -25,6 +25,9 @@ class Refusal(IntEnum):
     NONE_WHOLE = 31
     DIFFERENT_VALUES = 32
 
+    def __str__(self):
+        return f"refusal {self.value}, {self.name.lower().replace('_', ' ')}"
+
     @property
     def of_book(self):
         return Refusal.BOOK_ENDS_EARLY <= self <= Refusal.BYTES_LEFT_OVER

@@ -3,8 +3,15 @@ for n variants that each have the next one twice. A walk needs a limit of its ow
 from dataclasses import dataclass
 
 
+class Tree:
+    """Any of those below. `str` is what document 01 prints."""
+
+    def __str__(self):
+        return printed(self)
+
+
 @dataclass(frozen=True)
-class Variant:
+class Variant(Tree):
     """A variant, by its number in the book, with its items in the order of its steps."""
 
     number: int
@@ -12,12 +19,12 @@ class Variant:
 
 
 @dataclass(frozen=True)
-class List:
+class List(Tree):
     items: tuple
 
 
 @dataclass(frozen=True)
-class Identifier:
+class Identifier(Tree):
     """Its place is the first at which the text has it, in bytes."""
 
     place: int
@@ -25,12 +32,12 @@ class Identifier:
 
 
 @dataclass(frozen=True)
-class Number:
+class Number(Tree):
     value: int
 
 
 @dataclass(frozen=True)
-class Variable:
+class Variable(Tree):
     """A starting name, by its number in the book."""
 
     name: int
@@ -39,7 +46,7 @@ class Variable:
 
 
 @dataclass(frozen=True)
-class Absent:
+class Absent(Tree):
     """An optional that isn't there."""
 
 
