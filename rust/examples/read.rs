@@ -1,7 +1,7 @@
 //! read BOOK TEXT: reads the rule in the file TEXT by the book in the file BOOK, and prints the line of the answer.
 //! Exit status: 0 a value, 1 a refusal, 2 wrong usage, 3 no thread, or a line that is too long or can't be written.
 
-use midgebillon::{read, Answer, MOST_WORK};
+use midgebillon::{read, MOST_WORK};
 use std::io::{self, Write};
 use std::process::ExitCode;
 use std::{env, fs};
@@ -30,8 +30,5 @@ fn run() -> io::Result<ExitCode> {
         return Ok(ExitCode::from(3));
     };
     io::stdout().write_all(&line)?;
-    Ok(ExitCode::from(match reading.answer() {
-        Answer::Value { .. } => 0,
-        Answer::Refused { .. } => 1,
-    }))
+    Ok(ExitCode::from(reading.value().is_err() as u8))
 }
