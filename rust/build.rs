@@ -10,7 +10,10 @@ const ARCHIVE: &str = "libmidgebillon.a";
 const WRITTEN: [&str; 2] = ["../target/proved/lib", "../target/quick/lib"];
 
 // A library that was compiled without its proofs has this symbol.
-const MARK: &[u8] = b"midgebillon_not_proved";
+const NOT_PROVED: &str = "midgebillon_not_proved";
+
+// Symbols that not every library has; the code asks for each by a cfg of its name.
+const OPTIONAL: [&str; 2] = [NOT_PROVED, "midgebillon_read_in"];
 
 const NO_LIBRARY: &str = "In the repository's folder,
     python3 tools/library.py            # proves the library and writes it: minutes
@@ -19,7 +22,6 @@ or name a folder that has libmidgebillon.a in MIDGEBILLON_LIB_DIR.";
 
 fn main() {
     println!("cargo:rerun-if-env-changed={VARIABLE}");
-    println!("cargo:rustc-check-cfg=cfg(midgebillon_not_proved)");
     let Some((folder, archive)) = candidates().into_iter().find_map(found) else {
         eprintln!("there is no {ARCHIVE}. {NO_LIBRARY}");
         process::exit(1);
@@ -27,8 +29,13 @@ fn main() {
     println!("cargo:rustc-link-search=native={}", folder.display());
     println!("cargo:rustc-env=MIDGEBILLON_LINKED={}", folder.display());
     println!("cargo:rustc-link-lib=static=midgebillon");
-    if archive.windows(MARK.len()).any(|part| part == MARK) {
-        println!("cargo:rustc-cfg=midgebillon_not_proved");
+    for symbol in OPTIONAL {
+        println!("cargo:rustc-check-cfg=cfg({symbol})");
+        if has(&archive, symbol) {
+            println!("cargo:rustc-cfg={symbol}");
+        }
+    }
+    if has(&archive, NOT_PROVED) {
         println!("cargo:warning=the library in {} is not proved", folder.display());
     }
 }
@@ -47,6 +54,12 @@ fn found(folder: PathBuf) -> Option<(PathBuf, Vec<u8>)> {
     println!("cargo:rerun-if-changed={}", archive.display());
     let content = fs::read(&archive).ok()?;
     Some((in_full(&folder), content))
+}
+
+// Whether a library has a symbol. Its symbols' names stand in it, each with a zero byte behind.
+fn has(archive: &[u8], symbol: &str) -> bool {
+    let name = [symbol.as_bytes(), b"\0"].concat();
+    archive.windows(name.len()).any(|part| part == name)
 }
 
 // For the linker, which runs in another folder.

@@ -18,7 +18,7 @@
 //! The library is: the numbers of the answer, the lists and the line are those of the specification, for every book and
 //! text. This crate is a thin layer over it that is tested and not proved. What it adds: names for the numbers, trees
 //! over the cells with their `Display` and equality, and [`Reading::is_whole`]. [`Reading::answer`], [`Reading::cells`]
-//! and [`Reading::line`] hand on what the library gives. All unsafe code is the three calls of the library.
+//! and [`Reading::line`] hand on what the library gives. All unsafe code is the calls of the library.
 //!
 //! # Stack
 //!
@@ -30,12 +30,16 @@ mod cells;
 mod error;
 #[allow(unsafe_code)]
 mod library;
+#[cfg(midgebillon_read_in)]
+mod memory;
 mod reading;
 mod refusal;
 mod tree;
 
 pub use error::{furthest, Error, ErrorKind};
 pub use library::MOST_WORK;
+#[cfg(midgebillon_read_in)]
+pub use memory::Memory;
 pub use reading::{read, Associativity, Parse, Reading};
 pub use refusal::Refusal;
 pub use tree::{Items, ItemsIter, Tree};

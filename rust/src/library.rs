@@ -2,7 +2,7 @@
 //!
 //! include/midgebillon.h tells what a caller owes. The types pay it: a slice's pointer is never null, and a `&mut`
 //! overlaps nothing else. What types can't say is the stack that a call needs, more than a thread of Rust's has: so
-//! `read` and `line` make their calls in a thread of their own.
+//! each call but `furthest` is made in a thread of its own.
 
 use std::panic::resume_unwind;
 use std::{io, thread};
@@ -15,6 +15,14 @@ pub const PARSES: usize = 256;
 pub const ANSWER: usize = 7;
 /// The numbers of an error.
 pub const ERROR: usize = 3;
+
+/// The numbers of the working memory that a call can be lent, list by list.
+#[cfg(midgebillon_read_in)]
+pub const INDEX: usize = 1_091;
+#[cfg(midgebillon_read_in)]
+pub const STORE: usize = 17_408;
+#[cfg(midgebillon_read_in)]
+pub const ROWS: usize = 104_922;
 
 /// The greatest allowance: the units of work that a call may take.
 pub const MOST_WORK: u32 = 1_000_000;
@@ -38,6 +46,28 @@ extern "C" {
         cells_length: usize,
         parses: *mut u32,
         parses_length: usize,
+        answer: *mut u32,
+        answer_length: usize,
+    );
+
+    #[cfg(midgebillon_read_in)]
+    fn midgebillon_read_in(
+        book: *const u8,
+        book_length: usize,
+        text: *const u8,
+        text_length: usize,
+        start: u32,
+        allowance: u32,
+        cells: *mut u32,
+        cells_length: usize,
+        parses: *mut u32,
+        parses_length: usize,
+        index: *mut usize,
+        index_length: usize,
+        store: *mut u32,
+        store_length: usize,
+        rows: *mut u32,
+        rows_length: usize,
         answer: *mut u32,
         answer_length: usize,
     );
@@ -67,18 +97,24 @@ fn with_stack<T: Send>(call: impl FnOnce() -> T + Send) -> io::Result<T> {
     })
 }
 
-/// Fills the lists and the answer.
-pub fn read(
-    book: &[u8],
-    text: &[u8],
-    start: u32,
-    allowance: u32,
-    cells: &mut [u32],
-    parses: &mut [u32],
-    answer: &mut [u32; ANSWER],
-) -> io::Result<()> {
-    // SAFETY: each pointer and length are of one slice, those that are written are borrowed for it, and `with_stack`
-    // gives the stack.
+/// What a call fills.
+pub struct Lists {
+    pub cells: Vec<u32>,
+    pub parses: Vec<u32>,
+    pub answer: [u32; ANSWER],
+}
+
+impl Lists {
+    /// Lists of the lengths that a call needs.
+    pub fn new() -> Lists {
+        Lists { cells: vec![0; CELLS], parses: vec![0; PARSES], answer: [0; ANSWER] }
+    }
+}
+
+/// Fills the lists.
+pub fn read(book: &[u8], text: &[u8], start: u32, allowance: u32, lists: &mut Lists) -> io::Result<()> {
+    // SAFETY: each pointer and length are of one slice or list, those that are written are borrowed for it, and
+    // `with_stack` gives the stack.
     with_stack(|| unsafe {
         midgebillon_read(
             book.as_ptr(),
@@ -87,12 +123,63 @@ pub fn read(
             text.len(),
             start,
             allowance,
-            cells.as_mut_ptr(),
-            cells.len(),
-            parses.as_mut_ptr(),
-            parses.len(),
-            answer.as_mut_ptr(),
-            answer.len(),
+            lists.cells.as_mut_ptr(),
+            lists.cells.len(),
+            lists.parses.as_mut_ptr(),
+            lists.parses.len(),
+            lists.answer.as_mut_ptr(),
+            lists.answer.len(),
+        )
+    })
+}
+
+/// Working memory that a call is lent.
+#[cfg(midgebillon_read_in)]
+pub struct Working {
+    pub index: Vec<usize>,
+    pub store: Vec<u32>,
+    pub rows: Vec<u32>,
+}
+
+#[cfg(midgebillon_read_in)]
+impl Working {
+    /// Memory of the lengths that a call needs.
+    pub fn new() -> Working {
+        Working { index: vec![0; INDEX], store: vec![0; STORE], rows: vec![0; ROWS] }
+    }
+}
+
+/// Fills the lists, in working memory that is lent, whatever it holds.
+#[cfg(midgebillon_read_in)]
+pub fn read_in(
+    memory: &mut Working,
+    book: &[u8],
+    text: &[u8],
+    start: u32,
+    allowance: u32,
+    lists: &mut Lists,
+) -> io::Result<()> {
+    // SAFETY: as in `read`; the working memory is borrowed for writing, too.
+    with_stack(|| unsafe {
+        midgebillon_read_in(
+            book.as_ptr(),
+            book.len(),
+            text.as_ptr(),
+            text.len(),
+            start,
+            allowance,
+            lists.cells.as_mut_ptr(),
+            lists.cells.len(),
+            lists.parses.as_mut_ptr(),
+            lists.parses.len(),
+            memory.index.as_mut_ptr(),
+            memory.index.len(),
+            memory.store.as_mut_ptr(),
+            memory.store.len(),
+            memory.rows.as_mut_ptr(),
+            memory.rows.len(),
+            lists.answer.as_mut_ptr(),
+            lists.answer.len(),
         )
     })
 }
@@ -179,6 +266,8 @@ mod tests {
         let defined = |name, number| header.contains(&format!("MIDGEBILLON_{name} = {number}"));
         assert!(defined("CELLS", CELLS) && defined("PARSES", PARSES) && defined("ANSWER", ANSWER));
         assert!(defined("ERROR", ERROR) && defined("ALLOWANCE", MOST_WORK as usize));
+        #[cfg(midgebillon_read_in)]
+        assert!(defined("INDEX", INDEX) && defined("STORE", STORE) && defined("ROWS", ROWS));
     }
 
     #[test]

@@ -1,7 +1,7 @@
 //! A text read by a book.
 
 use crate::cells::Cells;
-use crate::library::{self, ANSWER, CELLS, PARSES};
+use crate::library::{self, Lists, ANSWER};
 use crate::refusal::Refusal;
 use crate::tree::Tree;
 use std::{fmt, io};
@@ -44,7 +44,7 @@ pub struct Parse<'r> {
     pub value: Tree<'r>,
 }
 
-/// A text read by a book: the answer, the parses and the cells. Only [`read`] makes one, so its numbers are an answer.
+/// A text read by a book: the answer, the parses and the cells. Only a call makes one, so its numbers are an answer.
 pub struct Reading<'a> {
     cells: Cells<'a>,
     parses: Vec<u32>,
@@ -71,14 +71,18 @@ pub struct Reading<'a> {
 /// # Ok::<(), Box<dyn std::error::Error>>(())
 /// ```
 pub fn read<'a>(book: &'a [u8], text: &'a [u8], start: u32, allowance: u32) -> io::Result<Reading<'a>> {
-    let mut cells = vec![0; CELLS];
-    let mut parses = vec![0; PARSES];
-    let mut answer = [0; ANSWER];
-    library::read(book, text, start, allowance, &mut cells, &mut parses, &mut answer)?;
-    Ok(Reading { cells: Cells { book, text, numbers: cells }, parses, answer })
+    let mut lists = Lists::new();
+    library::read(book, text, start, allowance, &mut lists)?;
+    Ok(Reading::of(book, text, lists))
 }
 
-impl Reading<'_> {
+impl<'a> Reading<'a> {
+    /// The reading that a call of this book and this text gave.
+    pub(crate) fn of(book: &'a [u8], text: &'a [u8], lists: Lists) -> Reading<'a> {
+        let Lists { cells, parses, answer } = lists;
+        Reading { cells: Cells { book, text, numbers: cells }, parses, answer }
+    }
+
     /// The text's value, or why it has none.
     ///
     /// It has one if some parse is whole and all whole parses have the same value.

@@ -186,14 +186,14 @@ impl std::error::Error for Refusal {}
 #[cfg(test)]
 mod tests {
     use super::*;
-    use crate::library::{self, CELLS, MOST_WORK, PARSES};
+    use crate::library::{self, Lists, CELLS, MOST_WORK, PARSES};
 
     // What the wrapper's own lists never meet.
     fn lent(cells: usize, parses: usize) -> Option<Refusal> {
-        let mut answer = [0; ANSWER];
+        let mut lists = Lists { cells: vec![0; cells], parses: vec![0; parses], answer: [0; ANSWER] };
         let book = include_bytes!("../../examples/rules.book");
-        library::read(book, b"1", 0, MOST_WORK, &mut vec![0; cells], &mut vec![0; parses], &mut answer).unwrap();
-        Refusal::of(&answer)
+        library::read(book, b"1", 0, MOST_WORK, &mut lists).unwrap();
+        Refusal::of(&lists.answer)
     }
 
     #[test]

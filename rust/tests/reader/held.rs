@@ -9,12 +9,25 @@ const MOST: usize = 1 << 16;
 /// Reads, and holds the reading to what must be true of each.
 pub fn held<'a>(book: &'a [u8], text: &'a [u8], start: u32, allowance: u32) -> Reading<'a> {
     let reading = read(book, text, start, allowance).unwrap();
+    #[cfg(midgebillon_read_in)]
+    hold_in_memory(&reading, book, text, start, allowance);
     hold_line(&reading);
     hold_parses(&reading);
     for parse in reading.parses() {
         hold_tree(parse.value);
     }
     reading
+}
+
+// In memory that earlier calls have used, the reading is the same.
+#[cfg(midgebillon_read_in)]
+fn hold_in_memory(reading: &Reading<'_>, book: &[u8], text: &[u8], start: u32, allowance: u32) {
+    thread_local! {
+        static MEMORY: std::cell::RefCell<midgebillon::Memory> = Default::default();
+    }
+    let again = MEMORY.with_borrow_mut(|memory| memory.read(book, text, start, allowance)).unwrap();
+    assert_eq!((again.answer(), again.cells()), (reading.answer(), reading.cells()));
+    assert!(again.parses().eq(reading.parses()));
 }
 
 // A writer that has room for a line.
