@@ -147,6 +147,16 @@ fn equal() {
 }
 
 #[test]
+fn one_item_is_not_two() {
+    let twice = reading(EXAMPLE, "1-1");
+    for text in ["1-2", "2-1"] {
+        let once_each = reading(EXAMPLE, text);
+        assert_ne!(twice.value(), once_each.value());
+        assert_ne!(once_each.value(), twice.value());
+    }
+}
+
+#[test]
 fn equal_by_spelling() {
     let book = number_and([11, 1, 0, 0]);
     let (first, second) = (reading(&book, "1 a, b"), reading(&book, "1  a,b"));
