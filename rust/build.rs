@@ -22,8 +22,9 @@ or name a folder that has libmidgebillon.a in MIDGEBILLON_LIB_DIR.";
 
 fn main() {
     println!("cargo:rerun-if-env-changed={VARIABLE}");
-    let Some((folder, archive)) = candidates().into_iter().find_map(found) else {
-        eprintln!("there is no {ARCHIVE}. {NO_LIBRARY}");
+    let candidates = candidates();
+    let Some((folder, archive)) = candidates.iter().find_map(|folder| found(folder)) else {
+        eprintln!("there is no {ARCHIVE} in {candidates:?}. {NO_LIBRARY}");
         process::exit(1);
     };
     println!("cargo:rustc-link-search=native={}", folder.display());
@@ -49,11 +50,11 @@ fn candidates() -> Vec<PathBuf> {
 
 // The folder in full, and the library in it. A file that is missing is watched too, so that a proved library that is
 // written later takes the place of a quick one.
-fn found(folder: PathBuf) -> Option<(PathBuf, Vec<u8>)> {
+fn found(folder: &Path) -> Option<(PathBuf, Vec<u8>)> {
     let archive = folder.join(ARCHIVE);
     println!("cargo:rerun-if-changed={}", archive.display());
     let content = fs::read(&archive).ok()?;
-    Some((in_full(&folder), content))
+    Some((in_full(folder), content))
 }
 
 // Whether a library has a symbol. Its symbols' names stand in it, each with a zero byte behind.

@@ -31,6 +31,25 @@ pub fn doubling(times: u8) -> Vec<u8> {
     book
 }
 
+/// A book that makes calls need much stack: 29 nonterminals, each seven lists of an element that is never there and then
+/// the next nonterminal, and one that takes `(` before six such lists and the first nonterminal again.
+pub fn much_stack() -> Vec<u8> {
+    let (last, element) = (29, 30);
+    let mut book = vec![0, 0, 31];
+    book.extend([0, 1].repeat(30));
+    book.extend([0, 0, 30]);
+    book.extend([255, 3, 1, 8].repeat(30));
+    book.push(240);
+    for next in 1..=last {
+        book.extend([10, element, 0, 0].repeat(7));
+        book.extend([8, next, 0, 0]);
+    }
+    book.extend([0, b'(', 0, 0]);
+    book.extend([10, element, 0, 0].repeat(6));
+    book.extend([8, 0, 0, 0]);
+    book
+}
+
 /// Numbers that look random and are the same each time (xorshift).
 pub struct Random(u64);
 

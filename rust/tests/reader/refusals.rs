@@ -1,7 +1,7 @@
 //! Each refusal and each kind of error, by an input that meets it.
 
 use crate::held::held;
-use crate::inputs::{bytes, number_and, EXAMPLE};
+use crate::inputs::{bytes, much_stack, number_and, EXAMPLE};
 use midgebillon::{furthest, Error, ErrorKind, Refusal, MOST_WORK};
 
 // The refusal of a text, which says this.
@@ -88,6 +88,13 @@ fn of_the_limits() {
     let says = format!("the text takes more than 4,096 cells: {otherwise}");
     let cells = refused(&book, format!("[{}]", numbers.join(",")).as_bytes(), &says);
     assert_eq!((cells, cells.number()), (Refusal::TooManyCells, 23));
+}
+
+// More than 2,600 KiB, up to the deepest level that there is.
+#[test]
+fn of_much_stack() {
+    let refusal = held(&much_stack(), b"((((((x", 0, MOST_WORK).value().unwrap_err();
+    assert_eq!(refusal, Refusal::TooDeep);
 }
 
 // The error of a text by a book of a number and then this step.
