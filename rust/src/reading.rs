@@ -40,7 +40,7 @@ pub struct Parse<'r> {
     pub level: u32,
     /// The associativity of its variant.
     pub associativity: Associativity,
-    /// What it computes to.
+    /// Its value.
     pub value: Tree<'r>,
 }
 

@@ -111,7 +111,7 @@ impl<'r> Tree<'r> {
 impl<'r> Items<'r> {
     /// How many there are. It takes time in proportion to that.
     pub fn len(&self) -> usize {
-        self.backwards().count()
+        self.numbers_backwards().count()
     }
 
     /// Whether there are none.
@@ -123,7 +123,7 @@ impl<'r> Items<'r> {
     /// [`iter`](Items::iter).
     pub fn get(&self, index: usize) -> Option<Tree<'r>> {
         let behind = self.len().checked_sub(index)?.checked_sub(1)?;
-        self.backwards().nth(behind)
+        self.numbers_backwards().nth(behind).map(|n| Tree::at(self.cells, n))
     }
 
     /// All of them, in order.

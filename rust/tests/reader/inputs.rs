@@ -31,8 +31,8 @@ pub fn doubling(times: u8) -> Vec<u8> {
     book
 }
 
-/// A book that makes calls need much stack: 29 nonterminals, each seven lists of an element that is never there and then
-/// the next nonterminal, and one that takes `(` before six such lists and the first nonterminal again.
+/// A book that makes calls need much stack: 29 nonterminals, each seven lists of an element that is never there and
+/// then the next nonterminal, and one that takes `(` before six such lists and the first nonterminal again.
 pub fn much_stack() -> Vec<u8> {
     let (last, element) = (29, 30);
     let mut book = vec![0, 0, 31];
