@@ -9,11 +9,8 @@ const ARCHIVE: &str = "libmidgebillon.a";
 // Where tools/library.py writes it, from this folder; the proved one first.
 const WRITTEN: [&str; 2] = ["../target/proved/lib", "../target/quick/lib"];
 
-// A library that was compiled without its proofs has this symbol.
+// A library that was compiled without its proofs has this symbol; the code asks for it by a cfg of its name.
 const NOT_PROVED: &str = "midgebillon_not_proved";
-
-// Symbols that not every library has; the code asks for each by a cfg of its name.
-const OPTIONAL: [&str; 2] = [NOT_PROVED, "midgebillon_read_in"];
 
 const NO_LIBRARY: &str = "In the repository's folder,
     python3 tools/library.py            # proves the library and writes it: minutes
@@ -30,13 +27,9 @@ fn main() {
     println!("cargo:rustc-link-search=native={}", folder.display());
     println!("cargo:rustc-env=MIDGEBILLON_LINKED={}", folder.display());
     println!("cargo:rustc-link-lib=static=midgebillon");
-    for symbol in OPTIONAL {
-        println!("cargo:rustc-check-cfg=cfg({symbol})");
-        if has(&archive, symbol) {
-            println!("cargo:rustc-cfg={symbol}");
-        }
-    }
+    println!("cargo:rustc-check-cfg=cfg({NOT_PROVED})");
     if has(&archive, NOT_PROVED) {
+        println!("cargo:rustc-cfg={NOT_PROVED}");
         println!("cargo:warning=the library in {} is not proved", folder.display());
     }
 }

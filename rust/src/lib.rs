@@ -30,7 +30,6 @@ mod cells;
 mod error;
 #[allow(unsafe_code)]
 mod library;
-#[cfg(midgebillon_read_in)]
 mod memory;
 mod reading;
 mod refusal;
@@ -38,7 +37,6 @@ mod tree;
 
 pub use error::{furthest, Error, ErrorKind};
 pub use library::MOST_WORK;
-#[cfg(midgebillon_read_in)]
 pub use memory::Memory;
 pub use reading::{read, Associativity, Parse, Reading};
 pub use refusal::Refusal;

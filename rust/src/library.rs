@@ -17,11 +17,8 @@ pub const ANSWER: usize = 7;
 pub const ERROR: usize = 3;
 
 /// The numbers of the working memory that a call can be lent, list by list.
-#[cfg(midgebillon_read_in)]
 pub const INDEX: usize = 1_091;
-#[cfg(midgebillon_read_in)]
 pub const STORE: usize = 17_408;
-#[cfg(midgebillon_read_in)]
 pub const ROWS: usize = 104_922;
 
 /// The greatest allowance: the units of work that a call may take.
@@ -50,7 +47,6 @@ extern "C" {
         answer_length: usize,
     );
 
-    #[cfg(midgebillon_read_in)]
     fn midgebillon_read_in(
         book: *const u8,
         book_length: usize,
@@ -134,14 +130,12 @@ pub fn read(book: &[u8], text: &[u8], start: u32, allowance: u32, lists: &mut Li
 }
 
 /// Working memory that a call is lent.
-#[cfg(midgebillon_read_in)]
 pub struct Working {
     pub index: Vec<usize>,
     pub store: Vec<u32>,
     pub rows: Vec<u32>,
 }
 
-#[cfg(midgebillon_read_in)]
 impl Working {
     /// Memory of the lengths that a call needs.
     pub fn new() -> Working {
@@ -150,7 +144,6 @@ impl Working {
 }
 
 /// Fills the lists, in working memory that is lent, whatever it holds.
-#[cfg(midgebillon_read_in)]
 pub fn read_in(
     memory: &mut Working,
     book: &[u8],
@@ -266,7 +259,6 @@ mod tests {
         let defined = |name, number| header.contains(&format!("MIDGEBILLON_{name} = {number}"));
         assert!(defined("CELLS", CELLS) && defined("PARSES", PARSES) && defined("ANSWER", ANSWER));
         assert!(defined("ERROR", ERROR) && defined("ALLOWANCE", MOST_WORK as usize));
-        #[cfg(midgebillon_read_in)]
         assert!(defined("INDEX", INDEX) && defined("STORE", STORE) && defined("ROWS", ROWS));
     }
 

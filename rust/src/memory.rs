@@ -7,8 +7,7 @@ use std::{fmt, io};
 /// Working memory for calls one after the other: half a megabyte, which [`read`](crate::read()) takes anew each time.
 /// Of a short rule's call that is most of the time.
 ///
-/// What it held makes no difference: a reading is the same as that of `read`. It is here if the library that is linked
-/// has `midgebillon_read_in`.
+/// What it held makes no difference: a reading is the same as that of `read`.
 ///
 /// ```
 /// use midgebillon::{Memory, MOST_WORK};

@@ -9,7 +9,6 @@ const MOST: usize = 1 << 16;
 /// Reads, and holds the reading to what must be true of each.
 pub fn held<'a>(book: &'a [u8], text: &'a [u8], start: u32, allowance: u32) -> Reading<'a> {
     let reading = read(book, text, start, allowance).unwrap();
-    #[cfg(midgebillon_read_in)]
     hold_in_memory(&reading, book, text, start, allowance);
     hold_line(&reading);
     hold_parses(&reading);
@@ -20,7 +19,6 @@ pub fn held<'a>(book: &'a [u8], text: &'a [u8], start: u32, allowance: u32) -> R
 }
 
 // In memory that earlier calls have used, the reading is the same.
-#[cfg(midgebillon_read_in)]
 fn hold_in_memory(reading: &Reading<'_>, book: &[u8], text: &[u8], start: u32, allowance: u32) {
     thread_local! {
         static MEMORY: std::cell::RefCell<midgebillon::Memory> = Default::default();
