@@ -53,25 +53,70 @@ enum {
     MIDGEBILLON_VALUE     /* the number of the value's cell, from 1; 0 in a refusal */
 };
 
-/* Refusals, in the order in which they are looked for. 1 to 11 leave both lists as they are.
- *
- *  1  cells has under 12,288 numbers, or parses under 256      10  the text has more than 4,096 bytes
- *  2  the allowance is 0 or above 1,000,000                    11  a byte of the text is 128 or more
- *  3  the book ends too early                                  20  a unit beyond the allowance
- *  4  a section's count is out of its limits or not its sum    21  the run nests beyond 200
- *  5  a spelling is not 1 to 15 bytes or no identifier         22  a set would have a 65th parse
- *  6  another field of the book is out of range                23  a 4,097th cell would be made
- *  7  a passing variant is not one step of kind 8              30  no parse: place, kind and argument say why
- *  8  bytes are left over behind the book                      31  parses, and none reaches the end of the text
- *  9  the book has no such start                               32  parses that reach the end have different values
- *
- * Kinds of errors in refusal 30, and their arguments:
- *
- *  1  a character was wanted (its code)   5  a variable was found         9  digits were wanted
- *  2  a word was wanted (its number)      6  a reserved word was found   10  a number was too large
- *  3  an identifier was wanted            7  a name was unknown          11  a nonterminal was wanted (its number)
- *  4  the text ended before a token       8  another kind of variable    12  more was wanted (the nonterminal whose
- *                                            was wanted (that kind)          variant it was) */
+/* Refusals, in the order in which they are looked for. 1 to 11 leave both lists as they are. */
+enum {
+    MIDGEBILLON_SHORT_LISTS = 1,      /* cells has under 12,288 numbers, or parses under 256 */
+    MIDGEBILLON_BAD_ALLOWANCE = 2,    /* the allowance is 0 or above 1,000,000 */
+    MIDGEBILLON_BOOK_ENDS_EARLY = 3,  /* the book ends too early */
+    MIDGEBILLON_BAD_COUNT = 4,        /* a section's count is out of its limits or not its sum */
+    MIDGEBILLON_BAD_SPELLING = 5,     /* a spelling is not 1 to 15 bytes or no identifier */
+    MIDGEBILLON_BAD_FIELD = 6,        /* another field of the book is out of range */
+    MIDGEBILLON_BAD_PASSING = 7,      /* a passing variant is not one step of kind 8 */
+    MIDGEBILLON_BYTES_LEFT_OVER = 8,  /* bytes are left over behind the book */
+    MIDGEBILLON_UNKNOWN_START = 9,    /* the book has no such start */
+    MIDGEBILLON_LONG_TEXT = 10,       /* the text has more than 4,096 bytes */
+    MIDGEBILLON_HIGH_BYTE = 11,       /* a byte of the text is 128 or more */
+    MIDGEBILLON_NO_UNIT = 20,         /* a unit beyond the allowance */
+    MIDGEBILLON_TOO_DEEP = 21,        /* the run nests beyond 200 */
+    MIDGEBILLON_TOO_MANY_PARSES = 22, /* a set would have a 65th parse */
+    MIDGEBILLON_TOO_MANY_CELLS = 23,  /* a 4,097th cell would be made */
+    MIDGEBILLON_NO_PARSE = 30,        /* no parse: place, kind and argument say why */
+    MIDGEBILLON_NONE_WHOLE = 31,      /* parses, and none reaches the end of the text */
+    MIDGEBILLON_DIFFERENT_VALUES = 32 /* parses that reach the end have different values */
+};
+
+/* kinds of errors in refusal 30; in brackets what the argument is, which else is 0 */
+enum {
+    MIDGEBILLON_CHARACTER_WANTED = 1,    /* a character was wanted (its code) */
+    MIDGEBILLON_WORD_WANTED = 2,         /* a word was wanted (its number) */
+    MIDGEBILLON_IDENTIFIER_WANTED = 3,   /* an identifier was wanted */
+    MIDGEBILLON_TEXT_ENDED = 4,          /* the text ended before a token */
+    MIDGEBILLON_VARIABLE_FOUND = 5,      /* a variable was found */
+    MIDGEBILLON_RESERVED_FOUND = 6,      /* a reserved word was found */
+    MIDGEBILLON_UNKNOWN_NAME = 7,        /* a name was unknown */
+    MIDGEBILLON_WRONG_KIND = 8,          /* another kind of variable was wanted (that kind) */
+    MIDGEBILLON_DIGITS_WANTED = 9,       /* digits were wanted */
+    MIDGEBILLON_TOO_LARGE = 10,          /* a number was too large */
+    MIDGEBILLON_NONTERMINAL_WANTED = 11, /* a nonterminal was wanted (its number) */
+    MIDGEBILLON_MORE_WANTED = 12         /* more was wanted (the nonterminal whose variant it was) */
+};
+
+/* how many numbers a cell and a parse have */
+enum { MIDGEBILLON_CELL_SIZE = 3, MIDGEBILLON_PARSE_SIZE = 4 };
+
+/* Forms of cells, which are a cell's first number. Behind each are its second and third, where they are not 0; chains
+ * and items are numbers of cells, always of cells before. */
+enum {
+    MIDGEBILLON_EMPTY_FORM = 1,    /* the empty chain */
+    MIDGEBILLON_CHAIN_FORM = 2,    /* a chain with one item more: the chain before it, the item */
+    MIDGEBILLON_VARIANT_FORM = 3,  /* a variant: its number in the book, the chain of its items */
+    MIDGEBILLON_NAME_FORM = 4,     /* an identifier: its place in the text, its length */
+    MIDGEBILLON_NUMBER_FORM = 5,   /* a number: its high 32 bits, its low 32 bits */
+    MIDGEBILLON_VARIABLE_FORM = 6, /* a variable: its name's number in the book, the name's kind */
+    MIDGEBILLON_ABSENT_FORM = 7,   /* an optional that is absent */
+    MIDGEBILLON_LIST_FORM = 8      /* a list: the chain of its values */
+};
+
+/* the four numbers of a parse, by their places in it */
+enum {
+    MIDGEBILLON_REST,          /* where it ends in the text */
+    MIDGEBILLON_LEVEL,         /* its variant's level */
+    MIDGEBILLON_ASSOCIATIVITY, /* its variant's associativity, see below */
+    MIDGEBILLON_CELL           /* the number of its value's cell */
+};
+
+/* associativities */
+enum { MIDGEBILLON_LEFT, MIDGEBILLON_RIGHT, MIDGEBILLON_NONE, MIDGEBILLON_BOTH };
 
 /* Reads `text` by `book`, from the nonterminal number `start`, with at most `allowance` units of work.
  *

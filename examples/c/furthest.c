@@ -7,8 +7,6 @@
 #include <stdio.h>
 #include <stdlib.h>
 
-enum { NO_PARSE = 30 };
-
 int main(int argc, char **argv) {
     static uint32_t cells[MIDGEBILLON_CELLS], parses[MIDGEBILLON_PARSES];
     uint32_t answer[MIDGEBILLON_ANSWER], furthest[MIDGEBILLON_ERROR] = {0};
@@ -23,7 +21,7 @@ int main(int argc, char **argv) {
         struct bytes text = load(argv[i]);
         midgebillon_read(book.at, book.length, text.at, text.length, 0, MIDGEBILLON_ALLOWANCE, cells, MIDGEBILLON_CELLS,
                          parses, MIDGEBILLON_PARSES, answer, MIDGEBILLON_ANSWER);
-        if (answer[MIDGEBILLON_REFUSAL] == NO_PARSE)
+        if (answer[MIDGEBILLON_REFUSAL] == MIDGEBILLON_NO_PARSE)
             for (int n = 0; n < MIDGEBILLON_ERROR; n++) errors[length++] = answer[MIDGEBILLON_PLACE + n];
         free(text.at);
     }
