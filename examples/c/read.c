@@ -14,8 +14,8 @@ static struct bytes line_of(struct bytes book, struct bytes text, const uint32_t
     struct bytes line = {NULL, 0};
     for (size_t size = SHORTEST_ROOM; !line.length && size <= MOST_ROOM; size *= 2) {
         line.at = room_for(line.at, size);
-        line.length = midgebillon_print(book.at, book.length, text.at, text.length, cells, MIDGEBILLON_CELLS, answer, MIDGEBILLON_ANSWER,
-                                        line.at, size);
+        line.length = midgebillon_print(book.at, book.length, text.at, text.length, cells, MIDGEBILLON_CELLS, answer,
+                                        MIDGEBILLON_ANSWER, line.at, size);
     }
     return line;
 }
@@ -27,8 +27,8 @@ int main(int argc, char **argv) {
         return 2;
     }
     struct bytes book = load(argv[1]), text = load(argv[2]);
-    midgebillon_read(book.at, book.length, text.at, text.length, 0, MIDGEBILLON_ALLOWANCE, cells, MIDGEBILLON_CELLS, parses, MIDGEBILLON_PARSES,
-                     answer, MIDGEBILLON_ANSWER);
+    midgebillon_read(book.at, book.length, text.at, text.length, 0, MIDGEBILLON_ALLOWANCE, cells, MIDGEBILLON_CELLS,
+                     parses, MIDGEBILLON_PARSES, answer, MIDGEBILLON_ANSWER);
     struct bytes line = line_of(book, text, cells, answer);
     if (!line.length) {
         fputs("the line is too long\n", stderr);
