@@ -11,11 +11,21 @@ enum {
     RANDOM_BOOKS = 30000
 };
 
-/* A block of exactly this size; of size 0 it can't be read at all. */
+/* A block of exactly this size. A block of no bytes has one by malloc, which the sanitizer lets pass; so such a list
+ * stands where an array ends. */
+static void *exact_room(size_t size) {
+    static uint64_t array[1];
+    return size ? room_for(size) : array + 1;
+}
+
 static void *exact(const void *bytes, size_t size) {
-    void *block = malloc(size);
+    void *block = exact_room(size);
     if (size) memcpy(block, bytes, size);
     return block;
+}
+
+static void give_back(const void *block, size_t size) {
+    if (size) free((void *)block);
 }
 
 static struct midgebillon_tree tree_of(struct bytes book, struct bytes text, const uint32_t *cells, size_t length) {
@@ -25,9 +35,9 @@ static struct midgebillon_tree tree_of(struct bytes book, struct bytes text, con
 }
 
 static void free_tree(struct midgebillon_tree tree) {
-    free((void *)tree.book);
-    free((void *)tree.text);
-    free((void *)tree.cells);
+    give_back(tree.book, tree.book_length);
+    give_back(tree.text, tree.text_length);
+    give_back(tree.cells, tree.cells_length);
 }
 
 /* ---- The line of a value, by the cursor */
@@ -64,7 +74,7 @@ static void put_spelling(struct line *line, const struct midgebillon_tree *tree,
 
 /* The items of a variant or a list, in a block of exactly so many; with room for one less, nothing is written. */
 static uint32_t *items_of(const struct midgebillon_tree *tree, uint32_t cell, size_t count) {
-    uint32_t *items = malloc(count * sizeof *items);
+    uint32_t *items = exact_room(count * sizeof *items);
     if (count == 0) CHECK(midgebillon_tree_items(tree, cell, items, 0) == 0);
     else {
         memset(items, 0x5A, count * sizeof *items);
@@ -85,7 +95,7 @@ static void put_items(struct line *line, const struct midgebillon_tree *tree, ui
         CHECK(items[i] < cell);
         put_node(line, tree, items[i]);
     }
-    free(items);
+    give_back(items, count);
 }
 
 /* What is no node midgebillon_print writes as it does an absent one. */
@@ -147,7 +157,7 @@ static void check_cell(const struct midgebillon_tree *tree, uint32_t cell) {
     CHECK(items ? count < cell : count == 0);
     CHECK(variable ? within(spelling, tree->book, tree->book_length) : within(spelling, tree->text, tree->text_length));
     CHECK(variable || form == MIDGEBILLON_NAME_FORM || spelling.length == 0);
-    free(items_of(tree, cell, count));
+    give_back(items_of(tree, cell, count), count);
 }
 
 /* Cells of every number about the list's end and at the ends of their type. */
@@ -268,7 +278,7 @@ static void check_long_chain(void) {
     CHECK(midgebillon_tree_count(&tree, CELLS) == CELLS - 2);
     uint32_t *items = items_of(&tree, CELLS, CELLS - 2);
     for (uint32_t i = 0; i < CELLS - 2; i++) CHECK(items[i] == i + 1);
-    free(items);
+    give_back(items, CELLS - 2);
     free_tree(tree);
 }
 
