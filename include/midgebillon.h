@@ -55,7 +55,7 @@ enum {
 
 /* Refusals, in the order in which they are looked for. 1 to 11 leave both lists as they are. */
 enum {
-    MIDGEBILLON_SHORT_LISTS = 1,      /* cells has under 12,288 numbers, or parses under 256 */
+    MIDGEBILLON_SHORT_LISTS = 1,      /* cells has under 12,288 numbers, parses under 256, or lent memory too few */
     MIDGEBILLON_BAD_ALLOWANCE = 2,    /* the allowance is 0 or above 1,000,000 */
     MIDGEBILLON_BOOK_ENDS_EARLY = 3,  /* the book ends too early */
     MIDGEBILLON_BAD_COUNT = 4,        /* a section's count is out of its limits or not its sum */

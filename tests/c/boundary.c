@@ -208,18 +208,19 @@ static uint32_t join(size_t errors_length, size_t out_length, enum side side) {
     return none;
 }
 
+static uint32_t joined(size_t errors_length, size_t out_length) {
+    if (out_length < MIDGEBILLON_ERROR) return MIDGEBILLON_NO_ROOM;
+    if (errors_length == 0) return MIDGEBILLON_NO_ERRORS;
+    return errors_length % MIDGEBILLON_ERROR ? MIDGEBILLON_UNEVEN : 0;
+}
+
 static void errors_of_all_lengths(enum side side) {
     static const size_t lengths[] = {0, 1, 2, 3, 4, 6};
     for (size_t room = 0; room <= MIDGEBILLON_ERROR + SOME_MORE; room++)
         for (size_t i = 0; i < sizeof lengths / sizeof *lengths; i++) {
-            size_t length = lengths[i];
-            uint32_t wanted = room < MIDGEBILLON_ERROR            ? MIDGEBILLON_NO_ROOM
-                              : length == 0                       ? MIDGEBILLON_NO_ERRORS
-                              : length % MIDGEBILLON_ERROR != 0 ? MIDGEBILLON_UNEVEN
-                                                                  : 0;
-            uint32_t given = join(length, room, side);
-            CHECK(given == wanted);
-            CHECK(given || answered()[0] == 4 + length / MIDGEBILLON_ERROR);
+            uint32_t given = join(lengths[i], room, side);
+            CHECK(given == joined(lengths[i], room));
+            CHECK(given || answered()[0] == 4 + lengths[i] / MIDGEBILLON_ERROR);
         }
 }
 
