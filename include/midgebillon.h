@@ -110,8 +110,8 @@ enum {
 /* the four numbers of a parse, by their places in it */
 enum {
     MIDGEBILLON_REST,          /* where it ends in the text */
-    MIDGEBILLON_LEVEL,         /* its variant's level */
-    MIDGEBILLON_ASSOCIATIVITY, /* its variant's associativity, see below */
+    MIDGEBILLON_LEVEL,         /* its level */
+    MIDGEBILLON_ASSOCIATIVITY, /* its associativity, see below */
     MIDGEBILLON_CELL           /* the number of its value's cell */
 };
 
