@@ -97,7 +97,5 @@ test_that 'a C++ program by pkg-config, shared' runs g++ -std=c++11 -x c++
 test_that 'what is not proved says so' labelled
 test_that 'lists of every length, between pages' linked boundary examples/rules.book "$built/cases.txt"
 test_that 'the tree' linked tree "$built/cases.txt"
-if grep -q 'midgebillon_read_in(' include/midgebillon.h; then
-    test_that 'lent working memory' linked read_in "$built/cases.txt"
-fi
+test_that 'lent working memory' linked read_in "$built/cases.txt"
 exit $failed
