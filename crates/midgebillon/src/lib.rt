@@ -10,8 +10,8 @@
 //
 // The crate relies on the promises of `run`, `printing`, `errors` and `book`, and assumes nothing. What no theorem
 // says: whoever calls from another language owes what a slice is: a pointer that is not null to as many numbers as the
-// length says, and no slice that is written overlaps another. include/midgebillon.h tells a C program so; examples/ has
-// a wrapper for Rust whose types do.
+// length says, and no slice that is written overlaps another. include/midgebillon.h tells a C program so; rust/ has
+// a wrapper whose types do.
 //
 // specs/ has what the functions promise (Library, Joining) and laws: one for each way out of the first three, and that
 // with enough working memory the second promises what the first does (LibraryLaws); that what run says of two calls
