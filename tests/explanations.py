@@ -47,6 +47,10 @@ unit
 field (identifier)
 """
 
+EMPTY = "e\n  | part*\n\npart\n  | empty\n  | number\n"
+NESTED = "e\n  | '[' part ']'\n\npart\n  | number ',' part\n  | number\n"
+TWO_WAYS = "rule\n  | place\n  | person\n\nplace\n  | identifier\n\nperson\n  | identifier\n"
+
 
 def step_book(step):
     """A number and then one step, in a book with the reserved word `if` and the name `x` of kind 5."""
@@ -90,11 +94,10 @@ CASES = [
     ("20: brackets around brackets", ARITHMETIC, "(" * 15 + "1" + ")" * 15, 0, MOST_WORK),
     ("20: an allowance of one's own", ARITHMETIC, "1-2-3", 0, 20),
     ("21: opening brackets", ARITHMETIC, "(" * 200, 0, MOST_WORK),
-    ("21: an element that may be empty, and then a character", "e\n  | part* '.'\n\npart\n  | empty\n  | number\n", "1", 0, MOST_WORK),
+    ("21: an element that may be empty, and then a character", EMPTY.replace("*", "* '.'"), "1", 0, MOST_WORK),
     ("22: a long row", ARITHMETIC, "-".join(["1"] * 65), 0, MOST_WORK),
-    ("22: an element that may be empty", "e\n  | part*\n\npart\n  | empty\n  | number\n", "1", 0, MOST_WORK),
-    ("23: a long list of numbers within one another",
-     "e\n  | '[' part ']'\n\npart\n  | number ',' part\n  | number\n", "[" + ",".join(map(str, range(63))) + "]", 0, MOST_WORK),
+    ("22: an element that may be empty", EMPTY, "1", 0, MOST_WORK),
+    ("23: a long list of numbers within one another", NESTED, f"[{','.join(map(str, range(63)))}]", 0, MOST_WORK),
     ("30, 1: a character", ARITHMETIC, "(1", 0, MOST_WORK),
     ("30, 1: behind a tab, and blank lines at the end", ARITHMETIC, "\t(1 // one\n\n", 0, MOST_WORK),
     ("30, 1: the minus goes on, and its operand is wrong", ARITHMETIC, "(1 - x) * 2", 0, MOST_WORK),
@@ -120,8 +123,7 @@ CASES = [
     ("30, 11: a reserved word", MARGIN, "if", 2, MOST_WORK),
     ("31: a list that isn't closed", MARGIN, "net(3, volume * price", 0, MOST_WORK),
     ("32: both ways", both("both"), "1 - 2 - 3", 0, MOST_WORK),
-    ("32: a name that is read in two ways",
-     "rule\n  | place\n  | person\n\nplace\n  | identifier\n\nperson\n  | identifier\n", "ann", 0, MOST_WORK),
+    ("32: a name that is read in two ways", TWO_WAYS, "ann", 0, MOST_WORK),
 ]
 
 

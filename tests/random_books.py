@@ -36,11 +36,10 @@ def _variant(choose, words, nonterminals, most_steps):
     level = choose.choice((0, 1, 2, 100, 254, 255))
     associativity = books.BOTH if level == 255 else choose.randrange(4)
     flags, steps = choose.randrange(4), choose.randrange(min(8, most_steps) + 1)
-    if flags & books.PASSING:
-        if most_steps == 0:
-            flags -= books.PASSING
-        else:
-            return books.Variant(level, associativity, flags, (books.Step(books.NONTERMINAL, choose.randrange(nonterminals)),))
+    if flags & books.PASSING and most_steps > 0:
+        child = books.Step(books.NONTERMINAL, choose.randrange(nonterminals))
+        return books.Variant(level, associativity, flags, (child,))
+    flags &= books.COMMITTED
     return books.Variant(level, associativity, flags, tuple(_step(choose, words, nonterminals) for _ in range(steps)))
 
 

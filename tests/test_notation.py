@@ -120,7 +120,7 @@ PROBLEMS = [
 
 # A text that the notation takes and the reader's check refuses: the refusal, line, column, a part of what is said.
 REFUSED = [
-    (f"words {' '.join('w%d' % i for i in range(65))}\ne\n", 4, 1, 253, "the count of words is 65: it has to be 0 to 64"),
+    (f"words {' '.join('w%d' % i for i in range(65))}\ne\n", 4, 1, 253, "words is 65: it has to be 0 to 64"),
     (f"names {' '.join('w%d:0' % i for i in range(65))}\ne\n", 4, 1, 381, "the count of names is 65"),
     ("\n".join(f"e{i}" for i in range(33)) + "\n", 4, 33, 1, "the count of nonterminals is 33: it has to be 1 to 32"),
     ("".join(f"e{i}\n" + "| number\n" * 16 for i in range(8)) + "f\n| number\n", 4, 138, 1, "129 variants in all"),
@@ -163,7 +163,8 @@ class Problems(unittest.TestCase):
         self.assertEqual([p.message[0] for p in raised.exception.problems], ["x", "y"])
 
     def test_more_than_a_byte_counts(self):
-        texts = ["words" + " a" * 256 + "\ne\n", "e\n" + "| number\n" * 300, "e\n| " + "e " * 256, ("e\n| " + "e " * 8) * 40]
+        words, steps = "words" + " a" * 256 + "\ne\n", "e\n| " + "e " * 256
+        texts = [words, steps, "e\n" + "| number\n" * 300, "e\n" + f"| {'e ' * 8}\n" * 40]
         for text in texts:
             with self.assertRaises(NotationError):
                 from_text(text)

@@ -1,5 +1,5 @@
-/* tree BOOK TEXT: reads the rule in the file TEXT by the book in the file BOOK, and prints its value as a tree, one node
- * a line, each two spaces further in than what it is an item of; or the line of a refusal. Exit status: 0 a value,
+/* tree BOOK TEXT: reads the rule in the file TEXT by the book in the file BOOK, and prints its value as a tree, one
+ * node a line, each two spaces further in than what it is an item of; or the line of a refusal. Exit status: 0 a value,
  * 1 a refusal, 2 wrong usage, 3 no memory, or a tree that has more than MOST_LINES nodes or can't be written. */
 #include "file.h"
 #include "midgebillon_tree.h"

@@ -139,13 +139,17 @@ def _records(data):
     return [list(found[section].values()) for section, _ in SECTIONS]
 
 
+def _entries(rows):
+    return tuple(Entry(label, bytes(spelling).decode("latin-1")) for label, _, *spelling in rows)
+
+
 def decode(data):
     """The records of a book. Of bytes that are no accepted book: anything, or a ValueError."""
     words, names, nonterminals, variants, steps = _records(data)
-    entries = [[Entry(label, bytes(spelling).decode("latin-1")) for label, _, *spelling in part] for part in (words, names)]
-    step = iter(steps)
-    made = iter([Variant(*head, tuple(Step(*next(step)) for _ in range(count))) for *head, count in variants])
-    return Book(*map(tuple, entries), tuple(Nonterminal(mark, tuple(next(made) for _ in range(n))) for mark, n in nonterminals))
+    step = iter([Step(*row) for row in steps])
+    variant = iter([Variant(*head, tuple(next(step) for _ in range(count))) for *head, count in variants])
+    found = [Nonterminal(mark, tuple(next(variant) for _ in range(count))) for mark, count in nonterminals]
+    return Book(_entries(words), _entries(names), tuple(found))
 
 
 def encode(book):

@@ -39,7 +39,7 @@ def _called(field):
 
 def _sum(data, section, name):
     """What the records of a section have of something in all."""
-    return sum(f.value or 0 for f in books.fields(data) if (f.section, f.name) == (section, name) and f.record is not None)
+    return sum(field.value or 0 for field in books.fields(data) if (field.section, field.name) == (section, name))
 
 
 def _count(data, field):

@@ -86,8 +86,8 @@ def accepted_book(path):
 def newest_source():
     """When the reader's code was changed last, where it stands beside this package."""
     crates = os.path.join(ROOT, "crates")
-    files = (os.path.join(folder, name) for folder, _, names in os.walk(crates) for name in names if name.endswith(".rt"))
-    return max((os.path.getmtime(file) for file in files), default=0)
+    files = [os.path.join(folder, name) for folder, _, names in os.walk(crates) for name in names]
+    return max((os.path.getmtime(file) for file in files if file.endswith(".rt")), default=0)
 
 
 def label_library():

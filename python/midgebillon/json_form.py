@@ -1,4 +1,4 @@
-"""An answer as JSON. Numbers of rules are strings there, since they go up to 2^64 - 1 and many readers of JSON don't."""
+"""An answer as JSON. A rule's numbers are strings there: they go up to 2^64 - 1, and many readers of JSON don't."""
 import json
 
 from .book import ASSOCIATIVITIES

@@ -76,7 +76,7 @@ class _Reader:
 
     def _add(self, section, entries, entry, spelling, label):
         if not entry.spelling.isascii() or len(entry.spelling) > LARGEST_BYTE:
-            raise Wrong(spelling, "a spelling is a letter or underscore, then letters, digits, underscores: 15 at most")
+            raise Wrong(spelling, "a spelling is a letter or underscore, then letters, digits or underscores")
         number = len(entries)
         entries.append(entry)
         for name in ("reserved", "kind"):
@@ -97,7 +97,7 @@ class _Reader:
     def _heading(self, line):
         token = line.take()
         if token.sort != "name":
-            raise Wrong(token.span, "a line is a nonterminal's name, or a variant behind |, or words, reserved or names")
+            raise Wrong(token.span, "a line is a nonterminal's name, a variant behind |, or words, reserved or names")
         if token.text in NOT_FOR_NONTERMINALS:
             raise Wrong(token.span, f"{token.text} has a meaning of its own here: give the nonterminal another name")
         if any(token.text == name for name, _, _ in self.headers):
@@ -165,7 +165,8 @@ class _Reader:
             if len(group) > beyond:
                 self.spans["nonterminal", i, "variants"] = group[beyond][1]
             if len(group) > LARGEST_BYTE:
-                self.problems.append(Problem(group[LARGEST_BYTE][1], f"a nonterminal has no more than {books.VARIANTS_EACH} variants"))
+                message = f"a nonterminal has no more than {books.VARIANTS_EACH} variants"
+                self.problems.append(Problem(group[LARGEST_BYTE][1], message))
         if self.problems:
             raise NotationError(self.text, self.problems)
         nonterminals = [

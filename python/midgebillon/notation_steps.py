@@ -140,7 +140,8 @@ def _several(text):
         return "a character is missing between the apostrophes"
     if IDENTIFIER.fullmatch(inside):
         return f'a word stands between quotation marks: "{inside}"'
-    return f"apostrophes hold one character; write {_characters(inside)}, which reads them with or without spaces between"
+    apart = _characters(inside)
+    return f"apostrophes hold one character; write {apart}, which reads them with or without spaces between"
 
 
 def attributes_of(line):

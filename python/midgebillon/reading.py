@@ -109,7 +109,7 @@ def read(book, text, start=0, allowance=MOST_WORK):
 
 
 def furthest(errors):
-    """The furthest of some errors; of those at its place the one of least kind, then of least argument. None of none."""
+    """The furthest of some errors; of those at its place that of least kind, then of least argument. None of none."""
     found = loaded().furthest([(e.place, e.kind, e.argument) for e in errors])
     return Error(found[0], ErrorKind(found[1]), found[2]) if found else None
 

@@ -6,6 +6,7 @@ that failed; in `(1 - x)` that is `)` at the minus, since `1` alone is an expres
 
 An Earley parser: an item is a rule's number, how many of its symbols were taken, and the place where it began.
 """
+import heapq
 import re
 from typing import NamedTuple
 
@@ -156,9 +157,7 @@ class Tokens:
             return word == self.book.words[terminal.a].spelling
         if terminal.kind == books.IDENTIFIER:
             return word not in self.reserved
-        return self._is_variable(word) and terminal.kind in (books.VARIABLE, books.VARIABLE_OF_KIND) and (
-            terminal.kind == books.VARIABLE or self.kinds[word] == terminal.a
-        )
+        return self._is_variable(word) and (terminal.kind == books.VARIABLE or self.kinds[word] == terminal.a)
 
 
 class Wanted(NamedTuple):
@@ -174,16 +173,18 @@ class _Chart:
     def __init__(self, book, text, start):
         self.grammar, self.tokens, self.text = Grammar(book), Tokens(book, text), text
         self.start, self.first = Part(books.NONTERMINAL, start), skip(text, 0)
-        self.items = {}  # by place
+        self.items, self.places = {}, []  # the items of each place, and the places that are still to be looked at
         self.waiting = {}  # the items that go on behind a part, by the place and the part
         self.count = 0
 
     def add(self, place, item):
         """Whether the item is new there."""
-        items = self.items.setdefault(place, {})
-        if item in items:
+        if place not in self.items:
+            self.items[place] = {}
+            heapq.heappush(self.places, place)
+        if item in self.items[place]:
             return False
-        items[item] = None
+        self.items[place][item] = None
         self.count += 1
         return True
 
@@ -191,15 +192,14 @@ class _Chart:
         """Fills the chart place by place. Whether it was finished."""
         self.items[self.first] = {}
         self.begin(self.first, self.start)
-        done = set()
-        while len(done) < len(self.items):
-            place = min(self.items.keys() - done)
+        self.places = [self.first]
+        while self.places:
+            place = heapq.heappop(self.places)
             todo = list(self.items[place])
             while todo:
                 if self.count > MOST_ITEMS:
                     return False
                 todo += self.step(place, todo.pop())
-            done.add(place)
         return True
 
     def begin(self, place, part):
@@ -234,11 +234,14 @@ class _Chart:
             rule = self.grammar.rules[number]
             if origin < place and taken < len(rule.symbols):
                 self.collect(rule.symbols[taken], symbols)
-        whole = any(
-            origin == self.first and self.grammar.rules[number] == (self.start, self.grammar.rules[number].symbols[:taken])
-            for number, taken, origin in self.items.get(len(self.text), ())
-        )
+        whole = any(map(self.is_whole, self.items.get(len(self.text), ())))
         return Wanted(place, tuple(sorted(symbols, key=lambda s: (isinstance(s, Terminal), s))), whole)
+
+    def is_whole(self, item):
+        """Whether an item is the start from the text's beginning, taken whole."""
+        number, taken, origin = item
+        rule = self.grammar.rules[number]
+        return origin == self.first and rule.part == self.start and taken == len(rule.symbols)
 
     def collect(self, symbol, symbols):
         """The symbol as the book has it: a nonterminal by itself, a list by what it may go on with."""
