@@ -49,6 +49,7 @@ field (identifier)
 
 EMPTY = "e\n  | part*\n\npart\n  | empty\n  | number\n"
 NESTED = "e\n  | '[' part ']'\n\npart\n  | number ',' part\n  | number\n"
+PREFIX = "e\n  | number\n  | '~' e  ; left 3\n"
 TWO_WAYS = "rule\n  | place\n  | person\n\nplace\n  | identifier\n\nperson\n  | identifier\n"
 
 
@@ -90,12 +91,16 @@ CASES = [
     ("9: no such start", ARITHMETIC, "1", 3, MOST_WORK),
     ("10: a long rule", ARITHMETIC, "1" + " " * 4096, 0, MOST_WORK),
     ("11: a dash that isn't the minus of ASCII", ARITHMETIC, "1 \u2013 2", 0, MOST_WORK),
+    ("11: a no-break space", ARITHMETIC, "1\u00a0- 2", 0, MOST_WORK),
+    ("11: UTF-16", ARITHMETIC, "1".encode("utf-16"), 0, MOST_WORK),
+    ("11: a byte order mark", ARITHMETIC, "\ufeff1", 0, MOST_WORK),
     ("11: a byte that is no text", ARITHMETIC, b"1 \xff 2", 0, MOST_WORK),
     ("20: brackets around brackets", ARITHMETIC, "(" * 15 + "1" + ")" * 15, 0, MOST_WORK),
     ("20: an allowance of one's own", ARITHMETIC, "1-2-3", 0, 20),
     ("21: opening brackets", ARITHMETIC, "(" * 200, 0, MOST_WORK),
     ("21: an element that may be empty, and then a character", EMPTY.replace("*", "* '.'"), "1", 0, MOST_WORK),
     ("22: a long row", ARITHMETIC, "-".join(["1"] * 65), 0, MOST_WORK),
+    ("22: operators without a level", ARITHMETIC.replace("  ; left 1", ""), "-".join("12345678"), 0, MOST_WORK),
     ("22: an element that may be empty", EMPTY, "1", 0, MOST_WORK),
     ("23: a long list of numbers within one another", NESTED, f"[{','.join(map(str, range(63)))}]", 0, MOST_WORK),
     ("30, 1: a character", ARITHMETIC, "(1", 0, MOST_WORK),
@@ -115,7 +120,11 @@ CASES = [
     ("30, 11: a number that is too large for an expression", ARITHMETIC, "(18446744073709551616", 0, MOST_WORK),
     ("30, 12: more of a list", step_book("('(' item,* ')')"), "1 (#,", 0, MOST_WORK),
     ("30: a misspelled name", MARGIN, "if volume > 3 then volume * prize", 0, MOST_WORK),
+    ("30: another kind of name", MARGIN, "price * price", 2, MOST_WORK),
+    ("30: another case", MARGIN, "if volume * price > 3 Then 1", 0, MOST_WORK),
+    ("30: another comment", MARGIN, "if # volume", 0, MOST_WORK),
     ("30: a word forgotten", MARGIN, "if volume * price > 3\n  volume * price", 0, MOST_WORK),
+    ("30, 11: a prefix operator that is left", PREFIX, "~ ~ 1", 0, MOST_WORK),
     ("31: a row that breaks off", ARITHMETIC, "1 - x", 0, MOST_WORK),
     ("31: two numbers", ARITHMETIC, "1 2", 0, MOST_WORK),
     ("31: on a second line, behind a comment", ARITHMETIC, "1 - // take off\n\t2 +3", 0, MOST_WORK),

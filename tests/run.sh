@@ -12,7 +12,7 @@ library=${1:-target/quick}
 if [ $# = 0 ]; then python3 tools/library.py --quick; fi
 library=$(realpath "$library")
 export MIDGEBILLON_LIBRARY="$library/lib/libmidgebillon.so"
-(cd tests && PYTHONPATH=../python python3 -m unittest discover)
+(cd tests && PYTHONPATH=../python python3 -W ignore::UserWarning -m unittest discover)
 LIBRARY=$library examples/run.sh
 tests/c/run.sh "$library"
 rust/test.sh "$library"

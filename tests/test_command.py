@@ -77,7 +77,8 @@ class Command(unittest.TestCase):
 
     def test_allowance(self):
         for units, status, part in (("5", 1, "(refusal 20)"), ("0", 1, "(refusal 2)"), ("1000001", 1, "(refusal 2)"),
-                                    ("-1", 2, "not from 0"), ("4294967296", 2, "not from 0"), ("x", 2, "invalid int")):
+                                    ("-1", 2, "1 to 1,000,000"), ("4294967296", 2, "1 to 1,000,000"),
+                                    ("x", 2, "invalid int")):
             found, _, said = run("read", BOOK, RULE, f"--allowance={units}")
             self.assertEqual(found, status, units)
             self.assertIn(part, said)
@@ -94,7 +95,7 @@ class Command(unittest.TestCase):
         found = json.loads(out)
         self.assertEqual((status, found["refusal"], found["error"]), (1, "no_parse", "character_wanted"))
         self.assertEqual((found["line"], found["column"], found["tree"]), (1, 11, None))
-        self.assertIn("')' is wanted", found["explanation"])
+        self.assertIn("wanted where the text ends: ')'", found["explanation"])
 
     def test_json_of_a_book_that_is_refused(self):
         status, out, _ = run("read", self.file("book", b"\0"), RULE, "--json")
@@ -135,6 +136,13 @@ class Command(unittest.TestCase):
         self.assertRegex(said, r"midgebillon: \d+ of 120 files read\n")
         self.assertIn("120 with a value, 0 refused", said)
 
+    def test_each_file_has_its_line(self):
+        good, none = self.file("good", b"1"), f"{self.folder.name}/none"
+        self.assertEqual(run("read", BOOK, good, none, good, "--line")[1].decode().count("\n"), 3)
+        found = [json.loads(line) for line in run("read", BOOK, good, none, "--json")[1].splitlines()]
+        self.assertIn("No such file", found[1]["unread"])
+        self.assertEqual(run("read", BOOK, good, "--line", "--all")[0], 2)
+
     def test_files_that_cannot_be_read(self):
         for words in (["read", f"{self.folder.name}/none", RULE], ["read", BOOK, f"{self.folder.name}/none"],
                       ["read", self.folder.name, RULE], ["book", "check", f"{self.folder.name}/none"]):
@@ -163,7 +171,7 @@ class Command(unittest.TestCase):
         self.assertIn(":2:5: numer is no nonterminal of this book; did you mean number?", said)
         status, _, said = run("book", "check", self.file("book", b"e\n  | number ; left 255\n"))
         self.assertEqual(status, 1)
-        self.assertIn(":2:14: level 255 goes with both alone", said)
+        self.assertIn(":2:14: level 255 is that of variants that are no operators", said)
         status, out, _ = run("book", "check", self.file("book", b"e\n  | e*\n  | empty\n"))
         self.assertIn(b"note: e may take nothing", out)
 
@@ -189,6 +197,31 @@ class Command(unittest.TestCase):
             with open(target, "rb") as file:
                 self.assertEqual(file.read(), b"as it was")
         self.assertEqual(run("book", "encode", GRAMMAR, "-o", f"{self.folder.name}/no/such")[0], 2)
+
+    def test_what_is_read_is_not_overwritten(self):
+        for action, data in (("encode", b"e\n  | number\n"), ("decode", b"\0\0\1\0\0\0\0")):
+            path = self.file("book", data)
+            status, _, said = run("book", action, path, "-o", path)
+            self.assertEqual(status, 2)
+            self.assertIn("this is the book itself", said)
+            with open(path, "rb") as file:
+                self.assertEqual(file.read(), data)
+        self.assertEqual(run("book", "encode", GRAMMAR, "-o", "-")[1][:3], b"\0\0\1")
+
+    def test_output_that_is_not_written_is_no_success(self):
+        hard = self.file("hard", b"1")
+        for words in (f"read {BOOK} {RULE}", f"read {BOOK} {RULE} --json", f"book show {BOOK}"):
+            done = subprocess.run(f"{' '.join(COMMAND)} {words} >/dev/full", shell=True, capture_output=True, text=True)
+            self.assertEqual(done.returncode, 2, words)
+            self.assertIn("standard output: No space left on device", done.stderr)
+            self.assertNotIn("Traceback", done.stderr)
+        done = subprocess.run(f"{' '.join(COMMAND)} read {BOOK} {RULE} >&-", shell=True, capture_output=True, text=True)
+        self.assertEqual((done.returncode, "closed" in done.stderr), (2, True))
+        many = " ".join([hard] * 3000)
+        piped = f"set -o pipefail; {' '.join(COMMAND)} read {BOOK} {many} --all | head -1"
+        done = subprocess.run(["bash", "-c", piped], capture_output=True, text=True)
+        self.assertEqual(done.returncode, 2)
+        self.assertNotIn("Traceback", done.stderr)
 
     def test_show(self):
         status, out, _ = run("book", "show", BOOK)

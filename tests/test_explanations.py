@@ -5,6 +5,7 @@ import explanations
 from midgebillon import ErrorKind, Reading, Refusal, decode, read
 from midgebillon.explanation import Explanation
 from midgebillon.picture import line_and_column, picture
+from midgebillon.reading import last_end
 from midgebillon.view import View, view
 from midgebillon.wanted import wanted
 from vectors import vectors
@@ -44,9 +45,11 @@ class Explanations(unittest.TestCase):
             said = str(Explanation(reading, View(book), v["start"], "rule", "book", v["allowance"]))
             self.assertIn(f"(refusal {reading.answer.refusal})", said)
             if reading.answer.refusal in (11, 30):
-                line, column = line_and_column(text, reading.answer.place)
-                self.assertTrue(said.startswith(f"rule:{line}:{column}: "), said)
+                place = reading.answer.place
+                line, column = line_and_column(text, place)
                 self.assertTrue(v["printed"].endswith(f"line {line} column {column}"), v["printed"])
+                line, column = line_and_column(text, last_end(text) if place == len(text) else place)
+                self.assertTrue(said.startswith(f"rule:{line}:{column}: "), said)
         self.assertGreater(count, 400)
 
 

@@ -5,6 +5,7 @@ from midgebillon import check, decode, encode, from_text, to_text
 from midgebillon.book_refusal import explained
 from midgebillon.notation import is_text
 from midgebillon.notation_tokens import NotationError
+from midgebillon.notes import notes
 from midgebillon.view import view
 from random_books import random_book
 from vectors import ROOT, accepted_books
@@ -68,14 +69,19 @@ PROBLEMS = [
     ("e: number\n", 1, 2, "stands alone on its line"),
     ("e ::= number\n", 1, 3, "stands alone on its line"),
     ("'a'\n", 1, 1, "a line is a nonterminal's name"),
-    ("number\n", 1, 1, "has a meaning of its own"),
+    ("number\n", 1, 1, "can't be a nonterminal's name"),
+    ("e\n  number\n", 2, 3, "a | is missing before it"),
+    ("e\n  e '-' e\n", 2, 3, "a | is missing before it"),
     ("e\ne\n", 2, 1, "there is a nonterminal e already"),
     ("e (identifyer)\n", 1, 3, "(claims variables) or (identifier)"),
     ("e (identifier\n", 1, 3, "(claims variables) or (identifier)"),
     ("e\nwords a\n", 2, 1, "words stand before the first nonterminal"),
     ("names x\ne\n", 1, 7, "x:0"),
     ("names x:a\ne\n", 1, 9, "is a number"),
-    ("names x:256\ne\n", 1, 9, "at most 255"),
+    ("names x:256\ne\n", 1, 9, "at most 7"),
+    ('reserved "if"\ne\n', 1, 10, "without quotation marks and commas"),
+    ("words if, then\ne\n", 1, 7, "without quotation marks and commas"),
+    ("names x:1\ne\n  | x\n", 3, 5, "write variable, or variable:1"),
     ("words é\ne\n", 1, 7, "a letter or underscore"),
     ("e\n  |\n", 2, 3, "| empty"),
     ("e\n  | ; left 1\n", 2, 3, "| empty"),
@@ -86,7 +92,10 @@ PROBLEMS = [
     ("e\n  | e+\n", 2, 6, "e e*"),
     ("e\n  | e, e\n", 2, 6, "e,*"),
     ("e\n  | number*\n", 2, 11, "only a nonterminal may have *"),
-    ("e\n  | * e\n", 2, 5, "right behind a nonterminal's name"),
+    ("e\n  | * e\n", 2, 5, "right behind a nonterminal's name; the character is '*'"),
+    ("e\n  | e * e ; left 1\n", 2, 7, "right behind a nonterminal's name; the character is '*'"),
+    ("e\n  | number ? e\n", 2, 12, "the character is '?'"),
+    ("e\n  | e '-' e left 1\n", 2, 13, "a semicolon stands before left"),
     ("e\n  | '<='\n", 2, 5, "'<' '='"),
     ("e\n  | 'if'\n", 2, 5, '"if"'),
     ("e\n  | ''\n", 2, 5, "a character is missing"),
@@ -109,7 +118,7 @@ PROBLEMS = [
     ("e\n  | e ;\n", 2, 8, "behind ;"),
     ("e\n  | e ; left\n", 2, 13, "the level of an operator is missing"),
     ("e\n  | e ; left x\n", 2, 14, "is a number"),
-    ("e\n  | e ; left 256\n", 2, 14, "at most 255"),
+    ("e\n  | e ; left 256\n", 2, 14, "at most 254"),
     ("e\n  | e ; 1\n", 2, 9, "left 1"),
     ("e\n  | e ; left 1 right 2\n", 2, 16, "said twice"),
     ("e\n  | e ; left 1, passing\n", 2, 15, "no commas"),
@@ -120,19 +129,19 @@ PROBLEMS = [
 
 # A text that the notation takes and the reader's check refuses: the refusal, line, column, a part of what is said.
 REFUSED = [
-    (f"words {' '.join('w%d' % i for i in range(65))}\ne\n", 4, 1, 253, "words is 65: it has to be 0 to 64"),
-    (f"names {' '.join('w%d:0' % i for i in range(65))}\ne\n", 4, 1, 381, "the count of names is 65"),
-    ("\n".join(f"e{i}" for i in range(33)) + "\n", 4, 33, 1, "the count of nonterminals is 33: it has to be 1 to 32"),
-    ("".join(f"e{i}\n" + "| number\n" * 16 for i in range(8)) + "f\n| number\n", 4, 138, 1, "129 variants in all"),
+    (f"words {' '.join('w%d' % i for i in range(65))}\ne\n", 4, 1, 253, "a book has 0 to 64 words"),
+    (f"names {' '.join('w%d:0' % i for i in range(65))}\ne\n", 4, 1, 381, "a book has 0 to 64 names"),
+    ("\n".join(f"e{i}" for i in range(33)) + "\n", 4, 33, 1, "a book has 1 to 32 nonterminals"),
+    ("".join(f"e{i}\n" + "| number\n" * 16 for i in range(8)) + "f\n| number\n", 4, 138, 1, "a book has at most 128 variants"),
     ("words a-b\ne\n", 5, 1, 7, "'a-b' can't be spelled so"),
     ("words <= kg\ne\n", 5, 1, 7, "'<=' can't be spelled so"),
     ("words abcdefghijklmnop\ne\n", 5, 1, 7, "1 to 15"),
     ("names x1:0 :3\ne\n", 5, 1, 12, "it is empty"),
-    ("names x:8\ne\n", 6, 1, 9, "the kind of name 0 is 8: it has to be 0 to 7"),
-    ("e\n" + "  | number\n" * 17, 6, 18, 3, "number of variants of nonterminal 0 is 17: it has to be 0 to 16"),
-    ("e (identifier)\n  | number\n", 6, 2, 3, "and 0 with mark 2"),
-    ("e\n  | number ; left 255\n", 6, 2, 14, "level 255 goes with both alone"),
-    ("e\n  | e e e e e e e e e\n", 6, 2, 21, "number of steps of variant 0 is 9: it has to be 0 to 8"),
+    ("names x:8\ne\n", 6, 1, 9, "a kind is 0 to 7"),
+    ("e\n" + "  | number\n" * 17, 6, 18, 3, "a nonterminal has at most 16 variants"),
+    ("e (identifier)\n  | number\n", 6, 2, 3, "(identifier) has no variants"),
+    ("e\n  | number ; left 255\n", 6, 2, 14, "the level of an operator is at most 254"),
+    ("e\n  | e e e e e e e e e\n", 6, 2, 21, "a variant has at most 8 steps"),
     ("e\n  | ' '\n", 6, 2, 5, "33 to 126"),
     ("e\n  | number (' ' e,* ')')\n", 6, 2, 13, "33 to 126"),
     ("e\n  | ('(' e,* '\x7f')?\n", 6, 2, 14, "33 to 126"),
@@ -140,6 +149,38 @@ REFUSED = [
     ("e\n  | number ; passing\n", 7, 2, 14, "one nonterminal and nothing else"),
     ("e\n  | e e ; uncommitted passing\n", 7, 2, 23, "one nonterminal and nothing else"),
 ]
+
+
+# A book that is accepted, and a part of a note on it.
+NOTES = [
+    ("e\n  | e\n", "nothing can be read as e: each of its variants needs what can't be read"),
+    ("e\n  | number f?\nf\n", "nothing can be read as f: it has no variants"),
+    ("e\n  | number\nf\n  | number\n", "e doesn't lead to f"),
+    ("e\n  | e*\n  | empty\n", "e may take nothing, so e* in variant 0"),
+    ("e\n  | number\n  | e\n", "variant 1 makes e of e alone"),
+    ("e\n  | number\n  | e '-' e\n", "variant 1, e '-' e, has no level"),
+    ("e\n  | number\n  | '~' e\n  | e '-' e ; left 1\n", "variant 1, '~' e, has no level"),
+    ("e\n  | number\n  | e '!'\n  | '~' e ; right 2\n", "variant 1, e '!', has no level"),
+    ("words kg\ne\n  | number\n", "the word kg is in no variant"),
+    ("names x:1\ne\n  | variable:2\n", "no name has kind 2"),
+    ("names x:1 x:2\ne\n  | variable:1\n", "no name has kind 1"),
+    ("e\n  | variable\n", "the book has no names"),
+]
+
+
+class Notes(unittest.TestCase):
+    def test_each_note(self):
+        for text, part in NOTES:
+            found = view(text.encode())
+            self.assertIsNone(check(found.data))
+            self.assertTrue(any(part in note for note in notes(found)), (text, notes(found)))
+
+    def test_a_good_book_has_none(self):
+        for name in ("rules.grammar", "rules.book"):
+            with open(f"{ROOT}/examples/{name}", "rb") as file:
+                self.assertEqual(notes(view(file.read())), [])
+        self.assertEqual(notes(view(b"e\n  | number\n  | e ; left 1 passing\n  | 'x' e ; right 2\n")), [])
+        self.assertEqual(notes(view(b"e\n  | number\n  | e '!'\n")), [])
 
 
 class Problems(unittest.TestCase):
@@ -156,6 +197,14 @@ class Problems(unittest.TestCase):
         lines = raised.exception.shown("book").split("\n")
         self.assertEqual(lines[1].index("expr"), lines[2].index("^"))
         self.assertEqual(lines[2].count("^"), len("expr"))
+
+    def test_other_encodings(self):
+        with self.assertRaises(NotationError) as raised:
+            view("e\n  | number  # na\u00efve\n".encode("latin-1"))
+        self.assertIn("book:2:17: this is no UTF-8", str(raised.exception))
+        data = b"e\n  | number  # \x1a\n"
+        said = explained(*check(data), view(data), "book")
+        self.assertIn("line 2 has a control character", said)
 
     def test_every_line_with_a_problem_is_told(self):
         with self.assertRaises(NotationError) as raised:

@@ -1,5 +1,8 @@
 """The Python package: the library's answers as they are, trees, threads."""
 import doctest
+import os
+import subprocess
+import sys
 import threading
 import unittest
 
@@ -7,7 +10,7 @@ import midgebillon
 from midgebillon import Absent, Error, ErrorKind, Identifier, List, Number, Variable, Variant, from_text, read
 from midgebillon.drawing import bracketed, drawing
 from midgebillon.json_form import tree_json
-from midgebillon.library import Library, NoLibrary
+from midgebillon.library import Library, NoLibrary, loaded
 from midgebillon.tree import node_count, printed
 from midgebillon.view import view
 from vectors import ROOT, vectors
@@ -60,6 +63,19 @@ class Readings(unittest.TestCase):
         for start, allowance in ((-1, 5), (2**32, 5), (0, -1), (0, 2**32)):
             with self.assertRaises(ValueError):
                 read(b"", b"", start, allowance)
+
+    def test_other_types(self):
+        source = from_text("e\n  | number\n")
+        self.assertEqual(str(read(bytearray(source.data), memoryview(b"7")).value), "(0 7)")
+        for words in ((source.data, "7"), (source.text, b"7"), (source.data, b"7", "e"), (source.data, b"7", 0, "1")):
+            with self.assertRaisesRegex(TypeError, "has to be"):
+                read(*words)
+
+    def test_a_library_without_proofs_warns(self):
+        script = "import midgebillon; midgebillon.check(b'')"
+        variables = {**os.environ, "PYTHONPATH": f"{ROOT}/python"}
+        done = subprocess.run([sys.executable, "-c", script], capture_output=True, text=True, env=variables)
+        self.assertEqual("NotProved" in done.stderr, loaded().proved is False)
 
     def test_a_line_that_does_not_fit(self):
         with open(f"{ROOT}/examples/rules.book", "rb") as file:

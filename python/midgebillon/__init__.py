@@ -28,12 +28,12 @@ A refusal has a number and a name; an explanation has its place and what was wan
         5 - x
             ^
 
-The reading itself is the library's, which is proved; this package, as the notation for books and all explanations, is
-not.
+The reading itself is the library's, which is proved; this package, with the notation for books and all explanations, is
+not. Where the library was built without its proofs there is a warning, `NotProved`.
 """
 from .book import Book, decode, encode
 from .explanation import Explanation
-from .library import NoLibrary
+from .library import NoLibrary, NotProved
 from .notation import to_text
 from .notation_reader import Source, from_text
 from .notation_tokens import NotationError
@@ -43,3 +43,11 @@ from .tree import Absent, Identifier, List, Number, Tree, Variable, Variant, pri
 from .view import View, view
 
 __version__ = "0.1.0"
+
+__all__ = [
+    *("MOST_WORK", "Answer", "Parse", "Reading", "check", "furthest", "read"),
+    *("Error", "ErrorKind", "Refusal", "Explanation"),
+    *("Absent", "Identifier", "List", "Number", "Tree", "Variable", "Variant", "printed"),
+    *("Book", "decode", "encode", "NotationError", "Source", "from_text", "to_text", "View", "view"),
+    *("NoLibrary", "NotProved"),
+]

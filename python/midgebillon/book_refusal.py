@@ -3,7 +3,8 @@ from . import book as books
 from .notation_tokens import shown
 from .refusal import Refusal
 
-CHARACTERS = "a character is one of 33 to 126"
+CHARACTERS = "a character is one of 33 to 126 in ASCII: no space and no control character"
+KINDS = f"a kind is 0 to {books.LAST_KIND}"
 
 # What the fields are called, and their ranges.
 FIELDS = {
@@ -61,7 +62,7 @@ def _step(data, field):
     if field.name == "a" and kind == books.CHARACTER or field.name != "a" and delimited:
         return CHARACTERS
     if field.name == "a" and kind == books.VARIABLE_OF_KIND:
-        return "a kind is 0 to 7"
+        return KINDS
     if field.name == "a" and kind == books.WORD:
         return f"words are numbered from 0, and the book has {counts['word']}"
     if field.name == "a" and kind in books.TAKES_NONTERMINAL:
@@ -99,15 +100,45 @@ def reason(refusal, place, data):
     return f"{said}: it has to be {FIELDS[field.section, field.name][1]}"
 
 
+def in_notation(refusal, field, view):
+    """The refusal in the terms of the notation, which makes no other wrong fields than these."""
+    if refusal == Refusal.BAD_COUNT:
+        return f"a book has {COUNTS.get(field.section, f'at most {books.MOST_VARIANTS}')} {field.section}s"
+    if refusal == Refusal.BAD_SPELLING:
+        return _spelling(view.data, field)
+    if refusal == Refusal.BAD_PASSING:
+        return "a passing variant is one nonterminal and nothing else"
+    if field.name == "associativity":
+        return "level 255 is that of variants that are no operators; the level of an operator is at most 254"
+    if field.name == "variants":
+        plain = f"a nonterminal has at most {books.VARIANTS_EACH} variants"
+        return plain if field.value > books.VARIANTS_EACH else "a nonterminal that is (identifier) has no variants"
+    if field.name == "steps":
+        return f"a variant has at most {books.STEPS_EACH} steps"
+    return KINDS if field.name == "kind" else _step(view.data, field)
+
+
 def explained(refusal, place, view, file):
     """The refusal with the byte, or with the line of the notation that made it."""
-    why = f"{reason(refusal, place, view.data)} (refusal {refusal.value})"
+    number = f" (refusal {refusal.value})"
     if view.source is None:
-        return f"{file}: byte {place}: {why}\n{around(view.data, place)}"
+        why = reason(refusal, place, view.data) + number
+        return f"{file}: byte {place}: {why}\n{around(view.data, place)}{_text_after_all(view.data)}"
     field = books.field_at(view.data, place)
+    why = in_notation(refusal, field, view) + number
     if refusal == Refusal.BAD_PASSING:  # its place is the variant's first byte
         field = books.field_at(view.data, place + 2)
     return shown(view.source.text, view.source.span(field), why, file)
+
+
+def _text_after_all(data):
+    """A remark on a file that was meant as text, and has a control character that text has not."""
+    printable = sum(32 <= byte < 127 or byte in b"\t\n\r" for byte in data)
+    if b"\n" not in data or printable < 0.8 * len(data):
+        return ""
+    place = next(i for i, byte in enumerate(data) if byte < 32 and byte not in b"\t\n\r")
+    line = data.count(b"\n", 0, place) + 1
+    return f"\nThe file looks like text, but line {line} has a control character, so it was taken for bytes."
 
 
 def around(data, place):

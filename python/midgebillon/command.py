@@ -1,19 +1,22 @@
 """The command line: midgebillon read, midgebillon book."""
 import argparse
+import json
 import os
 import sys
 import time
+import warnings
 
 from . import __version__
 from . import book as books
 from .book_listing import listing
 from .book_refusal import explained
 from .drawing import drawing
-from .explanation import Explanation, empty_elements
+from .explanation import Explanation
 from .json_form import as_json
-from .library import ROOT, NoLibrary, loaded
+from .library import LARGEST, ROOT, NoLibrary, NotProved, loaded
 from .notation import to_text
 from .notation_tokens import NotationError
+from .notes import notes
 from .picture import line_and_column
 from .reading import MOST_WORK, check, read
 from .tree import node_count, printed
@@ -48,20 +51,20 @@ def called(path):
     return "standard input" if path == "-" else path
 
 
-def save(path, data):
-    """Writes to a file, or to standard output without one."""
-    if path is None and sys.stdout.isatty() and isinstance(data, bytes):
-        raise Misuse("a book in bytes isn't for a terminal: name a file with -o FILE")
-    data = data if isinstance(data, bytes) else data.encode()
+def save(path, data, source):
+    """Writes to a file, or to standard output without one or for -. What is read isn't overwritten."""
+    if path in (None, "-"):
+        if sys.stdout.isatty() and isinstance(data, bytes):
+            raise Misuse("a book in bytes isn't for a terminal: name a file with -o FILE")
+        sys.stdout.buffer.write(data if isinstance(data, bytes) else data.encode())
+        return
+    if source != "-" and os.path.exists(path) and os.path.samefile(path, source):
+        raise Misuse(f"{path}: this is the book itself: name another file with -o")
     try:
-        if path is None:
-            sys.stdout.buffer.write(data)
-            sys.stdout.buffer.flush()
-        else:
-            with open(path, "wb") as file:
-                file.write(data)
+        with open(path, "wb") as file:
+            file.write(data if isinstance(data, bytes) else data.encode())
     except OSError as error:
-        raise Misuse(f"{path or 'standard output'}: {error.strerror or error}") from None
+        raise Misuse(f"{path!r}: {error.strerror or error}") from None
 
 
 def load_book(path):
@@ -102,8 +105,8 @@ def label_library():
 # ---- read
 def start_number(book, start):
     """A start by its number, or by the name of a nonterminal."""
-    if start.isdecimal():
-        return int(start)
+    if start.isascii() and start.isdecimal():
+        return min(int(start[-20:]) if len(start) < 20 else LARGEST, LARGEST)  # no book has so many
     if check(book.data):
         return 0  # the refusal of the book comes before that of the start
     if start not in book.names:
@@ -152,12 +155,20 @@ class Reader:
         try:
             text = load(path)
         except Misuse as misuse:
-            say(f"midgebillon: {misuse}")
-            return MISUSE
+            return self.unread(path, misuse)
         reading = read(self.book.data, text, self.start, self.options.allowance)
         words = (reading, self.book, self.start, called(path), self.book_file, self.options.allowance)
         self.print(reading, path, Explanation(*words))
         return VALUE if reading.refusal is None else REFUSED
+
+    def unread(self, path, misuse):
+        """A file that can't be read has its line, too, where each file has one."""
+        if self.options.json:
+            print(json.dumps({"file": path, "unread": str(misuse)}))
+        elif self.options.line:
+            print("not read")
+        say(f"midgebillon: {misuse}")
+        return MISUSE
 
     def print(self, reading, path, explanation):
         if self.options.json:
@@ -201,6 +212,10 @@ class Reader:
 def command_read(options):
     if [options.book, *options.text].count("-") > 1:
         raise Misuse("standard input (-) can be read once: for the book, or for one text")
+    if options.line and options.all:
+        raise Misuse("--line prints one line for a rule: --all goes with --tree, --json or neither")
+    if not 0 <= options.allowance <= LARGEST:
+        raise Misuse(f"an allowance is 1 to {MOST_WORK:,} units of work")
     reader, progress = Reader(options), Progress(len(options.text))
     label_library()
     for path in options.text:
@@ -218,7 +233,7 @@ def command_check(options):
     counts = [(len(records.words), "word"), (len(records.names), "name"), (len(records.nonterminals), "nonterminal")]
     counts += [(len(records.variants), "variant"), (steps, "step"), (len(book.data), "byte")]
     print("accepted: " + ", ".join(f"{count} {what}{'s' * (count != 1)}" for count, what in counts))
-    for note in empty_elements(book):
+    for note in notes(book):
         print(f"note: {note}")
     label_library()
     return VALUE
@@ -228,7 +243,7 @@ def command_encode(options):
     book = accepted_book(options.book)
     if book is None:
         return REFUSED
-    save(options.output, book.data)
+    save(options.output, book.data, options.book)
     return VALUE
 
 
@@ -236,7 +251,7 @@ def command_decode(options):
     book = accepted_book(options.book)
     if book is None:
         return REFUSED
-    save(options.output, book.source.text if book.source else to_text(book.book))
+    save(options.output, book.source.text if book.source else to_text(book.book), options.book)
     return VALUE
 
 
@@ -294,7 +309,8 @@ def parser():
     reading.add_argument("--allowance", type=int, default=MOST_WORK, metavar="UNITS", help=words)
     form = reading.add_mutually_exclusive_group()
     form.add_argument("--line", action="store_true", help="print document 01's line alone")
-    form.add_argument("--json", action="store_true", help="print everything: answer, parses, trees, explanation")
+    words = "print everything, one object a line for each rule: answer, parses, trees, explanation"
+    form.add_argument("--json", action="store_true", help=words)
     form.add_argument("--tree", action="store_true", help="print values as drawings")
     reading.add_argument("--all", action="store_true", help="print every parse, also of a part of the rule")
     reading.set_defaults(run=command_read)
@@ -314,9 +330,10 @@ def parser():
     return whole
 
 
-def main(words=None):
+def command(words):
     """Runs a command and gives its exit status."""
     options = parser().parse_args(words)
+    warnings.simplefilter("ignore", NotProved)  # label_library says it
     for stream in (sys.stdout, sys.stderr):
         stream.reconfigure(errors="replace")  # of what a terminal can't show
     try:
@@ -324,11 +341,28 @@ def main(words=None):
     except NotationError as error:
         say(error.shown(called(options.book)))
         return REFUSED
-    except (Misuse, NoLibrary, ValueError) as error:
+    except (Misuse, NoLibrary) as error:
         say(f"midgebillon: {error}")
         return MISUSE
-    except BrokenPipeError:
-        os.dup2(os.open(os.devnull, os.O_WRONLY), sys.stdout.fileno())
-        return VALUE
+
+
+def main(words=None):
+    """Runs a command. The exit status is 2 where not all of the output was written."""
+    sys.stderr = sys.stderr or open(os.devnull, "w", encoding="utf-8")
+    if sys.stdout is None:
+        say("midgebillon: standard output is closed")
+        return MISUSE
+    try:
+        try:
+            status = command(words)
+        except SystemExit as done:  # of argparse
+            status = done.code
+        sys.stdout.flush()
+        return status
+    except OSError as error:
+        os.dup2(os.open(os.devnull, os.O_WRONLY), sys.stdout.fileno())  # for what Python writes as it ends
+        if not isinstance(error, BrokenPipeError):
+            say(f"midgebillon: standard output: {error.strerror or error}")
+        return MISUSE
     except KeyboardInterrupt:
         return MISUSE

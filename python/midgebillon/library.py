@@ -3,6 +3,7 @@ import ctypes
 import ctypes.util
 import os
 import threading
+import warnings
 
 ROOT = os.path.dirname(os.path.dirname(os.path.dirname(os.path.abspath(__file__))))
 FILE = "libmidgebillon.so"
@@ -25,8 +26,26 @@ class NoLibrary(Exception):
     """There is no library to load, or it is not this one."""
 
 
+class NotProved(UserWarning):
+    """The library was built without its proofs."""
+
+
 def _bytes(data):
     return [data, len(data)]
+
+
+def _as_bytes(what, data):
+    if not isinstance(data, (bytes, bytearray, memoryview)):
+        raise TypeError(f"the {what} has to be bytes, not {type(data).__name__}")
+    return bytes(data)
+
+
+def _as_number(what, number):
+    if not isinstance(number, int):
+        raise TypeError(f"the {what} has to be a number, not {type(number).__name__}")
+    if not 0 <= number <= LARGEST:
+        raise ValueError(f"the {what} {number} is not from 0 to {LARGEST}")
+    return number
 
 
 class Library:
@@ -75,9 +94,8 @@ class Library:
 
     def read(self, book, text, start, allowance):
         """The seven numbers of the answer, the cells and the parses."""
-        for what, number in (("start", start), ("allowance", allowance)):
-            if not 0 <= number <= LARGEST:
-                raise ValueError(f"{what} {number} is not from 0 to {LARGEST}")
+        book, text = _as_bytes("book", book), _as_bytes("text", text)
+        start, allowance = _as_number("start", start), _as_number("allowance", allowance)
         lists = [(ctypes.c_uint32 * size)() for size in (CELLS, PARSES, ANSWER)]
         words = [word for numbers in lists for word in (numbers, len(numbers))]
         self._with_stack(self._functions.midgebillon_read, *_bytes(book), *_bytes(text), start, allowance, *words)
@@ -119,4 +137,6 @@ def loaded():
         if not path:
             raise NoLibrary(f"the reader's library isn't built yet: {HOW_TO_BUILD}")
         _library = Library(path)
+        if _library.proved is False:
+            warnings.warn(f"{path} is NOT PROVED: it was built without the proofs", NotProved, stacklevel=2)
     return _library

@@ -105,10 +105,6 @@ def to_text(book, names=None, labels=()):
 
 
 def is_text(data):
-    """Whether bytes are text, in UTF-8, rather than a book in bytes: each accepted book has a mark, 0 to 2, and no text
-    has such a byte."""
-    try:
-        data.decode("utf-8")
-    except UnicodeDecodeError:
-        return False
+    """Whether bytes are text rather than a book in bytes: each accepted book has a mark, 0 to 2, and no text has such a
+    byte."""
     return all(byte >= 32 or byte in b"\t\n\r" for byte in data)

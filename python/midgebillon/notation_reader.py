@@ -12,6 +12,7 @@ from .notation_steps import Steps, attributes_of
 from .notation_tokens import LARGEST_BYTE, Line, NotationError, Problem, Span, Token, Wrong, byte, tokens_of
 
 ENTRY = re.compile(r"[^\s#]+")
+EXAMPLES = {"words": "words kg tonnes", "reserved": "reserved if then", "names": "names price:0 volume:1"}
 MOST = {
     "word": books.MOST_WORDS,
     "name": books.MOST_NAMES,
@@ -65,13 +66,16 @@ class _Reader:
             self._guarded(self._entry, keyword, found.group(), Span(offset + found.start(), offset + found.end()))
 
     def _entry(self, keyword, text, span):
+        if set(text) & set("\"',"):
+            raise Wrong(span, f"{keyword} stand without quotation marks and commas, as in `{EXAMPLES[keyword]}`")
         if keyword != "names":
             return self._add("word", self.words, books.Entry(int(keyword == "reserved"), text), span, span)
         spelling, colon, kind = text.partition(":")
         at = Span(span.start + len(spelling) + 1, span.end)
         if not colon:
             raise Wrong(span, f"a name has its kind, 0 to 7, behind a colon: {text}:0")
-        number = byte(Token("number" if kind.isascii() and kind.isdecimal() else "other", kind, at), "the kind of a name")
+        sort = "number" if kind.isascii() and kind.isdecimal() else "other"
+        number = byte(Token(sort, kind, at), "the kind of a name", books.LAST_KIND)
         self._add("name", self.names, books.Entry(number, spelling), Span(span.start, at.start - 1), at)
 
     def _add(self, section, entries, entry, spelling, label):
@@ -97,11 +101,14 @@ class _Reader:
     def _heading(self, line):
         token = line.take()
         if token.sort != "name":
-            raise Wrong(token.span, "a line is a nonterminal's name, a variant behind |, or words, reserved or names")
+            message = "a line is a nonterminal's name, a variant behind |, or words, reserved or names"
+            raise Wrong(token.span, message)
         if token.text in NOT_FOR_NONTERMINALS:
-            raise Wrong(token.span, f"{token.text} has a meaning of its own here: give the nonterminal another name")
+            message = f"{token.text} can't be a nonterminal's name; if this is a variant, a | is missing before it"
+            raise Wrong(token.span, message)
         if any(token.text == name for name, _, _ in self.headers):
-            raise Wrong(token.span, f"there is a nonterminal {token.text} already")
+            message = f"there is a nonterminal {token.text} already; if this is a variant, a | is missing before it"
+            raise Wrong(token.span, message)
         number, span = len(self.headers), token.span
         self.headers.append((token.text, books.PLAIN, span))
         for name in ("mark", "variants"):
@@ -114,7 +121,7 @@ class _Reader:
     def _mark(line):
         start = line.here()
         if not line.take_if("("):
-            raise Wrong(start, "a nonterminal's name stands alone on its line; below it each variant, behind |")
+            raise Wrong(start, "a nonterminal's name stands alone on its line; each of its variants below it, behind |")
         words = []
         while line.next() is not None and not line.is_next(")"):
             words.append(line.take().text)
@@ -127,7 +134,7 @@ class _Reader:
     def _variant(self, number, line, steps_before):
         """A variant, and the spans of its bytes and of its steps' bytes."""
         line.take()
-        reader = Steps(self.words, [name for name, _, _ in self.headers])
+        reader = Steps(self.words, self.names, [name for name, _, _ in self.headers])
         steps = []
         if line.next() is None or line.is_next(";"):
             raise Wrong(line.tokens[0].span, f"a variant without steps is written | {EMPTY}")

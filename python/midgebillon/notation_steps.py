@@ -6,13 +6,15 @@ from .notation import ENTRIES, NOT_FOR_NONTERMINALS, PLAIN_STEPS, SUFFIXES
 from .notation_tokens import Span, Token, Wrong, near
 
 IDENTIFIER = re.compile(r"[A-Za-z_][A-Za-z0-9_]*")
+ATTRIBUTES = (*books.ASSOCIATIVITIES, "passing", "uncommitted")
 
 
 class Steps:
     """Reads the steps of a variant's line."""
 
-    def __init__(self, words, names):
+    def __init__(self, words, starting, names):
         self.words, self.names = words, names
+        self.starting = {name.spelling: name.label for name in starting}
 
     def step(self, line):
         """A step, and the spans of its four bytes."""
@@ -66,25 +68,31 @@ class Steps:
         plain = next((kind for kind, name in PLAIN_STEPS.items() if name == token.text), None)
         if plain == books.VARIABLE and line.take_if(":"):
             at = line.here()
-            return books.Step(books.VARIABLE_OF_KIND, line.number("the kind of a variable")), [token.span, at, at, at]
+            return books.Step(books.VARIABLE_OF_KIND, line.number("the kind of a variable", books.LAST_KIND)), [token.span, at, at, at]
         if plain is not None:
             self._no_suffix(token, line)
             return self._simple(plain, token)
-        number = self._nonterminal(token)
+        return books.Step(self._suffix(token, line), self._nonterminal(token)), [token.span] * 4
+
+    @staticmethod
+    def _suffix(token, line):
+        """The kind of a nonterminal's step, by what stands right behind its name."""
         suffix = line.next()
-        kind = next((k for k, s in SUFFIXES.items() if s and suffix and line.is_next(s)), books.NONTERMINAL)
+        if suffix is None or suffix.sort != "sign" or suffix.span.start != token.span.end:
+            return books.NONTERMINAL
+        if suffix.text == "+":
+            raise Wrong(suffix.span, f"no step reads one or more: write {token.text} {token.text}*")
+        if suffix.text == ",":
+            raise Wrong(suffix.span, f"a list with commas between is written {token.text},*; a comma itself ','")
+        kind = next((kind for kind, text in SUFFIXES.items() if text == suffix.text), books.NONTERMINAL)
         if kind != books.NONTERMINAL:
             line.take()
-        elif suffix and suffix.text == "+":
-            raise Wrong(suffix.span, f"no step reads one or more: write {token.text} {token.text}*")
-        elif suffix and suffix.text == ",":
-            raise Wrong(suffix.span, f"a list with commas between is written {token.text},*; a comma itself ','")
-        return books.Step(kind, number), [token.span] * 4
+        return kind
 
     @staticmethod
     def _no_suffix(token, line):
         following = line.next()
-        if following and following.text in ("?", "*", ",*", "+"):
+        if following and following.text in ("?", "*", ",*", "+") and following.span.start == token.span.end:
             message = f"only a nonterminal may have {following.text}: give {token.text} a nonterminal of its own"
             raise Wrong(following.span, message)
 
@@ -94,6 +102,11 @@ class Steps:
             message = f"{token.text} is no nonterminal of this book{near(token.text, known)}"
             if any(word.spelling == token.text for word in self.words):
                 message = f'a word stands between quotation marks: "{token.text}"'
+            elif token.text in ATTRIBUTES:
+                message = f"a semicolon stands before {token.text}"
+            elif token.text in self.starting:
+                kind = self.starting[token.text]
+                message = f"{token.text} is a starting name: write variable, or variable:{kind} for those of its kind"
             raise Wrong(token.span, message)
         return self.names.index(token.text)
 
@@ -123,7 +136,7 @@ class Steps:
         if token.text == "|":
             return "each variant has a line of its own"
         if token.text in ("?", "*", ",*", "+"):
-            return f"{token.text} stands right behind a nonterminal's name"
+            return f"{token.text} stands right behind a nonterminal's name; the character is {_characters(token.text)}"
         return "no step begins so; a character stands between apostrophes, a word between quotation marks"
 
 
@@ -157,7 +170,7 @@ def attributes_of(line):
         token = line.take()
         if token.text in books.ASSOCIATIVITIES and level is None:
             at = line.here()
-            level, associativity = line.number("the level of an operator"), books.ASSOCIATIVITIES.index(token.text)
+            level, associativity = line.number("the level of an operator", books.DEFAULT_LEVEL - 1), books.ASSOCIATIVITIES.index(token.text)
             spans[:2] = [at, token.span]
         elif token.text == "passing" and not flags & books.PASSING:
             flags, spans[2] = flags + books.PASSING, token.span
@@ -169,11 +182,10 @@ def attributes_of(line):
 
 
 def _no_attribute(token):
-    if token.text in (*books.ASSOCIATIVITIES, "passing", "uncommitted"):
+    if token.text in ATTRIBUTES:
         return "this is said twice"
     if token.sort == "number":
         return f"a level has its associativity before it: left {token.text}, right, none or both"
     if token.text == ",":
         return "spaces stand between, no commas"
-    known = (*books.ASSOCIATIVITIES, "passing", "uncommitted")
-    return f"behind ; stands left, right, none or both with a level, passing or uncommitted{near(token.text, known)}"
+    return f"behind ; stands left, right, none or both with a level, passing or uncommitted{near(token.text, ATTRIBUTES)}"

@@ -27,7 +27,7 @@ class NotationError(Exception):
 
     def __init__(self, text, problems):
         self.text, self.problems = text, sorted(problems, key=lambda problem: problem.span.start)
-        super().__init__(self.problems[0].message)
+        super().__init__(self.shown("book"))
 
     def shown(self, file):
         return "\n".join(shown(self.text, p.span, p.message, file) for p in self.problems)
@@ -79,13 +79,13 @@ def near(name, names):
     return f"; did you mean {close[0]}?" if close else ""
 
 
-def byte(token, what):
-    """A token's number, which must be one of a byte."""
+def byte(token, what, most=LARGEST_BYTE):
+    """A token's number, which must be one of a byte. The most that is told may be less: the reader checks that."""
     if token.sort != "number":
         raise Wrong(token.span, f"{what} is a number")
     digits = token.text.lstrip("0") or "0"
     if len(digits) > 3 or int(digits) > LARGEST_BYTE:
-        raise Wrong(token.span, f"{what} is at most {LARGEST_BYTE}")
+        raise Wrong(token.span, f"{what} is at most {most}")
     return int(digits)
 
 
@@ -114,7 +114,7 @@ class Line:
         token = self.next()
         return token.span if token else self.end
 
-    def number(self, what):
+    def number(self, what, most=LARGEST_BYTE):
         if self.next() is None:
             raise Wrong(self.end, f"{what} is missing: a number")
-        return byte(self.take(), what)
+        return byte(self.take(), what, most)

@@ -104,8 +104,9 @@ class Reading:
 
 
 def read(book, text, start=0, allowance=MOST_WORK):
-    """Reads a text by a book, both in bytes, from a nonterminal by its number."""
-    return Reading(book, text, *loaded().read(book, text, start, allowance))
+    """Reads a text by a book, both in bytes, from a nonterminal by its number: the one in `names` of a `Source`."""
+    answer, cells, parses = loaded().read(book, text, start, allowance)
+    return Reading(bytes(book), bytes(text), answer, cells, parses)
 
 
 def furthest(errors):

@@ -4,7 +4,8 @@ import re
 from . import book as books
 from .notation import default_names, is_text, step_text, variant_text
 from .notation_reader import from_text
-from .wanted import Part
+from .notation_tokens import NotationError, Problem, Span
+from .wanted import Part, variables
 
 SHOWN_NAMES = 6  # of starting names, in a sentence
 
@@ -51,8 +52,8 @@ class View:
 
     def _variables(self, kind=None):
         """The starting names, or those of a kind, as a remark."""
-        names = dict.fromkeys(n.spelling for n in self.book.names if kind is None or n.label == kind)
-        listed = list(names)[:SHOWN_NAMES] + ["..."] * (len(names) > SHOWN_NAMES)
+        names = [name for name, of in variables(self.book).items() if kind in (None, of)]
+        listed = names[:SHOWN_NAMES] + ["..."] * (len(names) > SHOWN_NAMES)
         return f" ({', '.join(listed)})" if names else " (the book has none)"
 
     def terminal(self, terminal):
@@ -89,5 +90,10 @@ def view(data):
     """The view of a book in either form. NotationError where it is text and no book in the notation."""
     if not is_text(data):
         return View(data)
-    source = from_text(data.decode("utf-8-sig"))
+    try:
+        source = from_text(data.decode("utf-8-sig"))
+    except UnicodeDecodeError as error:
+        text = data.decode("latin-1")
+        message = "this is no UTF-8: save the book as UTF-8 or ASCII"
+        raise NotationError(text, [Problem(Span(error.start, error.start + 1), message)]) from None
     return View(source.data, source)

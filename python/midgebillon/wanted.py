@@ -109,9 +109,9 @@ class Grammar:
                 if not self.takes_nothing(symbol):
                     break
 
-    def first(self, part):
-        """The terminals that a part may begin with, in the book's order."""
-        seen, out, todo = {part}, [], [part]
+    def first(self, symbol):
+        """The terminals that a symbol may begin with, in the book's order."""
+        seen, out, todo = {symbol}, [], [symbol]
         while todo:
             symbol = todo.pop(0)
             if isinstance(symbol, Terminal):
@@ -123,16 +123,21 @@ class Grammar:
         return out
 
 
+def reserved(book):
+    return {word.spelling for word in book.words if word.label}
+
+
+def variables(book):
+    """The starting names that can be read as variables, with their kinds: of equal ones the last."""
+    return {name.spelling: name.label for name in book.names if name.spelling not in reserved(book)}
+
+
 class Tokens:
     """Whether a terminal's token stands at a place, and where it ends."""
 
     def __init__(self, book, text):
         self.book, self.text = book, text
-        self.reserved = {word.spelling for word in book.words if word.label}
-        self.kinds = {name.spelling: name.label for name in book.names}  # the last of equal ones
-
-    def _is_variable(self, word):
-        return word in self.kinds and word not in self.reserved
+        self.reserved, self.variables = reserved(book), variables(book)
 
     def word(self, place):
         """The identifier at a place, or nothing."""
@@ -148,7 +153,7 @@ class Tokens:
             digits = DIGITS.match(self.text, place)
             return digits.end() if digits and int(digits.group()) < 2**64 else None
         if kind in LOOKS:
-            found = word in self.reserved if kind == books.NO_RESERVED else self._is_variable(word)
+            found = word in self.reserved if kind == books.NO_RESERVED else word in self.variables
             return None if found else place
         return place + len(word) if word and self._fits(terminal, word) else None
 
@@ -157,7 +162,10 @@ class Tokens:
             return word == self.book.words[terminal.a].spelling
         if terminal.kind == books.IDENTIFIER:
             return word not in self.reserved
-        return self._is_variable(word) and (terminal.kind == books.VARIABLE or self.kinds[word] == terminal.a)
+        return word in self.variables and terminal in (Terminal(books.VARIABLE), self._of_kind(word))
+
+    def _of_kind(self, word):
+        return Terminal(books.VARIABLE_OF_KIND, self.variables[word])
 
 
 class Wanted(NamedTuple):

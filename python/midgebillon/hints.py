@@ -1,0 +1,64 @@
+"""What stands at a place of a text, and what the steps of the book want there, in words."""
+import difflib
+
+from . import book as books
+from .view import one_of
+from .wanted import DIGITS, Grammar, Part, Tokens, wanted
+
+LARGEST_NUMBER = 2**64 - 1
+COMMENTS = (b"#", b"/*")  # of other languages
+OF_NAMES = {books.IDENTIFIER, books.VARIABLE, books.VARIABLE_OF_KIND}
+
+
+def near(word, known):
+    """The one that was perhaps meant, in whatever case."""
+    by_case = {each.lower(): each for each in sorted(known, reverse=True)}
+    close = difflib.get_close_matches(word.lower(), by_case, 1) if word and word not in known else []
+    return [f"did you mean {by_case[close[0]]}?"] if close else []
+
+
+class Hints:
+    """Help beside the reader's own words: see wanted.py."""
+
+    def __init__(self, view, text, start):
+        self.view, self.text = view, text
+        self.tokens, self.grammar = Tokens(view.book, text), Grammar(view.book)
+        self.wanted = wanted(view.book, text, start)
+
+    def ends(self, place):
+        return "where the text ends" if place == len(self.text) else "here"
+
+    def word(self, place):
+        return self.tokens.word(place)
+
+    def begins(self, nonterminal):
+        return self.view.begins(self.grammar, nonterminal)
+
+    def remarks(self, place, symbols):
+        """Why what stands at a place isn't one of these symbols, where that can be seen."""
+        first = [terminal for symbol in symbols for terminal in self.grammar.first(symbol)]
+        kinds = {terminal.kind for terminal in first}
+        word, digits = self.word(place), DIGITS.match(self.text, place)
+        if digits and int(digits.group()) > LARGEST_NUMBER and books.NUMBER in kinds:
+            return [f"this number is above {LARGEST_NUMBER}, the greatest"]
+        if word in self.tokens.reserved and kinds & OF_NAMES:
+            return [f"{word} is a reserved word"]
+        if word in self.tokens.variables and kinds & OF_NAMES:
+            return [f"{word} is a variable of kind {self.tokens.variables[word]}"]
+        if self.text.startswith(COMMENTS, place):
+            return ["a comment begins with //"]
+        words = {self.view.book.words[terminal.a].spelling for terminal in first if terminal.kind == books.WORD}
+        return near(word, words | set(self.tokens.variables if kinds & OF_NAMES else ()))
+
+    def said(self):
+        """What would go on at the furthest place that the steps reach: remarks, what is wanted, how that begins."""
+        place, symbols = self.wanted.place, self.wanted.symbols
+        named = one_of(dict.fromkeys(map(self.view.symbol, symbols)))
+        begins = [self.begins(symbol.a) for symbol in symbols if isinstance(symbol, Part)]
+        return self.joined(place, symbols, [f"wanted {self.ends(place)}: {named}", *begins])
+
+    def joined(self, place, symbols, said):
+        """What is said of a place, behind a remark on what stands there; but a question comes last."""
+        remarks = self.remarks(place, symbols)
+        asked = [remark for remark in remarks if remark.endswith("?")]
+        return "; ".join([*(remark for remark in remarks if remark not in asked), *said, *asked])
