@@ -171,7 +171,7 @@ class Command(unittest.TestCase):
         self.assertIn(":2:5: numer is no nonterminal of this book; did you mean number?", said)
         status, _, said = run("book", "check", self.file("book", b"e\n  | number ; left 255\n"))
         self.assertEqual(status, 1)
-        self.assertIn(":2:14: level 255 is that of variants that are no operators", said)
+        self.assertIn(":2:14: 255 is the level of variants that are no operators", said)
         status, out, _ = run("book", "check", self.file("book", b"e\n  | e*\n  | empty\n"))
         self.assertIn(b"note: e may take nothing", out)
 

@@ -24,9 +24,10 @@ A refusal has a number and a name; an explanation has its place and what was wan
           ^
     Read so far: 5, as the value (0 5)
     If the rule is meant to go on, the steps of the book fit up to another place:
-    rule:1:5: wanted here: expression; expression begins with a number
+    rule:1:5: wanted here: expression
         5 - x
             ^
+    expression begins with a number
 
 The reading itself is the library's, which is proved; this package, with the notation for books and all explanations, is
 not. Where the library was built without its proofs there is a warning, `NotProved`.

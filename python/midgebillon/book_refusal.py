@@ -109,7 +109,7 @@ def in_notation(refusal, field, view):
     if refusal == Refusal.BAD_PASSING:
         return "a passing variant is one nonterminal and nothing else"
     if field.name == "associativity":
-        return "level 255 is that of variants that are no operators; the level of an operator is at most 254"
+        return "255 is the level of variants that are no operators; an operator's is at most 254"
     if field.name == "variants":
         plain = f"a nonterminal has at most {books.VARIANTS_EACH} variants"
         return plain if field.value > books.VARIANTS_EACH else "a nonterminal that is (identifier) has no variants"

@@ -3,6 +3,7 @@ import argparse
 import json
 import os
 import sys
+import textwrap
 import time
 import warnings
 
@@ -234,7 +235,7 @@ def command_check(options):
     counts += [(len(records.variants), "variant"), (steps, "step"), (len(book.data), "byte")]
     print("accepted: " + ", ".join(f"{count} {what}{'s' * (count != 1)}" for count, what in counts))
     for note in notes(book):
-        print(f"note: {note}")
+        print(textwrap.fill(f"note: {note}", 100, subsequent_indent="      "))
     label_library()
     return VALUE
 

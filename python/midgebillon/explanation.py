@@ -124,7 +124,7 @@ class Explanation:
         if self.text[:2] in (b"\xff\xfe", b"\xfe\xff"):
             return f"{self.file}: the rule is text in UTF-16: save it as ASCII{number}"
         if self.text.startswith(b"\xef\xbb\xbf"):
-            return f"{self.file}: the rule begins with a byte order mark: save it as ASCII, or UTF-8 without one{number}"
+            return f"{self.file}: the rule begins with a byte order mark: save it without one{number}"
         place = self.reading.answer.place
         found = self.text[place:].decode("utf-8", "replace")[0]
         name = unicodedata.name(found, "").lower()
@@ -148,43 +148,45 @@ class Explanation:
         thing."""
         error, hints = self.reading.error, Hints(self.view, self.text, self.start)
         found = hints.wanted
-        here = found is not None and found.symbols and found.place == error.place
         if found is not None and found.fits:
             return f"{self._at(error.place, FORBIDDEN + number)}\n{_filled(LEVELS)}"
-        if here and error.kind in WANTED:
-            return self._at(error.place, hints.said() + number)
-        return "\n".join([self._at(error.place, self._error(hints) + number), *self._further(hints, error.place)])
+        if found is not None and found.symbols and found.place == error.place and error.kind in WANTED:
+            return self._wanted(hints, error.place, found.symbols, number)
+        return "\n".join([self._error(hints, number), *self._further(hints, error.place)])
 
-    def _error(self, hints):
-        """The furthest error in a sentence."""
-        error, book = self.reading.error, self.view.book
-        kind, argument, word, ends = error.kind, error.argument, hints.word(error.place), hints.ends(error.place)
-        if kind == ErrorKind.CHARACTER_WANTED:
-            return f"wanted {ends}: '{chr(argument)}'"
-        if kind == ErrorKind.WORD_WANTED:
-            return f'wanted {ends}: "{book.words[argument].spelling}"'
-        if kind == ErrorKind.WRONG_KIND:
-            of_kind = Terminal(books.VARIABLE_OF_KIND, argument)
-            return hints.joined(error.place, [of_kind], [f"wanted {ends}: {self.view.terminal(of_kind)}"])
-        if kind == ErrorKind.UNKNOWN_NAME:
-            names = {name.spelling for name in book.names}
-            return "; ".join([f"{word} is no name of the book", *(near(word, names) or [f"it has {self._names()}"])])
-        if kind == ErrorKind.NONTERMINAL_WANTED:
-            said = [f"wanted {ends}: {self.view.names[argument]}", hints.begins(argument)]
-            return hints.joined(error.place, [Part(books.NONTERMINAL, argument)], said)
-        if kind == ErrorKind.MORE_WANTED:
-            return f"more is wanted {ends}, for {self.view.names[argument]}"
-        return {
-            ErrorKind.IDENTIFIER_WANTED: f"wanted {ends}: an identifier",
+    def _wanted(self, hints, place, symbols, number=""):
+        """What is wanted at a place, with how that begins below the picture."""
+        return "\n".join([self._at(place, hints.said(place, symbols) + number), *map(_filled, hints.begun(symbols))])
+
+    def _error(self, hints, number):
+        """The furthest error."""
+        error = self.reading.error
+        place, kind, argument = error.place, error.kind, error.argument
+        symbol = {
+            ErrorKind.CHARACTER_WANTED: Terminal(books.CHARACTER, argument),
+            ErrorKind.WORD_WANTED: Terminal(books.WORD, argument),
+            ErrorKind.IDENTIFIER_WANTED: Terminal(books.IDENTIFIER),
+            ErrorKind.WRONG_KIND: Terminal(books.VARIABLE_OF_KIND, argument),
+            ErrorKind.DIGITS_WANTED: Terminal(books.NUMBER),
+            ErrorKind.NONTERMINAL_WANTED: Part(books.NONTERMINAL, argument),
+        }.get(kind)
+        if symbol is not None:
+            return self._wanted(hints, place, [symbol], number)
+        word = hints.word(place)
+        said = {
             ErrorKind.TEXT_ENDED: "the text ends where a name or a number is wanted",
             ErrorKind.VARIABLE_FOUND: f"{word} is a variable, and none may stand here",
             ErrorKind.RESERVED_FOUND: f"{word} is a reserved word, and none may stand here",
-            ErrorKind.DIGITS_WANTED: f"wanted {ends}: a number",
+            ErrorKind.UNKNOWN_NAME: f"{word} is no name of the book; {self._names(word)}",
             ErrorKind.TOO_LARGE: f"this number is above {LARGEST_NUMBER}, the greatest",
-        }[kind]
+            ErrorKind.MORE_WANTED: f"more is wanted {hints.ends(place)}",
+        }
+        return self._at(place, said[kind] + number)
 
-    def _names(self):
-        return ", ".join(dict.fromkeys(name.spelling for name in self.view.book.names)) or "none"
+    def _names(self, word):
+        """The name that was perhaps meant, or all."""
+        names = list(dict.fromkeys(name.spelling for name in self.view.book.names))
+        return "".join(near(word, set(names))) or f"it has {', '.join(names) or 'none'}"
 
     # ---- What the steps would take
     def _further(self, hints, place):
@@ -194,12 +196,13 @@ class Explanation:
             return zeros
         if found.fits:
             return [_filled(LEVELS)]
-        if found.place == place:
-            told = self.reading.error is not None and len(found.symbols) == 1
-            said = hints.said()
-            return zeros if told else [said[0].upper() + said[1:], *zeros]
-        there = self._at(found.place, hints.said())
-        return [f"If the rule is meant to go on, the steps of the book fit up to another place:\n{there}", *zeros]
+        if found.place > place:
+            there = self._wanted(hints, found.place, found.symbols)
+            return [f"If the rule is meant to go on, the steps of the book fit up to another place:\n{there}", *zeros]
+        if self.reading.error is not None and len(found.symbols) == 1:
+            return zeros  # the error has told it
+        said = hints.said(place, found.symbols)
+        return [said[0].upper() + said[1:], *map(_filled, hints.begun(found.symbols)), *zeros]
 
     def _at(self, place, said):
         return _at(self.text, place, self.file, said)

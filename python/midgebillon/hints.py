@@ -31,9 +31,6 @@ class Hints:
     def word(self, place):
         return self.tokens.word(place)
 
-    def begins(self, nonterminal):
-        return self.view.begins(self.grammar, nonterminal)
-
     def remarks(self, place, symbols):
         """Why what stands at a place isn't one of these symbols, where that can be seen."""
         first = [terminal for symbol in symbols for terminal in self.grammar.first(symbol)]
@@ -50,15 +47,14 @@ class Hints:
         words = {self.view.book.words[terminal.a].spelling for terminal in first if terminal.kind == books.WORD}
         return near(word, words | set(self.tokens.variables if kinds & OF_NAMES else ()))
 
-    def said(self):
-        """What would go on at the furthest place that the steps reach: remarks, what is wanted, how that begins."""
-        place, symbols = self.wanted.place, self.wanted.symbols
+    def said(self, place, symbols):
+        """What would go on at a place, behind a remark on what stands there; but a question comes last."""
         named = one_of(dict.fromkeys(map(self.view.symbol, symbols)))
-        begins = [self.begins(symbol.a) for symbol in symbols if isinstance(symbol, Part)]
-        return self.joined(place, symbols, [f"wanted {self.ends(place)}: {named}", *begins])
-
-    def joined(self, place, symbols, said):
-        """What is said of a place, behind a remark on what stands there; but a question comes last."""
         remarks = self.remarks(place, symbols)
         asked = [remark for remark in remarks if remark.endswith("?")]
-        return "; ".join([*(remark for remark in remarks if remark not in asked), *said, *asked])
+        told = [remark for remark in remarks if remark not in asked]
+        return "; ".join([*told, f"wanted {self.ends(place)}: {named}", *asked])
+
+    def begun(self, symbols):
+        """How the nonterminals among the symbols begin, in lines."""
+        return [self.view.begins(self.grammar, symbol.a) for symbol in symbols if isinstance(symbol, Part)]

@@ -68,7 +68,8 @@ class Steps:
         plain = next((kind for kind, name in PLAIN_STEPS.items() if name == token.text), None)
         if plain == books.VARIABLE and line.take_if(":"):
             at = line.here()
-            return books.Step(books.VARIABLE_OF_KIND, line.number("the kind of a variable", books.LAST_KIND)), [token.span, at, at, at]
+            kind = line.number("the kind of a variable", books.LAST_KIND)
+            return books.Step(books.VARIABLE_OF_KIND, kind), [token.span, at, at, at]
         if plain is not None:
             self._no_suffix(token, line)
             return self._simple(plain, token)
@@ -170,8 +171,8 @@ def attributes_of(line):
         token = line.take()
         if token.text in books.ASSOCIATIVITIES and level is None:
             at = line.here()
-            level, associativity = line.number("the level of an operator", books.DEFAULT_LEVEL - 1), books.ASSOCIATIVITIES.index(token.text)
-            spans[:2] = [at, token.span]
+            level = line.number("the level of an operator", books.DEFAULT_LEVEL - 1)
+            associativity, spans[:2] = books.ASSOCIATIVITIES.index(token.text), [at, token.span]
         elif token.text == "passing" and not flags & books.PASSING:
             flags, spans[2] = flags + books.PASSING, token.span
         elif token.text == "uncommitted" and flags & books.COMMITTED:
@@ -188,4 +189,5 @@ def _no_attribute(token):
         return f"a level has its associativity before it: left {token.text}, right, none or both"
     if token.text == ",":
         return "spaces stand between, no commas"
-    return f"behind ; stands left, right, none or both with a level, passing or uncommitted{near(token.text, ATTRIBUTES)}"
+    close = near(token.text, ATTRIBUTES)
+    return f"behind ; stands left, right, none or both with a level, passing or uncommitted{close}"

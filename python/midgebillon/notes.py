@@ -29,7 +29,7 @@ def itself(view):
         alone = len(variant.steps) == 1 and _is_operand(variant.steps[0], owner)
         if alone and not variant.passing and variant.associativity in (books.LEFT, books.BOTH):
             name = view.names[owner]
-            yield f"variant {number} makes {name} of {name} alone, again and again: the reader gives up, with refusal 22"
+            yield f"variant {number} makes {name} of {name} alone, again and again: the reader gives up (refusal 22)"
 
 
 def without_level(view):
