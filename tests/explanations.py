@@ -11,7 +11,7 @@ import sys
 FOLDER = os.path.dirname(os.path.abspath(__file__))
 sys.path.insert(0, os.path.join(os.path.dirname(FOLDER), "python"))
 
-from midgebillon.explanation import Explanation
+from midgebillon.explanation import explain
 from midgebillon.reading import MOST_WORK, read
 from midgebillon.view import view
 
@@ -122,6 +122,9 @@ CASES = [
     ("30: a misspelled name", MARGIN, "if volume > 3 then volume * prize", 0, MOST_WORK),
     ("30: another kind of name", MARGIN, "price * price", 2, MOST_WORK),
     ("30: another case", MARGIN, "if volume * price > 3 Then 1", 0, MOST_WORK),
+    ("30: quotation marks", MARGIN, '"if" volume * price > 3 then 1', 0, MOST_WORK),
+    ("31: a decimal point", ARITHMETIC, "2 * 0.05", 0, MOST_WORK),
+    ("31: nothing is read", "list\n  | number*\n".replace("number*", "part*") + "part\n  | number\n", ",", 0, MOST_WORK),
     ("30: another comment", MARGIN, "if # volume", 0, MOST_WORK),
     ("30: a word forgotten", MARGIN, "if volume * price > 3\n  volume * price", 0, MOST_WORK),
     ("30, 11: a prefix operator that is left", PREFIX, "~ ~ 1", 0, MOST_WORK),
@@ -141,7 +144,7 @@ def explanation(book, text, start, allowance):
     text = text if isinstance(text, bytes) else text.encode()
     found = view(book if isinstance(book, bytes) else book.encode())
     reading = read(found.data, text, start, allowance)
-    said = str(Explanation(reading, found, start, "rule.txt", "rules", allowance))
+    said = explain(reading, found, "rule.txt", "rules")
     return said, reading.answer.refusal, reading.answer.kind
 
 

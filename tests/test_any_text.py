@@ -3,7 +3,7 @@ import random
 import unittest
 
 import explanations
-from midgebillon import MOST_WORK, Explanation, NotationError, check, read, to_text, view
+from midgebillon import MOST_WORK, NotationError, check, explain, read, to_text, view
 from midgebillon.book_listing import listing
 from midgebillon.book_refusal import explained
 from midgebillon.drawing import bracketed, drawing
@@ -49,7 +49,7 @@ class AnyText(unittest.TestCase):
 
     def rule(self, found, text, start, allowance):
         reading = read(found.data, text, start, allowance)
-        said = str(Explanation(reading, found, start, "rule", "book", allowance))
+        said = explain(reading, found)
         self.assertEqual(said == "", reading.refusal is None)
         if reading.refusal:
             self.assertIn(f"(refusal {reading.refusal.value})", said)

@@ -97,6 +97,21 @@ class Command(unittest.TestCase):
         self.assertEqual((found["line"], found["column"], found["tree"]), (1, 11, None))
         self.assertIn("wanted where the text ends: ')'", found["explanation"])
 
+    def test_json_of_a_book_with_problems(self):
+        status, out, _ = run("read", self.file("book", b"e\n  | x\n"), RULE, "--json")
+        problem = json.loads(out)["problems"][0]
+        self.assertEqual((status, problem["line"], problem["column"]), (1, 2, 5))
+
+    def test_long_and_closed_input(self):
+        done = subprocess.run(f"{' '.join(COMMAND)} read {BOOK} - <&-", shell=True, capture_output=True, text=True)
+        self.assertEqual((done.returncode, "Traceback" in done.stderr), (2, False))
+        status, _, said = run("read", BOOK, "/dev/zero")
+        self.assertEqual((status, "(refusal 10)" in said), (1, True))
+
+    def test_a_carriage_return_ends_no_comment(self):
+        self.assertIn("a comment ends at a line feed", run("read", BOOK, "-", given=b"1 // one\r- 2")[2])
+        self.assertNotIn("a comment ends", run("read", BOOK, "-", given=b"1 // one\r\n- 2")[2])
+
     def test_json_of_a_book_that_is_refused(self):
         status, out, _ = run("read", self.file("book", b"\0"), RULE, "--json")
         self.assertEqual((status, json.loads(out)["answer"]["refusal"]), (1, 3))
@@ -173,7 +188,7 @@ class Command(unittest.TestCase):
         self.assertEqual(status, 1)
         self.assertIn(":2:14: 255 is the level of variants that are no operators", said)
         status, out, _ = run("book", "check", self.file("book", b"e\n  | e*\n  | empty\n"))
-        self.assertIn(b"note: e may take nothing", out)
+        self.assertIn(b"book:2:3: note: e may take nothing", out)
 
     def test_encode_and_decode(self):
         target = f"{self.folder.name}/made"
@@ -207,6 +222,11 @@ class Command(unittest.TestCase):
             with open(path, "rb") as file:
                 self.assertEqual(file.read(), data)
         self.assertEqual(run("book", "encode", GRAMMAR, "-o", "-")[1][:3], b"\0\0\1")
+        other = self.file("other", b"e\n")
+        self.assertEqual(run("book", "decode", BOOK, "-o", other)[0], 2)
+        self.assertEqual(run("book", "decode", BOOK, "-o", other, "--force")[0], 0)
+        made = self.file("made", b"\0")
+        self.assertEqual(run("book", "encode", GRAMMAR, "-o", made)[0], 0)
 
     def test_output_that_is_not_written_is_no_success(self):
         hard = self.file("hard", b"1")

@@ -23,7 +23,7 @@ def printed(command, folder):
 class Documents(unittest.TestCase):
     maxDiff = None
 
-    def session(self, name):
+    def followed(self, name):
         """Writes the blocks that are files, and runs those that are commands. How many there were of both."""
         with open(f"{ROOT}/docs/{name}", encoding="utf-8") as file:
             blocks = BLOCK.findall(file.read())
@@ -43,7 +43,7 @@ class Documents(unittest.TestCase):
         return files, commands
 
     def test_first_hour(self):
-        files, commands = self.session("FIRST_HOUR.md")
+        files, commands = self.followed("FIRST_HOUR.md")
         self.assertGreater(files, 5)
         self.assertGreater(commands, 12)
 

@@ -2,11 +2,10 @@
 import unittest
 
 import explanations
-from midgebillon import ErrorKind, Reading, Refusal, decode, read
-from midgebillon.explanation import Explanation
+from midgebillon import ErrorKind, Reading, Refusal, decode, explain, read
 from midgebillon.picture import line_and_column, picture
 from midgebillon.reading import last_end
-from midgebillon.view import View, view
+from midgebillon.view import view
 from midgebillon.wanted import wanted
 from vectors import vectors
 
@@ -25,7 +24,7 @@ class Explanations(unittest.TestCase):
 
     def test_short_lists(self):
         reading = Reading(b"", b"", (1, 0, 0, 0, 0, 0, 0), [], [])
-        self.assertIn("(refusal 1)", str(Explanation(reading, view(b"e\n"), 0, "rule", "book")))
+        self.assertIn("(refusal 1)", explain(reading, view(b"e\n")))
 
     def test_titles_say_what_is_met(self):
         for title, *case in explanations.CASES:
@@ -42,7 +41,7 @@ class Explanations(unittest.TestCase):
             count += 1
             book, text = bytes.fromhex(v["book"]), bytes.fromhex(v["text"])
             reading = read(book, text, v["start"], v["allowance"])
-            said = str(Explanation(reading, View(book), v["start"], "rule", "book", v["allowance"]))
+            said = explain(reading)
             self.assertIn(f"(refusal {reading.answer.refusal})", said)
             if reading.answer.refusal in (11, 30):
                 place = reading.answer.place

@@ -5,7 +5,7 @@ from midgebillon import check, decode, encode, from_text, to_text
 from midgebillon.book_refusal import explained
 from midgebillon.notation import is_text
 from midgebillon.notation_tokens import NotationError
-from midgebillon.notes import notes
+from midgebillon.notes import notes, placed_notes
 from midgebillon.view import view
 from random_books import random_book
 from vectors import ROOT, accepted_books
@@ -123,8 +123,22 @@ PROBLEMS = [
     ("e\n  | e ; left 1 right 2\n", 2, 16, "said twice"),
     ("e\n  | e ; left 1, passing\n", 2, 15, "no commas"),
     ("e\n  | e ; pasing\n", 2, 9, "did you mean passing?"),
-    ("e\n  | $\n", 2, 5, "no step begins so"),
-    ("e\n\t| $\n", 2, 11, "no step begins so"),
+    ("e\n  | $\n", 2, 5, "'$'"),
+    ("e\n\t| $\n", 2, 11, "'$'"),
+    ("e\n  | e - e ; left 1\n", 2, 7, "'-'"),
+    ("e\n  | \u2018-\u2019\n", 2, 5, "another character than an apostrophe"),
+    ("e\n  | [ e ]\n", 2, 5, "amount?"),
+    ("e\n  | \u03b5\n", 2, 5, "empty"),
+    ("e\n  | \u00e9\n", 2, 5, "no step begins so"),
+    ("e\n  | NUMBER\n", 2, 5, "did you mean number?"),
+    ("e\n  | e '-' e LEFT 1\n", 2, 13, "a semicolon stands before left"),
+    ("e\n  | if e\n", 2, 5, 'for the word, write "if"'),
+    ("e\n  | name\n", 2, 5, "variable:1"),
+    ("// a book\ne\n", 1, 1, "a comment begins with #"),
+    ("words\n  if\ne\n", 1, 1, "no words stand on this line"),
+    ("words: if\ne\n", 1, 1, "behind words stands a space"),
+    ("word if\ne\n", 1, 6, "did you mean words?"),
+    ("names a: 0\ne\n", 1, 7, "right behind a colon: a:0"),
 ]
 
 # A text that the notation takes and the reader's check refuses: the refusal, line, column, a part of what is said.
@@ -156,11 +170,17 @@ NOTES = [
     ("e\n  | e\n", "nothing can be read as e: each of its variants needs what can't be read"),
     ("e\n  | number f?\nf\n", "nothing can be read as f: it has no variants"),
     ("e\n  | number\nf\n  | number\n", "e doesn't lead to f"),
-    ("e\n  | e*\n  | empty\n", "e may take nothing, so e* in variant 0"),
-    ("e\n  | number\n  | e\n", "variant 1 makes e of e alone"),
-    ("e\n  | number\n  | e '-' e\n", "variant 1, e '-' e, has no level"),
-    ("e\n  | number\n  | '~' e\n  | e '-' e ; left 1\n", "variant 1, '~' e, has no level"),
-    ("e\n  | number\n  | e '!'\n  | '~' e ; right 2\n", "variant 1, e '!', has no level"),
+    ("e\n  | e*\n  | empty\n", "book:2:3: e may take nothing, so e* is"),
+    ("e\n  | number\n  | e\n", "book:3:3: it makes e of e"),
+    ("e\n  | t\n  | number\nt\n  | e\n", "book:2:3: it makes e of e"),
+    ("e\n  | number\n  | e*e\n", "book:3:3: it makes e of e"),
+    ("e\n  | s? e\n  | number\ns\n  | '-'\n", "book:2:3: it makes e of e"),
+    ("e\n  | number\n  | e '-' e\n", "book:3:3: e '-' e has no level"),
+    ("e\n  | number\n  | '~' e ; left 2\n", "book:3:3: an operator before its operand that is left"),
+    ("e\n  | number\n  | e '!' ; right 2\n", "book:3:3: an operator behind its operand that is right"),
+    ("e\n  | number\n  | e '-' e ; left 1\n  | e '+' e ; right 1\n", "book:4:3: level 1 has another associativity"),
+    ("e\n  | number\n  | '~' e\n  | e '-' e ; left 1\n", "'~' e has no level"),
+    ("e\n  | number\n  | e '!'\n  | '~' e ; right 2\n", "e '!' has no level"),
     ("words kg\ne\n  | number\n", "the word kg is in no variant"),
     ("names x:1\ne\n  | variable:2\n", "no name has kind 2"),
     ("names x:1 x:2\ne\n  | variable:1\n", "no name has kind 1"),
@@ -173,7 +193,8 @@ class Notes(unittest.TestCase):
         for text, part in NOTES:
             found = view(text.encode())
             self.assertIsNone(check(found.data))
-            self.assertTrue(any(part in note for note in notes(found)), (text, notes(found)))
+            placed = [f"{place}: {note}" for place, note in placed_notes(found, "book")]
+            self.assertTrue(any(part in note for note in placed), (text, placed))
 
     def test_a_good_book_has_none(self):
         for name in ("rules.grammar", "rules.book"):
@@ -205,6 +226,11 @@ class Problems(unittest.TestCase):
         data = b"e\n  | number  # \x1a\n"
         said = explained(*check(data), view(data), "book")
         self.assertIn("line 2 has a control character", said)
+
+    def test_every_word_of_a_line_is_told(self):
+        with self.assertRaises(NotationError) as raised:
+            from_text('e\n  | "if" e "then" f\n')
+        self.assertEqual(len(raised.exception.problems), 3)
 
     def test_every_line_with_a_problem_is_told(self):
         with self.assertRaises(NotationError) as raised:

@@ -1,6 +1,7 @@
 """The Python package: the library's answers as they are, trees, threads."""
 import doctest
 import os
+import pickle
 import subprocess
 import sys
 import threading
@@ -70,6 +71,18 @@ class Readings(unittest.TestCase):
         for words in ((source.data, "7"), (source.text, b"7"), (source.data, b"7", "e"), (source.data, b"7", 0, "1")):
             with self.assertRaisesRegex(TypeError, "has to be"):
                 read(*words)
+
+    def test_a_reading_can_be_pickled(self):
+        source = from_text("e\n  | number\n")
+        reading = read(source, b"7")
+        self.assertEqual(pickle.loads(pickle.dumps(reading)).line(), reading.line())
+
+    def test_a_text_for_a_book(self):
+        source = from_text("e\n  | number\n")
+        self.assertEqual(view(source.text).data, source.data)
+        self.assertIn("has to be encoded first", midgebillon.explain(read(source.text.encode(), b"7")))
+        with self.assertRaisesRegex(TypeError, "has to be a str"):
+            from_text(source.text.encode())
 
     def test_a_library_without_proofs_warns(self):
         script = "import midgebillon; midgebillon.check(b'')"

@@ -6,7 +6,7 @@
     ...   | number
     ...   | expression '-' expression ; left 1
     ... ''')
-    >>> reading = midgebillon.read(source.data, b"5 - 3 - 1")
+    >>> reading = midgebillon.read(source, b"5 - 3 - 1")
     >>> print(reading.value)
     (1 (1 (0 5) (0 3)) (0 1))
     >>> minus, fives = reading.value, reading.value.items[0].items[0]
@@ -15,10 +15,10 @@
 
 A refusal has a number and a name; an explanation has its place and what was wanted there:
 
-    >>> reading = midgebillon.read(source.data, b"5 - x")
+    >>> reading = midgebillon.read(source, b"5 - x")
     >>> print(reading.refusal)
     refusal 31, none whole
-    >>> print(midgebillon.Explanation(reading, midgebillon.View(source.data, source), 0, "rule", "book"))
+    >>> print(midgebillon.explain(reading, source))
     rule:1:3: the rule is read up to here, and the rest of it is left over (refusal 31)
         5 - x
           ^
@@ -33,7 +33,7 @@ The reading itself is the library's, which is proved; this package, with the not
 not. Where the library was built without its proofs there is a warning, `NotProved`.
 """
 from .book import Book, decode, encode
-from .explanation import Explanation
+from .explanation import explain
 from .library import NoLibrary, NotProved
 from .notation import to_text
 from .notation_reader import Source, from_text
@@ -47,7 +47,7 @@ __version__ = "0.1.0"
 
 __all__ = [
     *("MOST_WORK", "Answer", "Parse", "Reading", "check", "furthest", "read"),
-    *("Error", "ErrorKind", "Refusal", "Explanation"),
+    *("Error", "ErrorKind", "Refusal", "explain"),
     *("Absent", "Identifier", "List", "Number", "Tree", "Variable", "Variant", "printed"),
     *("Book", "decode", "encode", "NotationError", "Source", "from_text", "to_text", "View", "view"),
     *("NoLibrary", "NotProved"),

@@ -1,5 +1,6 @@
 """Why the reader's check refuses a book (3 to 8), in words: which field, what it is, what it may be."""
 from . import book as books
+from .notation import is_text
 from .notation_tokens import shown
 from .refusal import Refusal
 
@@ -8,7 +9,7 @@ KINDS = f"a kind is 0 to {books.LAST_KIND}"
 
 # What the fields are called, and their ranges.
 FIELDS = {
-    ("word", "reserved"): ("whether word {n} is reserved", "0 or 1"),
+    ("word", "reserved"): ("the byte that says whether word {n} is reserved", "0 or 1"),
     ("word", "length"): ("the length of word {n}", "1 to 15"),
     ("word", "spelling"): ("the spelling of word {n}", ""),
     ("name", "kind"): ("the kind of name {n}", "0 to 7"),
@@ -18,7 +19,7 @@ FIELDS = {
     ("nonterminal", "variants"): ("the number of variants of nonterminal {n}", "0 to 16, and 0 with mark 2"),
     ("variant", "level"): ("the level of variant {n}", "0 to 255"),
     ("variant", "associativity"): ("the associativity of variant {n}", "0 to 3"),
-    ("variant", "flags"): ("the flags of variant {n}", "0 to 3"),
+    ("variant", "flags"): ("the byte of flags of variant {n}", "0 to 3"),
     ("variant", "steps"): ("the number of steps of variant {n}", "0 to 8"),
     ("step", "kind"): ("the kind of step {n}", "0 to 13"),
     ("step", "a"): ("byte a of step {n}", ""),
@@ -132,7 +133,9 @@ def explained(refusal, place, view, file):
 
 
 def _text_after_all(data):
-    """A remark on a file that was meant as text, and has a control character that text has not."""
+    """A remark on bytes that were meant as text: the notation, or with a control character that text has not."""
+    if data and is_text(data):
+        return "\nThe book looks like text: it has to be encoded first."
     printable = sum(32 <= byte < 127 or byte in b"\t\n\r" for byte in data)
     if b"\n" not in data or printable < 0.8 * len(data):
         return ""

@@ -12,12 +12,12 @@ from . import book as books
 from .book_listing import listing
 from .book_refusal import explained
 from .drawing import drawing
-from .explanation import Explanation
+from .explanation import explain
 from .json_form import as_json
 from .library import LARGEST, ROOT, NoLibrary, NotProved, loaded
-from .notation import to_text
+from .notation import is_text, to_text
 from .notation_tokens import NotationError
-from .notes import notes
+from .notes import placed_notes
 from .picture import line_and_column
 from .reading import MOST_WORK, check, read
 from .tree import node_count, printed
@@ -25,6 +25,7 @@ from .view import view
 
 VALUE, REFUSED, MISUSE = 0, 1, 2
 LONGEST_LINE = 1 << 24
+LONGEST_FILE = 1 << 20  # no rule is as long, and no book
 PATIENCE = 1.0  # seconds before a progress line
 
 
@@ -38,12 +39,14 @@ def say(words):
 
 # ---- Files
 def load(path):
-    """All bytes of a file, or of standard input for -."""
+    """The bytes of a file, or of standard input for -; of a longer one so many that it is too long for any use."""
     try:
-        if path == "-":
-            return sys.stdin.buffer.read()
-        with open(path, "rb") as file:
-            return file.read()
+        if path != "-":
+            with open(path, "rb") as file:
+                return file.read(LONGEST_FILE)
+        if sys.stdin is None:
+            raise Misuse("standard input is closed")
+        return sys.stdin.buffer.read(LONGEST_FILE)
     except OSError as error:
         raise Misuse(f"{path}: {error.strerror or error}") from None
 
@@ -52,15 +55,17 @@ def called(path):
     return "standard input" if path == "-" else path
 
 
-def save(path, data, source):
-    """Writes to a file, or to standard output without one or for -. What is read isn't overwritten."""
+def save(path, data, options):
+    """Writes to a file, or to standard output without one or for -. A book that somebody wrote isn't overwritten."""
     if path in (None, "-"):
         if sys.stdout.isatty() and isinstance(data, bytes):
             raise Misuse("a book in bytes isn't for a terminal: name a file with -o FILE")
         sys.stdout.buffer.write(data if isinstance(data, bytes) else data.encode())
         return
-    if source != "-" and os.path.exists(path) and os.path.samefile(path, source):
+    if options.book != "-" and os.path.exists(path) and os.path.samefile(path, options.book):
         raise Misuse(f"{path}: this is the book itself: name another file with -o")
+    if os.path.isfile(path) and os.path.getsize(path) and is_text(load(path)) and not options.force:
+        raise Misuse(f"{path}: a text is there already: name another file with -o, or say --force")
     try:
         with open(path, "wb") as file:
             file.write(data if isinstance(data, bytes) else data.encode())
@@ -106,8 +111,8 @@ def label_library():
 # ---- read
 def start_number(book, start):
     """A start by its number, or by the name of a nonterminal."""
-    if start.isascii() and start.isdecimal():
-        return min(int(start[-20:]) if len(start) < 20 else LARGEST, LARGEST)  # no book has so many
+    if start.isascii() and start.isdecimal() and len(start) <= len(str(LARGEST)) and int(start) <= LARGEST:
+        return int(start)
     if check(book.data):
         return 0  # the refusal of the book comes before that of the start
     if start not in book.names:
@@ -157,9 +162,10 @@ class Reader:
             text = load(path)
         except Misuse as misuse:
             return self.unread(path, misuse)
-        reading = read(self.book.data, text, self.start, self.options.allowance)
-        words = (reading, self.book, self.start, called(path), self.book_file, self.options.allowance)
-        self.print(reading, path, Explanation(*words))
+        if b"//" in text and b"\r" in text.replace(b"\r\n", b""):
+            say(f"midgebillon: note: {called(path)} has carriage returns alone, and a comment ends at a line feed")
+        reading = read(self.book, text, self.start, self.options.allowance)
+        self.print(reading, path, explain(reading, self.book, called(path), self.book_file))
         return VALUE if reading.refusal is None else REFUSED
 
     def unread(self, path, misuse):
@@ -173,7 +179,7 @@ class Reader:
 
     def print(self, reading, path, explanation):
         if self.options.json:
-            print(as_json(reading, self.book, called(path), str(explanation), loaded().proved))
+            print(as_json(reading, self.book, called(path), explanation, loaded().proved))
         elif self.options.line:
             line = reading.line(LONGEST_LINE)
             print(line.decode().rstrip("\n") if line else f"the line has more than {LONGEST_LINE} bytes")
@@ -234,8 +240,8 @@ def command_check(options):
     counts = [(len(records.words), "word"), (len(records.names), "name"), (len(records.nonterminals), "nonterminal")]
     counts += [(len(records.variants), "variant"), (steps, "step"), (len(book.data), "byte")]
     print("accepted: " + ", ".join(f"{count} {what}{'s' * (count != 1)}" for count, what in counts))
-    for note in notes(book):
-        print(textwrap.fill(f"note: {note}", 100, subsequent_indent="      "))
+    for place, note in placed_notes(book, called(options.book)):
+        print(textwrap.fill(f"{place}: note: {note}", 100, subsequent_indent="    ", break_long_words=False))
     label_library()
     return VALUE
 
@@ -244,7 +250,7 @@ def command_encode(options):
     book = accepted_book(options.book)
     if book is None:
         return REFUSED
-    save(options.output, book.data, options.book)
+    save(options.output, book.data, options)
     return VALUE
 
 
@@ -252,7 +258,7 @@ def command_decode(options):
     book = accepted_book(options.book)
     if book is None:
         return REFUSED
-    save(options.output, book.source.text if book.source else to_text(book.book), options.book)
+    save(options.output, book.source.text if book.source else to_text(book.book), options)
     return VALUE
 
 
@@ -273,18 +279,18 @@ examples:
   midgebillon read rules.book rule.txt --start 2     from nonterminal 2, or --start amount by its name
   midgebillon read rules.book *.txt --line           document 01's line for each rule
 
-The exit status is 0 if every rule has a value, 1 if one is refused, 2 for misuse or a file that can't be read.
-docs/READING.md tells what each refusal means."""
+The exit status is 0 if every rule has a value, 1 if one is refused, 2 for misuse, for a file that can't be read, and for
+output that can't be written. docs/READING.md tells what each refusal means."""
 
 BOOK = """
 examples:
   midgebillon book check rules.grammar               whether the reader accepts it, or where it is wrong
   midgebillon book encode rules.grammar -o rules.book
-  midgebillon book decode rules.book -o rules.grammar
+  midgebillon book decode rules.book -o decoded.grammar
   midgebillon book show rules.book                   byte by byte, with what each says
 
 A book is in bytes or in the notation; each command takes either. docs/BOOK.md has both.
-The exit status is 0, or 1 if the book is refused, or 2 for misuse or a file that can't be read."""
+The exit status is 0, or 1 if the book is refused, or 2 for misuse and for files that can't be read or written."""
 
 
 def _raw(parsers, name, words, examples):
@@ -327,6 +333,7 @@ def parser():
         action.add_argument("book", metavar="BOOK", help="a book's file, in either form; - is standard input")
         if name in ("encode", "decode"):
             action.add_argument("-o", dest="output", metavar="FILE", help="write there, and not to standard output")
+            action.add_argument("--force", action="store_true", help="overwrite a text that is there already")
         action.set_defaults(run=run)
     return whole
 
@@ -340,6 +347,9 @@ def command(words):
     try:
         return options.run(options)
     except NotationError as error:
+        if getattr(options, "json", False):
+            problems = [{"line": line, "column": column, "message": said} for line, column, said in error.places()]
+            print(json.dumps({"book": called(options.book), "problems": problems}))
         say(error.shown(called(options.book)))
         return REFUSED
     except (Misuse, NoLibrary) as error:

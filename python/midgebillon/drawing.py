@@ -42,7 +42,7 @@ def drawing(view, tree, most=MOST_LINES):
     return lines
 
 
-def bracketed(view, tree, most=400):
+def bracketed(view, tree, most=400, with_braces=True):
     """A tree as the text that it was read from, with one space between tokens and braces around each variant within
     another that has more than one token; cut where it is long."""
     out, todo, length = [], [tree], 0
@@ -53,7 +53,7 @@ def bracketed(view, tree, most=400):
             length += len(node) + 1
         elif isinstance(node, Variant):
             tokens = list(_written(view, node))
-            braces = node is not tree and len(tokens) > 1
+            braces = with_braces and node is not tree and len(tokens) > 1
             todo += reversed(["{"] * braces + tokens + ["}"] * braces)
         elif isinstance(node, List):
             todo += reversed(node.items)

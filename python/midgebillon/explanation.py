@@ -12,6 +12,7 @@ from .picture import line_and_column, picture
 from .reading import MOST_WORK, last_end, skip
 from .refusal import ErrorKind, Refusal
 from .tree import node_count, printed
+from .view import as_view
 from .wanted import Part, Terminal
 
 LONGEST_VALUE = 200  # of a value in a sentence
@@ -32,9 +33,16 @@ WANTED = (
 
 LEVELS = (
     "The steps of the book fit the whole rule, but its levels and associativities (or a variable that claims a name)"
-    " forbid it: an operator that is `none`, say, can't stand beside another of its level, and one that stands before"
-    " its operand has to be `right` to stand before itself."
+    " forbid it. The greater level binds tighter; `left` groups to the left, `right` to the right, `none` not at all. The"
+    " operators of the book:"
 )
+# What is meant by characters that word processors write.
+ASCII = {
+    **dict.fromkeys("\u2010\u2011\u2012\u2013\u2014\u2212", "-"),
+    **dict.fromkeys("\u00d7\u00b7\u2217\u22c5", "*"),
+    **dict.fromkeys("\u00f7\u2215", "/"),
+    "\u00a0": "a space",
+}
 FORBIDDEN = "the levels and associativities of the book forbid what stands here"
 MEND = (
     "The book has to say which one is meant: by the level or the associativity of an operator, by a word that is"
@@ -81,9 +89,9 @@ def _at(text, place, file, said):
 class Explanation:
     """What is said of one reading."""
 
-    def __init__(self, reading, view, start, file, book_file, allowance=MOST_WORK):
-        self.reading, self.view, self.start, self.file, self.book_file = reading, view, start, file, book_file
-        self.allowance, self.text = allowance, reading.text
+    def __init__(self, reading, view, file, book_file):
+        self.reading, self.view, self.file, self.book_file = reading, view, file, book_file
+        self.text, self.start, self.allowance = reading.text, reading.start, reading.allowance
 
     def __str__(self):
         refusal = self.reading.refusal
@@ -94,7 +102,7 @@ class Explanation:
         number = f" (refusal {refusal.value})"
         if refusal.of_limit:
             return self._limit(number)
-        return {
+        said = {
             Refusal.SHORT_LISTS: self._call,
             Refusal.BAD_ALLOWANCE: self._call,
             Refusal.UNKNOWN_START: self._start,
@@ -104,6 +112,7 @@ class Explanation:
             Refusal.NONE_WHOLE: self._none_whole,
             Refusal.DIFFERENT_VALUES: self._different,
         }[refusal](number)
+        return f"{said}\n{ZEROS}" if 0 in self.text and refusal in (Refusal.NO_PARSE, Refusal.NONE_WHOLE) else said
 
     # ---- The call and the text
     def _call(self, number):
@@ -127,19 +136,25 @@ class Explanation:
             return f"{self.file}: the rule begins with a byte order mark: save it without one{number}"
         place = self.reading.answer.place
         found = self.text[place:].decode("utf-8", "replace")[0]
-        name = unicodedata.name(found, "").lower()
+        guess = self.text[place : place + 1].decode("cp1252", "replace")  # on many desks
+        if found == "\ufffd" and guess in ASCII:
+            found = guess
+        name, meant = unicodedata.name(found, "").lower(), ASCII.get(found)
         shown = f"{found} ({name})" if found.isprintable() and not found.isspace() else name
         what = shown if name and found != "\ufffd" else "this"
-        return _at(self.text, place, self.file, f"{what} is no character of ASCII, and a rule has no others{number}")
+        asked = f"; did you mean {meant}?" if meant else ""
+        return self._at(place, f"{what} is no character of ASCII, and a rule has no others{asked}{number}")
 
     # ---- The limits
     def _limit(self, number):
         refusal, units = self.reading.refusal, f"{self.allowance:,} unit{'s' * (self.allowance != 1)}"
-        said = [UNKNOWN, ADVICE[refusal]]
+        said = [UNKNOWN]
+        if refusal in (Refusal.TOO_DEEP, Refusal.TOO_MANY_PARSES):
+            said += [f"In {self.book_file}, variant {number}: {note}" for number, note in growing(self.view)]
+        if len(said) == 1:  # else the book is at fault, and not the rule
+            said.append(ADVICE[refusal])
         if refusal == Refusal.NO_UNIT and self.allowance < MOST_WORK:
             said.append(f"A greater allowance may do: --allowance {MOST_WORK}.")
-        if refusal in (Refusal.TOO_DEEP, Refusal.TOO_MANY_PARSES):
-            said += [f"In {self.book_file}: {note}" for note in growing(self.view)]
         return "\n".join([f"{self.file}: {LIMITS[refusal].format(units=units)}{number}", *map(_filled, said)])
 
     # ---- 30
@@ -149,7 +164,7 @@ class Explanation:
         error, hints = self.reading.error, Hints(self.view, self.text, self.start)
         found = hints.wanted
         if found is not None and found.fits:
-            return f"{self._at(error.place, FORBIDDEN + number)}\n{_filled(LEVELS)}"
+            return "\n".join([self._at(error.place, FORBIDDEN + number), *self._levels()])
         if found is not None and found.symbols and found.place == error.place and error.kind in WANTED:
             return self._wanted(hints, error.place, found.symbols, number)
         return "\n".join([self._error(hints, number), *self._further(hints, error.place)])
@@ -191,18 +206,28 @@ class Explanation:
     # ---- What the steps would take
     def _further(self, hints, place):
         """What the steps want at the furthest place that they reach, if that isn't before this one."""
-        found, zeros = hints.wanted, [ZEROS] if 0 in self.text else []
+        found = hints.wanted
         if found is None or not found.symbols or found.place < place:
-            return zeros
+            return []
         if found.fits:
-            return [_filled(LEVELS)]
+            return self._levels()
         if found.place > place:
             there = self._wanted(hints, found.place, found.symbols)
-            return [f"If the rule is meant to go on, the steps of the book fit up to another place:\n{there}", *zeros]
+            return [f"If the rule is meant to go on, the steps of the book fit up to another place:\n{there}"]
         if self.reading.error is not None and len(found.symbols) == 1:
-            return zeros  # the error has told it
+            return []  # the error has told it
         said = hints.said(place, found.symbols)
-        return [said[0].upper() + said[1:], *map(_filled, hints.begun(found.symbols)), *zeros]
+        return [said[0].upper() + said[1:], *map(_filled, hints.begun(found.symbols))]
+
+    def _levels(self):
+        """That levels forbid the rule, and all levels of the book."""
+        variants = sorted(enumerate(self.view.book.variants), key=lambda each: each[1].level)
+        listed = [
+            f"  {books.ASSOCIATIVITIES[variant.associativity]} {variant.level}: {self.view.steps(number)}"
+            for number, variant in variants
+            if variant.level != books.DEFAULT_LEVEL
+        ]
+        return [_filled(LEVELS), *listed]
 
     def _at(self, place, said):
         return _at(self.text, place, self.file, said)
@@ -212,19 +237,20 @@ class Explanation:
         longest = max(self.reading.parses, key=lambda parse: parse.rest)
         place = skip(self.text, longest.rest)
         said = f"the rule is read up to here, and the rest of it is left over{number}"
-        lines = [self._at(place, said), f"Read so far: {self._value(longest.value)}"]
+        lines = [self._at(place, said), f"Read so far: {self._value(longest.value, False)}"]
         return "\n".join(lines + self._further(Hints(self.view, self.text, self.start), place))
 
-    def _value(self, value):
-        """A value in its text's words and as it is printed, where that isn't too long."""
-        written = bracketed(self.view, value, LONGEST_VALUE)
+    def _value(self, value, braces):
+        """A value in its text's words, with or without braces, and as it is printed, where that isn't too long."""
+        written = bracketed(self.view, value, LONGEST_VALUE, braces) or "nothing"
         return f"{written}, as the value {printed(value)}" if node_count(value) < LONGEST_VALUE else written
 
     # ---- 32
     def _different(self, number):
         values = self.reading.whole_values
-        lines = [f"{self.file}: the rule can be read in {len(values)} ways with different values{number}"]
-        lines += [f"  {i}.  {self._value(value)}" for i, value in enumerate(values, 1)]
+        said = f"the rule can be read in {len(values)} ways with different values{number}"
+        lines = [f"{self.file}: {said}", "With braces around what belongs together:"]
+        lines += [f"  {i}.  {self._value(value, True)}" for i, value in enumerate(values, 1)]
         lines += self._part(values[0], values[1])
         lines.append(_filled(MEND))
         return "\n".join(lines)
@@ -239,3 +265,9 @@ class Explanation:
         drawn = [f"  {'>' if i == at else ' '} {cut(l):{width}}  {cut(r)}".rstrip() for i, (l, r) in enumerate(shown)]
         before, behind = ["    ..."] * (parting > ABOVE), ["    ..."] * (parting + BELOW < len(rows))
         return ["The first two, side by side; they part at >", *before, *drawn, *behind]
+
+
+def explain(reading, book=None, file="rule", book_file="book"):
+    """Why a reading has no value, in words; nothing if it has one. With the book as `from_text` or `view` gives it, the
+    names of its text are used."""
+    return str(Explanation(reading, as_view(reading.book if book is None else book), file, book_file))

@@ -1,19 +1,23 @@
 """What stands at a place of a text, and what the steps of the book want there, in words."""
 import difflib
+import re
 
 from . import book as books
+from .reading import last_end
 from .view import one_of
 from .wanted import DIGITS, Grammar, Part, Tokens, wanted
 
 LARGEST_NUMBER = 2**64 - 1
 COMMENTS = (b"#", b"/*")  # of other languages
+CLOSE = 0.7  # how alike two spellings are for one to be meant
+DECIMAL = re.compile(rb"(?<=[0-9])[.,][0-9]")
 OF_NAMES = {books.IDENTIFIER, books.VARIABLE, books.VARIABLE_OF_KIND}
 
 
 def near(word, known):
     """The one that was perhaps meant, in whatever case."""
     by_case = {each.lower(): each for each in sorted(known, reverse=True)}
-    close = difflib.get_close_matches(word.lower(), by_case, 1) if word and word not in known else []
+    close = difflib.get_close_matches(word.lower(), by_case, 1, CLOSE) if word and word not in known else []
     return [f"did you mean {by_case[close[0]]}?"] if close else []
 
 
@@ -44,8 +48,24 @@ class Hints:
             return [f"{word} is a variable of kind {self.tokens.variables[word]}"]
         if self.text.startswith(COMMENTS, place):
             return ["a comment begins with //"]
-        words = {self.view.book.words[terminal.a].spelling for terminal in first if terminal.kind == books.WORD}
-        return near(word, words | set(self.tokens.variables if kinds & OF_NAMES else ()))
+        if self.text[place : place + 1] in (b"'", b'"'):
+            return ["a rule is written without quotation marks"]
+        if DECIMAL.match(self.text, place):
+            return ["a number is digits alone, without point or comma"]
+        return self._no_name(word, first, kinds)
+
+    def _no_name(self, word, first, kinds):
+        """A remark on a word that is no name and no word that is wanted."""
+        if not word:
+            return ["the rule is empty"] if last_end(self.text) == 0 else []
+        words = self.view.book.words
+        if word in {each.spelling for each in words}:
+            return []
+        wanted_words = {words[terminal.a].spelling for terminal in first if terminal.kind == books.WORD}
+        of_names = bool(kinds & OF_NAMES)
+        unknown = of_names and books.IDENTIFIER not in kinds
+        close = near(word, wanted_words | set(self.tokens.variables if of_names else ()))
+        return [f"{word} is no name of the book"] * unknown + close
 
     def said(self, place, symbols):
         """What would go on at a place, behind a remark on what stands there; but a question comes last."""

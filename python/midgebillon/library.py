@@ -34,7 +34,7 @@ def _bytes(data):
     return [data, len(data)]
 
 
-def _as_bytes(what, data):
+def as_bytes(what, data):
     if not isinstance(data, (bytes, bytearray, memoryview)):
         raise TypeError(f"the {what} has to be bytes, not {type(data).__name__}")
     return bytes(data)
@@ -94,7 +94,6 @@ class Library:
 
     def read(self, book, text, start, allowance):
         """The seven numbers of the answer, the cells and the parses."""
-        book, text = _as_bytes("book", book), _as_bytes("text", text)
         start, allowance = _as_number("start", start), _as_number("allowance", allowance)
         lists = [(ctypes.c_uint32 * size)() for size in (CELLS, PARSES, ANSWER)]
         words = [word for numbers in lists for word in (numbers, len(numbers))]
@@ -103,10 +102,11 @@ class Library:
         return tuple(answer), cells, parses
 
     def line(self, book, text, cells, answer, room):
-        """The printed line, or None where it has more than `room` bytes."""
+        """The printed line, or None where it has more than `room` bytes. The cells are an array."""
         out = ctypes.create_string_buffer(room)
         numbers = (ctypes.c_uint32 * ANSWER)(*answer)
-        words = [*_bytes(book), *_bytes(text), cells, len(cells), numbers, ANSWER, out, room]
+        lent = (ctypes.c_uint32 * len(cells)).from_buffer(cells)
+        words = [*_bytes(book), *_bytes(text), lent, len(lent), numbers, ANSWER, out, room]
         length = self._with_stack(self._functions.midgebillon_print, *words)
         return out.raw[:length] if length else None
 
@@ -138,5 +138,5 @@ def loaded():
             raise NoLibrary(f"the reader's library isn't built yet: {HOW_TO_BUILD}")
         _library = Library(path)
         if _library.proved is False:
-            warnings.warn(f"{path} is NOT PROVED: it was built without the proofs", NotProved, stacklevel=2)
+            warnings.warn(f"{path} is NOT PROVED: it was built without the proofs", NotProved, stacklevel=3)
     return _library

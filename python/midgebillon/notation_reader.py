@@ -9,7 +9,7 @@ from dataclasses import dataclass
 from . import book as books
 from .notation import EMPTY, ENTRIES, MARKS, NOT_FOR_NONTERMINALS
 from .notation_steps import Steps, attributes_of
-from .notation_tokens import LARGEST_BYTE, Line, NotationError, Problem, Span, Token, Wrong, byte, tokens_of
+from .notation_tokens import LARGEST_BYTE, Line, NotationError, Problem, Span, Token, Wrong, byte, near, tokens_of
 
 ENTRY = re.compile(r"[^\s#]+")
 EXAMPLES = {"words": "words kg tonnes", "reserved": "reserved if then", "names": "names price:0 volume:1"}
@@ -28,6 +28,7 @@ class _Reader:
     def __init__(self, text):
         self.text, self.problems, self.spans, self.labels = text, [], {}, []
         self.words, self.names, self.headers, self.lines = [], [], [], []
+        self.variant_lines = []
         self.beyond_a_byte = set()  # the sections whose count is no byte
         offset = 0
         for line in text.split("\n"):
@@ -62,8 +63,14 @@ class _Reader:
     def _entries(self, keyword, line, offset, start):
         if self.headers:
             raise Wrong(Span(offset, offset + start), f"{keyword} stand before the first nonterminal")
+        before = ""
         for found in ENTRY.finditer(line.split("#")[0], start):
-            self._guarded(self._entry, keyword, found.group(), Span(offset + found.start(), offset + found.end()))
+            if not before.endswith(":"):  # else the problem is told of what stands before
+                span = Span(offset + found.start(), offset + found.end())
+                self._guarded(self._entry, keyword, found.group(), span)
+            before = found.group()
+        if not before:
+            raise Wrong(Span(offset + start - len(keyword), offset + start), f"no {keyword} stand on this line")
 
     def _entry(self, keyword, text, span):
         if set(text) & set("\"',"):
@@ -72,8 +79,8 @@ class _Reader:
             return self._add("word", self.words, books.Entry(int(keyword == "reserved"), text), span, span)
         spelling, colon, kind = text.partition(":")
         at = Span(span.start + len(spelling) + 1, span.end)
-        if not colon:
-            raise Wrong(span, f"a name has its kind, 0 to 7, behind a colon: {text}:0")
+        if not colon or not kind:
+            raise Wrong(span, f"a name has its kind, 0 to 7, right behind a colon: {spelling}:0")
         sort = "number" if kind.isascii() and kind.isdecimal() else "other"
         number = byte(Token(sort, kind, at), "the kind of a name", books.LAST_KIND)
         self._add("name", self.names, books.Entry(number, spelling), Span(span.start, at.start - 1), at)
@@ -100,6 +107,10 @@ class _Reader:
 
     def _heading(self, line):
         token = line.take()
+        if token.text == "/":
+            raise Wrong(token.span, "a comment begins with #")
+        if token.text in ENTRIES:
+            raise Wrong(token.span, f"behind {token.text} stands a space, as in `{EXAMPLES[token.text]}`")
         if token.sort != "name":
             message = "a line is a nonterminal's name, a variant behind |, or words, reserved or names"
             raise Wrong(token.span, message)
@@ -121,7 +132,9 @@ class _Reader:
     def _mark(line):
         start = line.here()
         if not line.take_if("("):
-            raise Wrong(start, "a nonterminal's name stands alone on its line; each of its variants below it, behind |")
+            close = near(line.tokens[0].text, ENTRIES)
+            message = f"a nonterminal's name stands alone on its line; each of its variants below it, behind |{close}"
+            raise Wrong(start, message)
         words = []
         while line.next() is not None and not line.is_next(")"):
             words.append(line.take().text)
@@ -134,7 +147,7 @@ class _Reader:
     def _variant(self, number, line, steps_before):
         """A variant, and the spans of its bytes and of its steps' bytes."""
         line.take()
-        reader = Steps(self.words, self.names, [name for name, _, _ in self.headers])
+        reader = Steps(self.words, self.names, [name for name, _, _ in self.headers], self.problems)
         steps = []
         if line.next() is None or line.is_next(";"):
             raise Wrong(line.tokens[0].span, f"a variant without steps is written | {EMPTY}")
@@ -162,6 +175,7 @@ class _Reader:
             if variant is None:
                 continue
             self.labels.append(comment)
+            self.variant_lines.append(line.tokens[0].span)
             groups[owner].append((variant, line.tokens[0].span))
             number, steps = number + 1, steps + len(variant.steps)
             step_lines += [line.tokens[0].span] * len(variant.steps)
@@ -184,13 +198,14 @@ class _Reader:
 
 @dataclass(frozen=True)
 class Source:
-    """A book in the notation: its bytes, its nonterminals' names, its variants' comments, and the part of the text that
-    made each field."""
+    """A book in the notation: its bytes, its nonterminals' names, its variants' comments and lines, and the part of the
+    text that made each field."""
 
     text: str
     data: bytes
     names: tuple
     labels: tuple
+    lines: tuple
     spans: dict
 
     def span(self, field):
@@ -200,7 +215,10 @@ class Source:
 
 def from_text(text):
     """A book in the notation. NotationError where it is none."""
+    if not isinstance(text, str):
+        raise TypeError(f"the text of a book has to be a str, not {type(text).__name__}")
     reader = _Reader(text)
     book = reader.read()
     names = tuple(name for name, _, _ in reader.headers)
-    return Source(text, books.encode(book), names, tuple(reader.labels), reader.spans)
+    lines = tuple(reader.variant_lines)
+    return Source(text, books.encode(book), names, tuple(reader.labels), lines, reader.spans)

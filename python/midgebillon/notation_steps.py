@@ -3,17 +3,18 @@ import re
 
 from . import book as books
 from .notation import ENTRIES, NOT_FOR_NONTERMINALS, PLAIN_STEPS, SUFFIXES
-from .notation_tokens import Span, Token, Wrong, near
+from .notation_tokens import Problem, Span, Token, Wrong, near
 
 IDENTIFIER = re.compile(r"[A-Za-z_][A-Za-z0-9_]*")
+QUOTES = "\u2018\u2019\u201a\u201c\u201d\u201e`\u00b4"
 ATTRIBUTES = (*books.ASSOCIATIVITIES, "passing", "uncommitted")
 
 
 class Steps:
     """Reads the steps of a variant's line."""
 
-    def __init__(self, words, starting, names):
-        self.words, self.names = words, names
+    def __init__(self, words, starting, names, problems):
+        self.words, self.names, self.problems = words, names, problems
         self.starting = {name.spelling: name.label for name in starting}
 
     def step(self, line):
@@ -45,7 +46,7 @@ class Steps:
         spelling = token.text[1:-1]
         numbers = [i for i, word in enumerate(self.words) if word.spelling == spelling]
         if not numbers or len(token.text) < 2 or token.text[-1] != '"':
-            raise Wrong(token.span, self._no_word(token))
+            return self._wrong(token.span, self._no_word(token))
         if not line.take_if(":"):
             return numbers[0]
         at, number = line.here(), line.number("the number of a word")
@@ -100,16 +101,24 @@ class Steps:
     def _nonterminal(self, token):
         if token.text not in self.names:
             known = [*self.names, *NOT_FOR_NONTERMINALS - set(ENTRIES)]
-            message = f"{token.text} is no nonterminal of this book{near(token.text, known)}"
+            close = near(token.text, known) or f'; for the word, write "{token.text}"'
+            message = f"{token.text} is no nonterminal of this book{close}"
             if any(word.spelling == token.text for word in self.words):
                 message = f'a word stands between quotation marks: "{token.text}"'
-            elif token.text in ATTRIBUTES:
-                message = f"a semicolon stands before {token.text}"
+            elif token.text.lower() in ATTRIBUTES:
+                raise Wrong(token.span, f"a semicolon stands before {token.text.lower()}")
             elif token.text in self.starting:
                 kind = self.starting[token.text]
                 message = f"{token.text} is a starting name: write variable, or variable:{kind} for those of its kind"
-            raise Wrong(token.span, message)
+            elif token.text in ("name", "names"):
+                message = "a starting name is taken by variable, or variable:1 for those of kind 1; any by identifier"
+            return self._wrong(token.span, message)
         return self.names.index(token.text)
+
+    def _wrong(self, span, message):
+        """A problem that doesn't end the line."""
+        self.problems.append(Problem(span, message))
+        return 0
 
     def _refusing(self, token, line):
         following = line.take()
@@ -136,8 +145,16 @@ class Steps:
             return _several(token.text)
         if token.text == "|":
             return "each variant has a line of its own"
+        if token.text in QUOTES:
+            return "this is another character than an apostrophe (') or a quotation mark (\")"
+        if token.text in "[{":
+            return f"an optional part is a nonterminal with ? behind it, as amount?; the character is '{token.text}'"
+        if token.text in "\u03b5\u03bb":
+            return "a variant without steps is written empty"
         if token.text in ("?", "*", ",*", "+"):
             return f"{token.text} stands right behind a nonterminal's name; the character is {_characters(token.text)}"
+        if token.text.isascii():
+            return f"a character stands between apostrophes: '{token.text}' (and a comment begins with #)"
         return "no step begins so; a character stands between apostrophes, a word between quotation marks"
 
 

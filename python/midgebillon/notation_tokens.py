@@ -29,7 +29,14 @@ class NotationError(Exception):
         self.text, self.problems = text, sorted(problems, key=lambda problem: problem.span.start)
         super().__init__(self.shown("book"))
 
+    def places(self):
+        """Each problem's line, column and message."""
+        starts = [len(self.text[: problem.span.start].encode()) for problem in self.problems]
+        data = self.text.encode()
+        return [(*line_and_column(data, start), p.message) for start, p in zip(starts, self.problems)]
+
     def shown(self, file):
+        """All problems, with pictures of their places in the file."""
         return "\n".join(shown(self.text, p.span, p.message, file) for p in self.problems)
 
 
@@ -74,9 +81,10 @@ class Wrong(Exception):
 
 
 def near(name, names):
-    """Did you mean .."""
-    close = difflib.get_close_matches(name, names, 1)
-    return f"; did you mean {close[0]}?" if close else ""
+    """Did you mean .., in whatever case."""
+    by_case = {each.lower(): each for each in names}
+    close = difflib.get_close_matches(name.lower(), by_case, 1)
+    return f"; did you mean {by_case[close[0]]}?" if close else ""
 
 
 def byte(token, what, most=LARGEST_BYTE):

@@ -1,5 +1,9 @@
-"""What looks wrong in a book that is accepted: notes for those who write it. Nothing here is refused."""
+"""What looks wrong in a book that is accepted: notes for those who write it. Nothing here is refused.
+
+A note is a variant's number, or None, and a sentence.
+"""
 from . import book as books
+from .picture import line_and_column
 from .wanted import Grammar, Part, variables
 
 
@@ -9,30 +13,52 @@ def _variants(view):
     return list(zip(range(len(owners)), owners, view.book.variants))
 
 
-def endless_lists(view):
-    grammar = Grammar(view.book)
+# ---- What makes a reading grow without end, or have many ways
+def _endless_lists(view, grammar):
     for number, _, variant in _variants(view):
         for step in variant.steps:
             if step.kind == books.MANY and Part(books.NONTERMINAL, step.a) in grammar.nullable:
-                yield (
-                    f"{view.names[step.a]} may take nothing, so {view.step(step)} in variant {number} is any number of"
-                    " empty ones: where it is reached the reader gives up, with refusal 21 or 22"
+                yield number, (
+                    f"{view.names[step.a]} may take nothing, so {view.step(step)} is any number of empty ones: where it"
+                    " is reached the reader gives up (refusal 21 or 22)"
                 )
+
+
+def _alone(view, grammar):
+    """For each variant that keeps what it finds anew: the nonterminals that it may be, with nothing else."""
+    found = {}
+    for number, owner, variant in _variants(view):
+        symbols = grammar.rules[grammar.of[Part(books.NONTERMINAL, owner)][number - _first(view, owner)]].symbols
+        if variant.associativity in (books.LEFT, books.BOTH):
+            others = lambda i: all(grammar.takes_nothing(symbol) for j, symbol in enumerate(symbols) if j != i)
+            found[number] = {s.a for i, s in enumerate(symbols) if isinstance(s, Part) and others(i)}
+    return found
+
+
+def _first(view, owner):
+    """The number of a nonterminal's first variant."""
+    return sum(len(nonterminal.variants) for nonterminal in view.book.nonterminals[:owner])
+
+
+def _of_itself(view, grammar):
+    alone, owners = _alone(view, grammar), {number: owner for number, owner, _ in _variants(view)}
+    for number, parts in alone.items():
+        reached, todo = set(parts), list(parts)
+        while todo:
+            part = todo.pop()
+            new = {n for v, parts_of in alone.items() if owners[v] == part for n in parts_of} - reached
+            reached |= new
+            todo += new
+        if owners[number] in reached and not view.book.variants[number].passing:
+            name = view.names[owners[number]]
+            yield number, f"it makes {name} of {name} and nothing else, again and again: the reader gives up (refusal 22)"
 
 
 def _is_operand(step, owner):
     return step.kind == books.NONTERMINAL and step.a == owner
 
 
-def itself(view):
-    for number, owner, variant in _variants(view):
-        alone = len(variant.steps) == 1 and _is_operand(variant.steps[0], owner)
-        if alone and not variant.passing and variant.associativity in (books.LEFT, books.BOTH):
-            name = view.names[owner]
-            yield f"variant {number} makes {name} of {name} alone, again and again: the reader gives up (refusal 22)"
-
-
-def without_level(view):
+def _without_level(view, grammar):
     """Operators without a level, where a variant that ends with its own nonterminal meets one that begins with it."""
     operators = [each for each in _variants(view) if len(each[2].steps) > 1]
     begin = {owner for _, owner, variant in operators if _is_operand(variant.steps[0], owner)}
@@ -40,17 +66,40 @@ def without_level(view):
     for number, owner, variant in operators:
         operand = _is_operand(variant.steps[0], owner) or _is_operand(variant.steps[-1], owner)
         if operand and owner in begin & end and variant.level == books.DEFAULT_LEVEL:
-            yield (
-                f"variant {number}, {view.steps(number)}, has no level: a row of operators with it is read in several"
-                " ways, and refused with 32 or 22; say `; left 1`, or another level and associativity"
+            yield number, (
+                f"{view.steps(number)} has no level: a row of operators with it is read in several ways, and refused"
+                " (32 or 22); say `; left 1`, or another level and associativity"
             )
 
 
 def growing(view):
     """The notes on what makes a reading grow without end, or have many ways."""
-    return [*endless_lists(view), *itself(view), *without_level(view)]
+    grammar = Grammar(view.book)
+    return [*_endless_lists(view, grammar), *_of_itself(view, grammar), *_without_level(view, grammar)]
 
 
+# ---- Operators
+def _one_sided(view):
+    for number, owner, variant in _variants(view):
+        if len(variant.steps) < 2 or variant.level == books.DEFAULT_LEVEL:
+            continue
+        before, behind = _is_operand(variant.steps[0], owner), _is_operand(variant.steps[-1], owner)
+        if behind and not before and variant.associativity == books.LEFT:
+            yield number, "an operator before its operand that is left can't stand before itself; right can"
+        if before and not behind and variant.associativity == books.RIGHT:
+            yield number, "an operator behind its operand that is right can't stand behind itself; left can"
+
+
+def _mixed(view):
+    seen = {}
+    for number, owner, variant in _variants(view):
+        if variant.level != books.DEFAULT_LEVEL:
+            first = seen.setdefault((owner, variant.level), number)
+            if view.book.variants[first].associativity != variant.associativity:
+                yield number, f"level {variant.level} has another associativity in variant {first}: rows of both go wrong"
+
+
+# ---- What can't be read, or isn't used
 def _unread(view):
     """Nonterminals that nothing can be read as, by rounds until one adds none to those that something can."""
     grammar, read, before = Grammar(view.book), set(), -1
@@ -61,7 +110,7 @@ def _unread(view):
     for number, nonterminal in enumerate(view.book.nonterminals):
         if Part(books.NONTERMINAL, number) not in read:
             why = "each of its variants needs what can't be read" if nonterminal.variants else "it has no variants"
-            yield f"nothing can be read as {view.names[number]}: {why}"
+            yield None, f"nothing can be read as {view.names[number]}: {why}"
 
 
 def _apart(view):
@@ -74,14 +123,14 @@ def _apart(view):
             todo += new
     for number, name in enumerate(view.names):
         if number not in reached:
-            yield f"{view.names[0]} doesn't lead to {name}: it is read only as a start (--start {name})"
+            yield None, f"{view.names[0]} doesn't lead to {name}: it is read only as a start (--start {name})"
 
 
 def _unused_words(view):
     used = {step.a for variant in view.book.variants for step in variant.steps if step.kind == books.WORD}
     for number, word in enumerate(view.book.words):
         if number not in used and not word.label:
-            yield f"the word {word.spelling} is in no variant"
+            yield None, f"the word {word.spelling} is in no variant"
 
 
 def _no_such_names(view):
@@ -89,11 +138,26 @@ def _no_such_names(view):
     for number, _, variant in _variants(view):
         for step in variant.steps:
             if step.kind == books.VARIABLE_OF_KIND and step.a not in kinds:
-                yield f"{view.step(step)} in variant {number} takes nothing: no name has kind {step.a}"
+                yield number, f"{view.step(step)} takes nothing: no name has kind {step.a}"
             if step.kind == books.VARIABLE and not kinds:
-                yield f"{view.step(step)} in variant {number} takes nothing: the book has no names"
+                yield number, f"{view.step(step)} takes nothing: the book has no names"
 
 
 def notes(view):
     """All notes on an accepted book."""
-    return [*_unread(view), *_apart(view), *growing(view), *_unused_words(view), *_no_such_names(view)]
+    used = [*_unread(view), *_apart(view), *_unused_words(view), *_no_such_names(view)]
+    return [*growing(view), *_one_sided(view), *_mixed(view), *used]
+
+
+def placed_notes(view, file):
+    """The notes with their places: a variant's line, where the book's text has it."""
+    for number, note in notes(view):
+        if number is None:
+            yield file, note
+        elif view.source is None:
+            yield f"{file}, variant {number}", note
+        else:
+            text = view.source.text
+            start = view.source.lines[number].start
+            line, column = line_and_column(text.encode(), len(text[:start].encode()))
+            yield f"{file}:{line}:{column}", note

@@ -1,9 +1,10 @@
 """A text read by a book, through the library."""
+from array import array
 from dataclasses import dataclass
 from typing import NamedTuple
 
 from . import book as books
-from .library import loaded
+from .library import as_bytes, loaded
 from .refusal import Error, ErrorKind, Refusal
 from .tree import trees
 
@@ -56,12 +57,14 @@ def last_end(text):
 
 
 class Reading:
-    """What a call answers. `value` is a tree of midgebillon.tree, or None; then `refusal` says why, and `error` what
-    was wanted in refusal 30."""
+    """What a call answers. `value` is a tree of midgebillon.tree, or None; then `refusal` says why, `error` what was
+    wanted in refusal 30 (`midgebillon.explain` has all of it in words). `parses` are all ways to read the text from its beginning;
+    `answer` has the seven numbers, and `cells` the list, as docs/READING.md tells them."""
 
-    def __init__(self, book, text, answer, cells, parses):
-        self.book, self.text, self.answer, self.cells = book, text, Answer(*answer), cells
-        self._parses = parses
+    def __init__(self, book, text, answer, cells, parses, start=0, allowance=MOST_WORK):
+        self.book, self.text, self.answer = book, text, Answer(*answer)
+        self.cells, self.start, self.allowance = array("I", cells), start, allowance
+        self._parses = array("I", parses)
         self.refusal = Refusal(self.answer.refusal) if self.answer.refusal else None
         self.error = None
         if self.refusal == Refusal.NO_PARSE:
@@ -104,9 +107,12 @@ class Reading:
 
 
 def read(book, text, start=0, allowance=MOST_WORK):
-    """Reads a text by a book, both in bytes, from a nonterminal by its number: the one in `names` of a `Source`."""
+    """Reads a text by a book, both in bytes (or a book as `from_text` or `view` gives it), from a nonterminal by its
+    number."""
+    book = as_bytes("book", getattr(book, "data", book))
+    text = as_bytes("text", text)
     answer, cells, parses = loaded().read(book, text, start, allowance)
-    return Reading(bytes(book), bytes(text), answer, cells, parses)
+    return Reading(book, text, answer, cells, parses, start, allowance)
 
 
 def furthest(errors):
@@ -117,6 +123,6 @@ def furthest(errors):
 
 def check(book):
     """The refusal of a book and its place, or None where it is accepted: a call on an empty text, with one unit."""
-    answer = Answer(*loaded().read(book, b"", 0, 1)[0])
+    answer = Answer(*loaded().read(as_bytes("book", getattr(book, "data", book)), b"", 0, 1)[0])
     refusal = Refusal(answer.refusal) if answer.refusal else None
     return (refusal, answer.place) if refusal and refusal.of_book else None

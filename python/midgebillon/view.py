@@ -3,7 +3,8 @@ import re
 
 from . import book as books
 from .notation import default_names, is_text, step_text, variant_text
-from .notation_reader import from_text
+from .library import as_bytes
+from .notation_reader import Source, from_text
 from .notation_tokens import NotationError, Problem, Span
 from .wanted import Part, variables
 
@@ -86,8 +87,17 @@ class View:
         return step_text(step, self.book.words, self.names)
 
 
+def as_view(book):
+    """The view of a view, of a `Source`, or of bytes."""
+    if isinstance(book, View):
+        return book
+    return View(book.data, book) if isinstance(book, Source) else View(book)
+
+
 def view(data):
-    """The view of a book in either form. NotationError where it is text and no book in the notation."""
+    """The view of a book in either form, or of a str in the notation. NotationError where it is text and no book in the
+    notation."""
+    data = data.encode() if isinstance(data, str) else as_bytes("book", data)
     if not is_text(data):
         return View(data)
     try:
