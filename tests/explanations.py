@@ -124,7 +124,7 @@ CASES = [
     ("30: another case", MARGIN, "if volume * price > 3 Then 1", 0, MOST_WORK),
     ("30: quotation marks", MARGIN, '"if" volume * price > 3 then 1', 0, MOST_WORK),
     ("31: a decimal point", ARITHMETIC, "2 * 0.05", 0, MOST_WORK),
-    ("31: nothing is read", "list\n  | number*\n".replace("number*", "part*") + "part\n  | number\n", ",", 0, MOST_WORK),
+    ("31: nothing is read", "list\n  | part*\n\npart\n  | number\n", ",", 0, MOST_WORK),
     ("30: another comment", MARGIN, "if # volume", 0, MOST_WORK),
     ("30: a word forgotten", MARGIN, "if volume * price > 3\n  volume * price", 0, MOST_WORK),
     ("30, 11: a prefix operator that is left", PREFIX, "~ ~ 1", 0, MOST_WORK),

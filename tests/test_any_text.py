@@ -12,10 +12,10 @@ from midgebillon.notes import notes
 from random_books import random_book
 
 TEXTS = 3000
-MARKS = ["'", '"', "|", ";", ":", "?", "*", ",", "(", ")", "!", "#", "+", " ", "\n", "\t", "-", "\u00e9", "9", "_", ",*"]
+MARKS = [*"'\"|;:?*,()!#+ \n\t-\u00e99_", ",*"]
 WORDS = ["words ", "reserved ", "names ", "x:1 ", "identifier", "number", "variable:3", "!variable", "empty", "left 1"]
 WORDS += ["none 255", "passing", "uncommitted", "'('", '"if"', "(claims variables)", "(identifier)", "\n  | "]
-RULE = ["1", "99999999999999999999", "foo", "(", ")", "-", "*", ",", ">", "//c\n", "\t", "\n", "#", "\0", "\u00e9", "if"]
+RULE = [*"1()-*,>#\t\n\0\u00e9", "99999999999999999999", "foo", "//c\n", "if"]
 
 
 def changed(text, choose):

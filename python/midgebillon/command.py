@@ -279,8 +279,8 @@ examples:
   midgebillon read rules.book rule.txt --start 2     from nonterminal 2, or --start amount by its name
   midgebillon read rules.book *.txt --line           document 01's line for each rule
 
-The exit status is 0 if every rule has a value, 1 if one is refused, 2 for misuse, for a file that can't be read, and for
-output that can't be written. docs/READING.md tells what each refusal means."""
+The exit status is 0 if every rule has a value, 1 if one is refused, 2 for misuse, for a file that can't be read, and
+for output that can't be written. docs/READING.md tells what each refusal means."""
 
 BOOK = """
 examples:

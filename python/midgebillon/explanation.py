@@ -33,8 +33,8 @@ WANTED = (
 
 LEVELS = (
     "The steps of the book fit the whole rule, but its levels and associativities (or a variable that claims a name)"
-    " forbid it. The greater level binds tighter; `left` groups to the left, `right` to the right, `none` not at all. The"
-    " operators of the book:"
+    " forbid it. The greater level binds tighter; `left` groups to the left, `right` to the right, `none` not at all."
+    " The operators of the book:"
 )
 # What is meant by characters that word processors write.
 ASCII = {
@@ -258,7 +258,9 @@ class Explanation:
     def _part(self, first, second):
         """Two trees side by side, with a mark where they first part."""
         rows = list(itertools.zip_longest(drawing(self.view, first), drawing(self.view, second), fillvalue=""))
-        parting = next((i for i, (left, right) in enumerate(rows) if left != right), 0)
+        parting = next((i for i, (left, right) in enumerate(rows) if left != right), None)
+        if parting is None:
+            return []  # they part behind what is drawn
         shown, at = rows[max(0, parting - ABOVE) : parting + BELOW], min(parting, ABOVE)
         width = min(SIDE, max(len(left) for left, _ in shown))
         cut = lambda line: line if len(line) <= SIDE else line[: SIDE - 3] + "..."

@@ -51,7 +51,7 @@ def _of_itself(view, grammar):
             todo += new
         if owners[number] in reached and not view.book.variants[number].passing:
             name = view.names[owners[number]]
-            yield number, f"it makes {name} of {name} and nothing else, again and again: the reader gives up (refusal 22)"
+            yield number, f"it makes {name} of {name} and nothing else, for ever: the reader gives up (refusal 22)"
 
 
 def _is_operand(step, owner):
@@ -96,7 +96,8 @@ def _mixed(view):
         if variant.level != books.DEFAULT_LEVEL:
             first = seen.setdefault((owner, variant.level), number)
             if view.book.variants[first].associativity != variant.associativity:
-                yield number, f"level {variant.level} has another associativity in variant {first}: rows of both go wrong"
+                other = f"level {variant.level} has another associativity in variant {first}"
+                yield number, f"{other}: a row of both isn't read, or in two ways"
 
 
 # ---- What can't be read, or isn't used

@@ -58,8 +58,8 @@ def last_end(text):
 
 class Reading:
     """What a call answers. `value` is a tree of midgebillon.tree, or None; then `refusal` says why, `error` what was
-    wanted in refusal 30 (`midgebillon.explain` has all of it in words). `parses` are all ways to read the text from its beginning;
-    `answer` has the seven numbers, and `cells` the list, as docs/READING.md tells them."""
+    wanted in refusal 30 (`midgebillon.explain` has all of it in words). `parses` are all ways to read the text from its
+    beginning; `answer` has the seven numbers, and `cells` the list, as docs/READING.md tells them."""
 
     def __init__(self, book, text, answer, cells, parses, start=0, allowance=MOST_WORK):
         self.book, self.text, self.answer = book, text, Answer(*answer)
