@@ -48,11 +48,16 @@ class Hints:
             return [f"{word} is a variable of kind {self.tokens.variables[word]}"]
         if self.text.startswith(COMMENTS, place):
             return ["a comment begins with //"]
-        if self.text[place : place + 1] in (b"'", b'"'):
+        if self.text[place : place + 1] in (b"'", b'"') and self.text[place] not in self._characters():
             return ["a rule is written without quotation marks"]
         if DECIMAL.match(self.text, place):
             return ["a number is digits alone, without point or comma"]
         return self._no_name(word, first, kinds)
+
+    def _characters(self):
+        """The codes of all characters that the book's steps take."""
+        steps = [step for variant in self.view.book.variants for step in variant.steps]
+        return {step.a for step in steps if step.kind == books.CHARACTER}.union(*((s.b, s.c) for s in steps))
 
     def _no_name(self, word, first, kinds):
         """A remark on a word that is no name and no word that is wanted."""
