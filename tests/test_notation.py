@@ -135,6 +135,7 @@ PROBLEMS = [
     ("e\n  | if e\n", 2, 5, 'for the word, write "if"'),
     ("e\n  | name\n", 2, 5, "variable:1"),
     ("// a book\ne\n", 1, 1, "a comment begins with #"),
+    ("e\n  | number // digits\n", 2, 12, "a comment begins with #"),
     ("words\n  if\ne\n", 1, 1, "no words stand on this line"),
     ("words: if\ne\n", 1, 1, "behind words stands a space"),
     ("word if\ne\n", 1, 6, "did you mean words?"),

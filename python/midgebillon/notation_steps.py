@@ -154,7 +154,8 @@ class Steps:
         if token.text in ("?", "*", ",*", "+"):
             return f"{token.text} stands right behind a nonterminal's name; the character is {_characters(token.text)}"
         if token.text.isascii():
-            return f"a character stands between apostrophes: '{token.text}' (and a comment begins with #)"
+            comment = "; a comment begins with #" if token.text == "/" else ""
+            return f"a character stands between apostrophes: '{token.text}'{comment}"
         return "no step begins so; a character stands between apostrophes, a word between quotation marks"
 
 
