@@ -8,6 +8,7 @@
 # It needs python3, gcc, g++, pkg-config and cargo. The status is 0 if every test passes.
 set -euo pipefail
 cd "$(dirname "$0")/.."
+export PATH=$PATH:${HOME:-}/.cargo/bin # where cargo is, if it isn't on the path
 library=${1:-target/quick}
 if [ $# = 0 ]; then python3 tools/library.py --quick; fi
 library=$(realpath "$library")
