@@ -8,7 +8,7 @@ import threading
 import unittest
 
 import midgebillon
-from midgebillon import Absent, Error, ErrorKind, Identifier, List, Number, Variable, Variant, from_text, read
+from midgebillon import Absent, Associativity, Error, ErrorKind, Identifier, List, Number, Variable, Variant, from_text, read
 from midgebillon.drawing import bracketed, drawing
 from midgebillon.json_form import tree_json
 from midgebillon.library import Library, NoLibrary, loaded
@@ -50,6 +50,13 @@ class Readings(unittest.TestCase):
                 self.assertEqual(line, b"value " + printed(reading.value).encode() + b"\n")
                 values += 1
         self.assertGreater(values, 100)
+
+    def test_parses(self):
+        source = from_text("e\n  | number\n  | e '-' e ; right 7\n")
+        parses = read(source, b"1-2-3").parses
+        known = [(1, 255, Associativity.BOTH, "(0 1)"), (5, 7, Associativity.RIGHT, "(1 (0 1) (1 (0 2) (0 3)))")]
+        found = [(p.rest, p.level, p.associativity, str(p.value)) for p in parses]
+        self.assertEqual([found[0], found[-1]], known)
 
     def test_every_form(self):
         source = from_text(EVERY_FORM)

@@ -32,7 +32,7 @@ A refusal has a number and a name; an explanation has its place and what was wan
 The reading itself is the library's, which is proved; this package, with the notation for books and all explanations, is
 not. Where the library was built without its proofs there is a warning, `NotProved`.
 """
-from .book import Book, decode, encode
+from .book import Associativity, Book, decode, encode
 from .explanation import explain
 from .library import NoLibrary, NotProved
 from .notation import to_text
@@ -46,7 +46,7 @@ from .view import View, view
 __version__ = "0.1.0"
 
 __all__ = [
-    *("MOST_WORK", "Answer", "Parse", "Reading", "check", "furthest", "read"),
+    *("MOST_WORK", "Answer", "Associativity", "Parse", "Reading", "check", "furthest", "read"),
     *("Error", "ErrorKind", "Refusal", "explain"),
     *("Absent", "Identifier", "List", "Number", "Tree", "Variable", "Variant", "printed"),
     *("Book", "decode", "encode", "NotationError", "Source", "from_text", "to_text", "View", "view"),

@@ -3,9 +3,20 @@
 Nothing here decides whether a book is accepted: the reader's own check does.
 """
 from dataclasses import dataclass
+from enum import IntEnum
 
-LEFT, RIGHT, NONE, BOTH = range(4)
-ASSOCIATIVITIES = ("left", "right", "none", "both")
+
+class Associativity(IntEnum):
+    """How an operator is read beside others of its level: `1-2-3` as `(1-2)-3`, `1-(2-3)`, neither, or either."""
+
+    LEFT = 0
+    RIGHT = 1
+    NONE = 2
+    BOTH = 3
+
+
+LEFT, RIGHT, NONE, BOTH = Associativity
+ASSOCIATIVITIES = tuple(each.name.lower() for each in Associativity)
 
 PLAIN, CLAIMING, IDENTIFIER_MARK = range(3)
 

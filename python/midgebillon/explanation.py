@@ -151,10 +151,10 @@ class Explanation:
         said = [UNKNOWN]
         if refusal in (Refusal.TOO_DEEP, Refusal.TOO_MANY_PARSES):
             said += [f"In {self.book_file}, variant {number}: {note}" for number, note in growing(self.view)]
-        if len(said) == 1:  # else the book is at fault, and not the rule
-            said.append(ADVICE[refusal])
         if refusal == Refusal.NO_UNIT and self.allowance < MOST_WORK:
             said.append(f"A greater allowance may do: --allowance {MOST_WORK}.")
+        elif len(said) == 1:  # else the book is at fault, and not the rule
+            said.append(ADVICE[refusal])
         return "\n".join([f"{self.file}: {LIMITS[refusal].format(units=units)}{number}", *map(_filled, said)])
 
     # ---- 30

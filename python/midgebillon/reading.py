@@ -6,7 +6,7 @@ from typing import NamedTuple
 from . import book as books
 from .library import as_bytes, loaded
 from .refusal import Error, ErrorKind, Refusal
-from .tree import trees
+from .tree import Tree, trees
 
 MOST_WORK = 1_000_000
 PARSE_SIZE = 4
@@ -31,8 +31,8 @@ class Parse:
 
     rest: int
     level: int
-    associativity: int
-    value: object
+    associativity: books.Associativity
+    value: Tree
 
 
 def skip(text, place):
@@ -77,8 +77,8 @@ class Reading:
         made = trees(self.cells, self.text, books.decode(self.book).names)
         numbers = self._parses[: PARSE_SIZE * self.answer.parses]
         for i in range(0, len(numbers), PARSE_SIZE):
-            *head, cell = numbers[i : i + PARSE_SIZE]
-            self.parses.append(Parse(*head, made[cell]))
+            rest, level, associativity, cell = numbers[i : i + PARSE_SIZE]
+            self.parses.append(Parse(rest, level, books.Associativity(associativity), made[cell]))
         if self.refusal is None:
             self.value = made[self.answer.value]
 
