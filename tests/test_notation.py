@@ -186,6 +186,7 @@ NOTES = [
     ("names x:1\ne\n  | variable:2\n", "no name has kind 2"),
     ("names x:1 x:2\ne\n  | variable:1\n", "no name has kind 1"),
     ("e\n  | variable\n", "the book has no names"),
+    ("reserved x\nnames x:1\ne\n  | variable:1\n", "no name has kind 1"),
 ]
 
 

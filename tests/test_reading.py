@@ -8,7 +8,8 @@ import threading
 import unittest
 
 import midgebillon
-from midgebillon import Absent, Associativity, Error, ErrorKind, Identifier, List, Number, Variable, Variant, from_text, read
+from midgebillon import Absent, Associativity, Error, ErrorKind, Identifier, List, Number, Variable, Variant
+from midgebillon import from_text, read
 from midgebillon.drawing import bracketed, drawing
 from midgebillon.json_form import tree_json
 from midgebillon.library import Library, NoLibrary, loaded
