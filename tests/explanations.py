@@ -50,6 +50,7 @@ field (identifier)
 EMPTY = "e\n  | part*\n\npart\n  | empty\n  | number\n"
 NESTED = "e\n  | '[' part ']'\n\npart\n  | number ',' part\n  | number\n"
 PREFIX = "e\n  | number\n  | '~' e  ; left 3\n"
+QUOTED = "rule\n  | '\"' number '\"'\n  | rule '-' rule  ; left 1\n"
 TWO_WAYS = "rule\n  | place\n  | person\n\nplace\n  | identifier\n\nperson\n  | identifier\n"
 
 
@@ -123,7 +124,7 @@ CASES = [
     ("30: another kind of name", MARGIN, "price * price", 2, MOST_WORK),
     ("30: another case", MARGIN, "if volume * price > 3 Then 1", 0, MOST_WORK),
     ("30: quotation marks", MARGIN, '"if" volume * price > 3 then 1', 0, MOST_WORK),
-    ("31: a quotation mark that the book has", "rule\n  | '\"' number '\"'\n", '"1" "', 0, MOST_WORK),
+    ("31: a quotation mark that the book has", QUOTED, '"1" "2"', 0, MOST_WORK),
     ("31: a decimal point", ARITHMETIC, "2 * 0.05", 0, MOST_WORK),
     ("31: nothing is read", "list\n  | part*\n\npart\n  | number\n", ",", 0, MOST_WORK),
     ("30: another comment", MARGIN, "if # volume", 0, MOST_WORK),
