@@ -62,6 +62,12 @@ class Command(unittest.TestCase):
         self.assertEqual(status, 2)
         self.assertIn("once", said)
 
+    def test_a_book_and_a_rule_in_the_wrong_order(self):
+        for book in (BOOK, GRAMMAR):
+            status, _, said = run("read", RULE, book)
+            self.assertEqual((status, "the book comes first" in said), (1, True))
+        self.assertNotIn("the book comes first", run("read", RULE, RULE)[2])
+
     def test_start(self):
         book = self.file("book", b"first\n  | number\n\nsecond\n  | identifier\n")
         self.assertEqual(run("read", book, "-", given=b"a")[0], 1)

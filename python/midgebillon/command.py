@@ -338,6 +338,15 @@ def parser():
     return whole
 
 
+def is_swapped(options):
+    """Whether the rule's file is a book, where the book's is none."""
+    try:
+        data = load(options.text[0]) if getattr(options, "text", ["-"]) != ["-"] else b""
+        return data != b"" and check(view(data)) is None
+    except (Misuse, NotationError):
+        return False
+
+
 def command(words):
     """Runs a command and gives its exit status."""
     options = parser().parse_args(words)
@@ -351,6 +360,8 @@ def command(words):
             problems = [{"line": line, "column": column, "message": said} for line, column, said in error.places()]
             print(json.dumps({"book": called(options.book), "problems": problems}))
         say(error.shown(called(options.book)))
+        if is_swapped(options):
+            say(f"midgebillon: {options.text[0]} is a book: the book comes first, and then the rule")
         return REFUSED
     except (Misuse, NoLibrary) as error:
         say(f"midgebillon: {error}")
