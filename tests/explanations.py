@@ -125,6 +125,7 @@ CASES = [
     ("30: another case", MARGIN, "if volume * price > 3 Then 1", 0, MOST_WORK),
     ("30: quotation marks", MARGIN, '"if" volume * price > 3 then 1', 0, MOST_WORK),
     ("31: a quotation mark that the book has", QUOTED, '"1" "2"', 0, MOST_WORK),
+    ("30: a dollar", MARGIN, "if $volume > 3 then 1", 0, MOST_WORK),
     ("31: a decimal point", ARITHMETIC, "2 * 0.05", 0, MOST_WORK),
     ("31: nothing is read", "list\n  | part*\n\npart\n  | number\n", ",", 0, MOST_WORK),
     ("30: another comment", MARGIN, "if # volume", 0, MOST_WORK),

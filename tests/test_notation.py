@@ -91,7 +91,15 @@ PROBLEMS = [
     ("expression\n  | expresion\n", 2, 5, "did you mean expression?"),
     ("e\n  | e+\n", 2, 6, "e e*"),
     ("e\n  | e, e\n", 2, 6, "e,*"),
-    ("e\n  | number*\n", 2, 11, "only a nonterminal may have *"),
+    ("e\n  | number*\n", 2, 11, "only a nonterminal may have ?, * or ,*: give number a nonterminal x of its own"),
+    ("e\n  | number+\n", 2, 11, "then x x* is one or more"),
+    ('words kg\ne\n  | "kg"?\n', 3, 9, "only a nonterminal may have"),
+    ("e\n  | e ('-' e)*\n", 2, 7, "any other group has a nonterminal of its own"),
+    ("e\n  | '\\n'\n", 2, 5, "without a backslash"),
+    ("e\n  | e ; left, 1\n", 2, 13, "no commas"),
+    ("%left '-'\ne\n", 1, 1, "levels stand behind a variant"),
+    ("<e> ::= number\n", 1, 1, "a name has no < >"),
+    ("reserved\ne\n", 1, 1, "no words stand on this line"),
     ("e\n  | * e\n", 2, 5, "right behind a nonterminal's name; the character is '*'"),
     ("e\n  | e * e ; left 1\n", 2, 7, "right behind a nonterminal's name; the character is '*'"),
     ("e\n  | number ? e\n", 2, 12, "the character is '?'"),
@@ -181,6 +189,9 @@ NOTES = [
     ("e\n  | number\n  | e '!' ; right 2\n", "book:3:3: an operator behind its operand that is right"),
     ("e\n  | number\n  | e '-' e ; left 1\n  | e '+' e ; right 1\n", "book:4:3: level 1 has another associativity"),
     ("e\n  | number\n  | '~' e\n  | e '-' e ; left 1\n", "'~' e has no level"),
+    ("e\n  | number\n  | '~' e\n  | e '-' e ; left 1\n", "`; right 2`"),
+    ("e\n  | number\n  | e '*' e\n  | e '-' e ; left 1\n", "`; left 2`"),
+    ("e\n  | number ; left 1\n  | e '-' e ; left 1\n", "book:2:3: it has a level and is no operator on e"),
     ("e\n  | number\n  | e '!'\n  | '~' e ; right 2\n", "e '!' has no level"),
     ("words kg\ne\n  | number\n", "the word kg is in no variant"),
     ("names x:1\ne\n  | variable:2\n", "no name has kind 2"),
@@ -204,6 +215,7 @@ class Notes(unittest.TestCase):
                 self.assertEqual(notes(view(file.read())), [])
         self.assertEqual(notes(view(b"e\n  | number\n  | e ; left 1 passing\n  | 'x' e ; right 2\n")), [])
         self.assertEqual(notes(view(b"e\n  | number\n  | e '!'\n")), [])
+        self.assertEqual(notes(view(b'words kg kg\ne\n  | number "kg":1\n')), [])
 
 
 class Problems(unittest.TestCase):

@@ -23,7 +23,7 @@ A refusal has a number and a name; an explanation has its place and what was wan
         5 - x
           ^
     Read so far: 5, as the value (0 5)
-    If the rule is meant to go on, the steps of the book fit up to another place:
+    If the rule is meant to go on, the steps of the book fit up to here:
     rule:1:5: wanted here: expression
         5 - x
             ^

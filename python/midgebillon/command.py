@@ -84,6 +84,7 @@ def load_book(path):
 def accepted_book(path):
     """A book that the reader accepts, or None, and then it is said why."""
     book = load_book(path)
+    label_library()
     refused = check(book.data)
     if refused:
         say(explained(*refused, book, called(path)))
@@ -242,7 +243,6 @@ def command_check(options):
     print("accepted: " + ", ".join(f"{count} {what}{'s' * (count != 1)}" for count, what in counts))
     for place, note in placed_notes(book, called(options.book)):
         print(textwrap.fill(f"{place}: note: {note}", 100, subsequent_indent="    ", break_long_words=False))
-    label_library()
     return VALUE
 
 

@@ -32,8 +32,8 @@ WANTED = (
 )
 
 LEVELS = (
-    "The steps of the book fit the whole rule, but its levels and associativities (or a variable that claims a name)"
-    " forbid it. The greater level binds tighter; `left` groups to the left, `right` to the right, `none` not at all."
+    "The steps of the book fit the whole rule, but its levels and associativities{claims} forbid it. The greater level"
+    " binds tighter; `left` groups to the left, `right` to the right, `none` not at all."
     " The operators of the book:"
 )
 # What is meant by characters that word processors write.
@@ -44,9 +44,10 @@ ASCII = {
     "\u00a0": "a space",
 }
 FORBIDDEN = "the levels and associativities of the book forbid what stands here"
+CLAIMS = " (or a nonterminal that claims variables)"
 MEND = (
     "The book has to say which one is meant: by the level or the associativity of an operator, by a word that is"
-    " reserved, or by one variant less."
+    " reserved, by (claims variables) where a name is an identifier, too, or by one variant less."
 )
 ZEROS = "The text has bytes that are 0: was it saved as UTF-16? A rule is ASCII."
 UNKNOWN = "Whether the rule has a value isn't known."
@@ -120,7 +121,7 @@ class Explanation:
             Refusal.SHORT_LISTS: "the lists for cells and parses are too short",
             Refusal.BAD_ALLOWANCE: f"an allowance is 1 to {MOST_WORK:,} units of work",
         }
-        return said[self.reading.refusal] + number
+        return f"{self.file}: {said[self.reading.refusal]}{number}"
 
     def _start(self, number):
         names = ", ".join(f"{i} {name}" for i, name in enumerate(self.view.names))
@@ -167,7 +168,9 @@ class Explanation:
             return "\n".join([self._at(error.place, FORBIDDEN + number), *self._levels()])
         if found is not None and found.symbols and found.place == error.place and error.kind in WANTED:
             return self._wanted(hints, error.place, found.symbols, number)
-        return "\n".join([self._error(hints, number), *self._further(hints, error.place)])
+        further = found is not None and found.symbols and found.place > error.place
+        unless = ", unless the rule goes on" if further and error.kind in WANTED else ""
+        return "\n".join([self._error(hints, unless + number), *self._further(hints, error.place)])
 
     def _wanted(self, hints, place, symbols, number=""):
         """What is wanted at a place, with how that begins below the picture."""
@@ -213,7 +216,7 @@ class Explanation:
             return self._levels()
         if found.place > place:
             there = self._wanted(hints, found.place, found.symbols)
-            return [f"If the rule is meant to go on, the steps of the book fit up to another place:\n{there}"]
+            return [f"If the rule is meant to go on, the steps of the book fit up to here:\n{there}"]
         if self.reading.error is not None and len(found.symbols) == 1:
             return []  # the error has told it
         said = hints.said(place, found.symbols)
@@ -227,7 +230,8 @@ class Explanation:
             for number, variant in variants
             if variant.level != books.DEFAULT_LEVEL
         ]
-        return [_filled(LEVELS), *listed]
+        claiming = any(nonterminal.mark == books.CLAIMING for nonterminal in self.view.book.nonterminals)
+        return [_filled(LEVELS.format(claims=CLAIMS if claiming else "")), *listed]
 
     def _at(self, place, said):
         return _at(self.text, place, self.file, said)

@@ -10,7 +10,8 @@ from .wanted import DIGITS, Grammar, Part, Tokens, wanted
 LARGEST_NUMBER = 2**64 - 1
 COMMENTS = (b"#", b"/*")  # of other languages
 CLOSE = 0.7  # how alike two spellings are for one to be meant
-DECIMAL = re.compile(rb"(?<=[0-9])[.,][0-9]")
+DECIMAL = re.compile(rb"(?<=[0-9])[.,eE][0-9]")
+DOLLAR = re.compile(rb"\$[A-Za-z_]")
 OF_NAMES = {books.IDENTIFIER, books.VARIABLE, books.VARIABLE_OF_KIND}
 
 
@@ -52,6 +53,8 @@ class Hints:
             return ["a rule is written without quotation marks"]
         if DECIMAL.match(self.text, place):
             return ["a number is digits alone, without point or comma"]
+        if DOLLAR.match(self.text, place) and ord("$") not in self._characters():
+            return ["a name is written without $"]
         return self._no_name(word, first, kinds)
 
     def _characters(self):

@@ -70,7 +70,8 @@ class _Reader:
                 self._guarded(self._entry, keyword, found.group(), span)
             before = found.group()
         if not before:
-            raise Wrong(Span(offset + start - len(keyword), offset + start), f"no {keyword} stand on this line")
+            things = "names" if keyword == "names" else "words"
+            raise Wrong(Span(offset + start - len(keyword), offset + start), f"no {things} stand on this line")
 
     def _entry(self, keyword, text, span):
         if set(text) & set("\"',"):
@@ -113,7 +114,8 @@ class _Reader:
             raise Wrong(token.span, f"behind {token.text} stands a space, as in `{EXAMPLES[token.text]}`")
         if token.sort != "name":
             message = "a line is a nonterminal's name, a variant behind |, or words, reserved or names"
-            raise Wrong(token.span, message)
+            more = {"<": "; a name has no < >", "%": "; levels stand behind a variant, as in ; left 1"}
+            raise Wrong(token.span, message + more.get(token.text, ""))
         if token.text in NOT_FOR_NONTERMINALS:
             message = f"{token.text} can't be a nonterminal's name; if this is a variant, a | is missing before it"
             raise Wrong(token.span, message)

@@ -21,8 +21,10 @@ class Steps:
         """A step, and the spans of its four bytes."""
         token = line.take()
         if token.sort == "character":
+            self._no_suffix(token, line)
             return self._simple(books.CHARACTER, token, self._code(token))
         if token.sort == "word":
+            self._no_suffix(token, line)
             return self._simple(books.WORD, token, self._word(token, line))
         if token.sort == "name":
             return self._named(token, line)
@@ -95,7 +97,8 @@ class Steps:
     def _no_suffix(token, line):
         following = line.next()
         if following and following.text in ("?", "*", ",*", "+") and following.span.start == token.span.end:
-            message = f"only a nonterminal may have {following.text}: give {token.text} a nonterminal of its own"
+            more = "; then x x* is one or more" if following.text == "+" else ""
+            message = f"only a nonterminal may have ?, * or ,*: give {token.text} a nonterminal x of its own{more}"
             raise Wrong(following.span, message)
 
     def _nonterminal(self, token):
@@ -133,7 +136,8 @@ class Steps:
         if [part and (part.sort if part.sort != "sign" else part.text) for part in parts] != [
             "character", "name", ",*", "character", ")",
         ]:
-            raise Wrong(token.span, "parentheses hold a list between two characters, as ('[' amount,* ']')")
+            message = "parentheses hold a list between two characters, as ('[' amount,* ']')"
+            raise Wrong(token.span, f"{message}; any other group has a nonterminal of its own")
         opening, name, _, closing, _ = parts
         kind = books.OPTIONAL_DELIMITED if line.take_if("?") else books.DELIMITED
         step = books.Step(kind, self._nonterminal(name), self._code(opening), self._code(closing))
@@ -172,6 +176,8 @@ def _several(text):
         return "a character is missing between the apostrophes"
     if IDENTIFIER.fullmatch(inside):
         return f'a word stands between quotation marks: "{inside}"'
+    if inside[0] == "\\":
+        return "a character stands between the apostrophes as it is, without a backslash; spaces are skipped by themselves"
     apart = _characters(inside)
     return f"apostrophes hold one character; write {apart}, which reads them with or without spaces between"
 
@@ -189,6 +195,8 @@ def attributes_of(line):
         token = line.take()
         if token.text in books.ASSOCIATIVITIES and level is None:
             at = line.here()
+            if line.is_next(","):
+                raise Wrong(at, "spaces stand between, no commas")
             level = line.number("the level of an operator", books.DEFAULT_LEVEL - 1)
             associativity, spans[:2] = books.ASSOCIATIVITIES.index(token.text), [at, token.span]
         elif token.text == "passing" and not flags & books.PASSING:

@@ -66,10 +66,18 @@ def _without_level(view, grammar):
     for number, owner, variant in operators:
         operand = _is_operand(variant.steps[0], owner) or _is_operand(variant.steps[-1], owner)
         if operand and owner in begin & end and variant.level == books.DEFAULT_LEVEL:
+            side = "left" if _is_operand(variant.steps[0], owner) else "right"
             yield number, (
                 f"{view.steps(number)} has no level: a row of operators with it is read in several ways, and refused"
-                " (32 or 22); say `; left 1`, or another level and associativity"
+                f" (32 or 22); say how tightly it binds, as by `; {side} {_free_level(view, owner)}`, where the greatest"
+                " level binds tightest"
             )
+
+
+def _free_level(view, owner):
+    """The level above those of a nonterminal's operators, or below them where that is none."""
+    taken = [v.level for v in view.book.nonterminals[owner].variants if v.level != books.DEFAULT_LEVEL]
+    return next(level for level in (max(taken, default=0) + 1, 0) if level < books.DEFAULT_LEVEL)
 
 
 def growing(view):
@@ -88,6 +96,14 @@ def _one_sided(view):
             yield number, "an operator before its operand that is left can't stand before itself; right can"
         if before and not behind and variant.associativity == books.RIGHT:
             yield number, "an operator behind its operand that is right can't stand behind itself; left can"
+
+
+def _no_operators(view):
+    for number, owner, variant in _variants(view):
+        alone = len(variant.steps) == 1 or not any(_is_operand(variant.steps[i], owner) for i in (0, -1) if variant.steps)
+        if variant.level != books.DEFAULT_LEVEL and alone and not variant.passing:
+            name = view.names[owner]
+            yield number, f"it has a level and is no operator on {name}: a level can only keep it from being an operand"
 
 
 def _mixed(view):
@@ -128,10 +144,11 @@ def _apart(view):
 
 
 def _unused_words(view):
-    used = {step.a for variant in view.book.variants for step in variant.steps if step.kind == books.WORD}
-    for number, word in enumerate(view.book.words):
-        if number not in used and not word.label:
-            yield None, f"the word {word.spelling} is in no variant"
+    words, steps = view.book.words, [step for variant in view.book.variants for step in variant.steps]
+    used = {words[step.a].spelling for step in steps if step.kind == books.WORD}
+    for spelling in dict.fromkeys(word.spelling for word in words if not word.label):
+        if spelling not in used:
+            yield None, f"the word {spelling} is in no variant"
 
 
 def _no_such_names(view):
@@ -147,7 +164,7 @@ def _no_such_names(view):
 def notes(view):
     """All notes on an accepted book."""
     used = [*_unread(view), *_apart(view), *_unused_words(view), *_no_such_names(view)]
-    return [*growing(view), *_one_sided(view), *_mixed(view), *used]
+    return [*growing(view), *_one_sided(view), *_mixed(view), *_no_operators(view), *used]
 
 
 def placed_notes(view, file):
