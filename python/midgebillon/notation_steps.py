@@ -177,7 +177,7 @@ def _several(text):
     if IDENTIFIER.fullmatch(inside):
         return f'a word stands between quotation marks: "{inside}"'
     if inside[0] == "\\":
-        return "a character stands between the apostrophes as it is, without a backslash; spaces are skipped by themselves"
+        return "a character stands between the apostrophes as it is, without a backslash; spaces are skipped anyway"
     apart = _characters(inside)
     return f"apostrophes hold one character; write {apart}, which reads them with or without spaces between"
 

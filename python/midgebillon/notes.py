@@ -69,8 +69,8 @@ def _without_level(view, grammar):
             side = "left" if _is_operand(variant.steps[0], owner) else "right"
             yield number, (
                 f"{view.steps(number)} has no level: a row of operators with it is read in several ways, and refused"
-                f" (32 or 22); say how tightly it binds, as by `; {side} {_free_level(view, owner)}`, where the greatest"
-                " level binds tightest"
+                f" (32 or 22); say how tightly it binds, as by `; {side} {_free_level(view, owner)}`, where the"
+                " greatest level binds tightest"
             )
 
 
@@ -100,8 +100,9 @@ def _one_sided(view):
 
 def _no_operators(view):
     for number, owner, variant in _variants(view):
-        alone = len(variant.steps) == 1 or not any(_is_operand(variant.steps[i], owner) for i in (0, -1) if variant.steps)
-        if variant.level != books.DEFAULT_LEVEL and alone and not variant.passing:
+        ends = (*variant.steps[:1], *variant.steps[-1:])
+        operator = len(variant.steps) > 1 and any(_is_operand(step, owner) for step in ends)
+        if variant.level != books.DEFAULT_LEVEL and not operator and not variant.passing:
             name = view.names[owner]
             yield number, f"it has a level and is no operator on {name}: a level can only keep it from being an operand"
 
