@@ -191,6 +191,7 @@ NOTES = [
     ("e\n  | number\n  | '~' e\n  | e '-' e ; left 1\n", "'~' e has no level"),
     ("e\n  | number\n  | '~' e\n  | e '-' e ; left 1\n", "`; right 2`"),
     ("e\n  | number\n  | e '*' e\n  | e '-' e ; left 1\n", "`; left 2`"),
+    ("e\n  | number\n  | '(' e\n", "book:3:3: it has '(' and ')' not equally often"),
     ("e\n  | number ; left 1\n  | e '-' e ; left 1\n", "book:2:3: it has a level and is no operator on e"),
     ("e\n  | number\n  | e '!'\n  | '~' e ; right 2\n", "e '!' has no level"),
     ("words kg\ne\n  | number\n", "the word kg is in no variant"),

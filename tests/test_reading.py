@@ -44,6 +44,8 @@ class Readings(unittest.TestCase):
             self.assertEqual(list(reading.answer), v["answer"])
             known = v["cells"] or []
             self.assertEqual(list(reading.cells), known + [0] * (len(reading.cells) - len(known)))
+            found = [[parse.rest, parse.level, parse.associativity] for parse in reading.parses]
+            self.assertEqual(found, [numbers[:3] for numbers in v["parses"] or []])
             line = reading.line(LONGEST)
             if v.get("printed") is not None:
                 self.assertEqual(line, v["printed"].encode() + b"\n")

@@ -34,6 +34,7 @@ import tempfile
 
 from cases.vectors import BEYOND, CELLS, PARSES, REFUSAL, WORK, lent, line, parse_numbers, read, record
 from definitions import Definitions, NotUnderstood
+from library import linked
 from reader import NOTHING_REPLAYED, ROOT, TOOLCHAIN, WAYS, compiled_replay, replay_source, tried
 
 SHOWN = 12  # how many vectors that differ are printed
@@ -141,8 +142,7 @@ Length = ctypes.c_size_t
 def loaded(archive, folder):
     """The functions of a static library. Python loads a shared one, so it is linked as such, whole."""
     shared = f"{folder}/midgebillon.so"
-    words = ["-Wl,--whole-archive", archive, "-Wl,--no-whole-archive"]
-    subprocess.run(["cc", "-shared", "-o", shared, *words], check=True)
+    linked(archive, shared)
     library = ctypes.CDLL(shared)
     texts, lists = [Bytes, Length] * 2, [Numbers, Length]
     library.midgebillon_read.restype = None

@@ -117,6 +117,14 @@ def _mixed(view):
                 yield number, f"{other}: a row of both isn't read, or in two ways"
 
 
+def _brackets(view):
+    for number, _, variant in _variants(view):
+        characters = "".join(chr(step.a) for step in variant.steps if step.kind == books.CHARACTER)
+        for opening, closing in ("()", "[]", "{}"):
+            if characters.count(opening) != characters.count(closing):
+                yield number, f"it has '{opening}' and '{closing}' not equally often: is one forgotten?"
+
+
 # ---- What can't be read, or isn't used
 def _unread(view):
     """Nonterminals that nothing can be read as, by rounds until one adds none to those that something can."""
@@ -165,7 +173,7 @@ def _no_such_names(view):
 def notes(view):
     """All notes on an accepted book."""
     used = [*_unread(view), *_apart(view), *_unused_words(view), *_no_such_names(view)]
-    return [*growing(view), *_one_sided(view), *_mixed(view), *_no_operators(view), *used]
+    return [*_brackets(view), *growing(view), *_one_sided(view), *_mixed(view), *_no_operators(view), *used]
 
 
 def placed_notes(view, file):
