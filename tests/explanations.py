@@ -49,6 +49,7 @@ field (identifier)
 
 EMPTY = "e\n  | part*\n\npart\n  | empty\n  | number\n"
 NESTED = "e\n  | '[' part ']'\n\npart\n  | number ',' part\n  | number\n"
+IDENTIFIER_OR_KIND = "identifier\n  | number variable:3"  # one step, and then another variant
 PREFIX = "e\n  | number\n  | '~' e  ; left 3\n"
 QUOTED = "rule\n  | '\"' number '\"'\n  | rule '-' rule  ; left 1\n"
 TWO_WAYS = "rule\n  | place\n  | person\n\nplace\n  | identifier\n\nperson\n  | identifier\n"
@@ -57,6 +58,11 @@ TWO_WAYS = "rule\n  | place\n  | person\n\nplace\n  | identifier\n\nperson\n  | 
 def step_book(step):
     """A number and then one step, in a book with the reserved word `if` and the name `x` of kind 5."""
     return f"words kg\nreserved if\nnames x:5\nrule\n  | number {step}\n\nitem\n  | '#'\n"
+
+
+def reserved_name(step):
+    """The same with `x` reserved, too."""
+    return step_book(step).replace("reserved if", "reserved if x")
 
 
 def both(text):
@@ -112,6 +118,11 @@ CASES = [
     ("30, 4: the end", step_book("identifier"), "1", 0, MOST_WORK),
     ("30, 5: a variable", step_book("!variable"), "1 x", 0, MOST_WORK),
     ("30, 6: a reserved word", step_book("identifier"), "1 if", 0, MOST_WORK),
+    ("30, 6: a reserved word where a variable is wanted", step_book("variable"), "1 if", 0, MOST_WORK),
+    ("30, 6: a reserved name is no identifier", reserved_name("identifier"), "1 x", 0, MOST_WORK),
+    ("30, 5: a reserved name is a variable", reserved_name("!variable"), "1 x", 0, MOST_WORK),
+    ("30, 8: a reserved name of another kind", reserved_name("variable:3"), "1 x", 0, MOST_WORK),
+    ("30: a reserved name, neither identifier nor of the kind", reserved_name(IDENTIFIER_OR_KIND), "1 x", 0, MOST_WORK),
     ("30, 7: an unknown name", step_book("variable"), "1 y", 0, MOST_WORK),
     ("30, 8: another kind", step_book("variable:3"), "1 x", 0, MOST_WORK),
     ("30, 9: digits", step_book("number"), "1 x", 0, MOST_WORK),

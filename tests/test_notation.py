@@ -198,7 +198,6 @@ NOTES = [
     ("names x:1\ne\n  | variable:2\n", "no name has kind 2"),
     ("names x:1 x:2\ne\n  | variable:1\n", "no name has kind 1"),
     ("e\n  | variable\n", "the book has no names"),
-    ("reserved x\nnames x:1\ne\n  | variable:1\n", "no name has kind 1"),
 ]
 
 
@@ -217,6 +216,7 @@ class Notes(unittest.TestCase):
         self.assertEqual(notes(view(b"e\n  | number\n  | e ; left 1 passing\n  | 'x' e ; right 2\n")), [])
         self.assertEqual(notes(view(b"e\n  | number\n  | e '!'\n")), [])
         self.assertEqual(notes(view(b'words kg kg\ne\n  | number "kg":1\n')), [])
+        self.assertEqual(notes(view(b"reserved x\nnames x:1\ne\n  | variable:1\n")), [])
 
 
 class Problems(unittest.TestCase):

@@ -19,9 +19,9 @@ writes those that differ. A list is never replaced by one with fewer cases than 
               (tools/cases/layer_books.py)
     program   crates/program_cases/data/*: books and long texts (tools/cases/program_files.py)
 
-cut and books need the whole files of vectors, which the repository doesn't have: --from FOLDER, or `vectors/02/a` in
-the folder `shared` beside the repository, which has the answers with document 02's requests g, c and a. Without them
-both are left out. The list of the Rust's answers, crates/known_answers/data/rust.bin, is made in compare/.
+cut and books need the whole files of vectors, which the repository doesn't have: --from FOLDER, or `vectors/02/f` in
+the folder `shared` beside the repository, which has the answers with document 02's requests g, c, a, n and f. Without
+them both are left out. The list of the Rust's answers, crates/known_answers/data/rust.bin, is made in compare/.
 """
 import argparse
 import collections
@@ -34,7 +34,7 @@ from cases import cut, layer_books, program_files
 from cases.vectors import read, record
 
 ROOT = os.path.dirname(os.path.dirname(os.path.abspath(__file__)))
-VECTORS = "vectors/02/a"  # those of the last request here that changes an answer or a line
+VECTORS = "vectors/02/f"  # those of the last request here that changes an answer or a line
 WHOLE = ["open", "damaged", "reading", "deep"]  # in the order in which books.bin has their books
 
 # The content of a list's files by their paths; how many cases it has and which program counts them, None if none does;

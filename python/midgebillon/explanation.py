@@ -194,7 +194,7 @@ class Explanation:
         said = {
             ErrorKind.TEXT_ENDED: "the text ends where a name or a number is wanted",
             ErrorKind.VARIABLE_FOUND: f"{word} is a variable, and none may stand here",
-            ErrorKind.RESERVED_FOUND: f"{word} is a reserved word, and none may stand here",
+            ErrorKind.RESERVED_FOUND: f"{word} is a reserved word, and may not stand here",
             ErrorKind.UNKNOWN_NAME: f"{word} is no name of the book; {self._names(word)}",
             ErrorKind.TOO_LARGE: f"this number is above {LARGEST_NUMBER}, the greatest",
             ErrorKind.MORE_WANTED: f"more is wanted {hints.ends(place)}",
@@ -219,8 +219,10 @@ class Explanation:
             return [f"If the rule is meant to go on, the steps of the book fit up to here:\n{there}"]
         if self.reading.error is not None and len(found.symbols) == 1:
             return []  # the error has told it
-        said = hints.said(place, found.symbols)
-        return [said[0].upper() + said[1:], *map(_filled, hints.begun(found.symbols))]
+        said, word = hints.said(place, found.symbols), hints.word(place)
+        if not word or not said.startswith(word):  # a word of the rule stays as it is spelled
+            said = said[0].upper() + said[1:]
+        return [said, *map(_filled, hints.begun(found.symbols))]
 
     def _levels(self):
         """That levels forbid the rule, and all levels of the book."""

@@ -12,7 +12,8 @@ COMMENTS = (b"#", b"/*")  # of other languages
 CLOSE = 0.7  # how alike two spellings are for one to be meant
 DECIMAL = re.compile(rb"(?<=[0-9])[.,eE][0-9]")
 DOLLAR = re.compile(rb"\$[A-Za-z_]")
-OF_NAMES = {books.IDENTIFIER, books.VARIABLE, books.VARIABLE_OF_KIND}
+OF_VARIABLES = {books.VARIABLE, books.VARIABLE_OF_KIND}
+OF_NAMES = {books.IDENTIFIER} | OF_VARIABLES
 
 
 def near(word, known):
@@ -43,10 +44,8 @@ class Hints:
         word, digits = self.word(place), DIGITS.match(self.text, place)
         if digits and int(digits.group()) > LARGEST_NUMBER and books.NUMBER in kinds:
             return [f"this number is above {LARGEST_NUMBER}, the greatest"]
-        if word in self.tokens.reserved and kinds & OF_NAMES:
-            return [f"{word} is a reserved word"]
-        if word in self.tokens.variables and kinds & OF_NAMES:
-            return [f"{word} is a variable of kind {self.tokens.variables[word]}"]
+        if kinds & OF_NAMES and (known := self._known(word, kinds)):
+            return [f"{word} is {' and '.join(known)}"]
         if self.text.startswith(COMMENTS, place):
             return ["a comment begins with //"]
         if self.text[place : place + 1] in (b"'", b'"') and self.text[place] not in self._characters():
@@ -56,6 +55,16 @@ class Hints:
         if DOLLAR.match(self.text, place) and ord("$") not in self._characters():
             return ["a name is written without $"]
         return self._no_name(word, first, kinds)
+
+    def _known(self, word, kinds):
+        """What a word is, of what keeps it from being read as a name of these kinds. A starting name that is reserved
+        may still be a variable, but no identifier."""
+        is_variable = word in self.tokens.variables
+        refused = word in self.tokens.reserved and (books.IDENTIFIER in kinds or not is_variable)
+        known = ["a reserved word"] if refused else []
+        if is_variable and (kinds & OF_VARIABLES or not refused):
+            known.append(f"a variable of kind {self.tokens.variables[word]}")
+        return known
 
     def _characters(self):
         """The codes of all characters that the book's steps take."""

@@ -128,8 +128,8 @@ def reserved(book):
 
 
 def variables(book):
-    """The starting names that can be read as variables, with their kinds: of equal ones the last."""
-    return {name.spelling: name.label for name in book.names if name.spelling not in reserved(book)}
+    """The starting names, reserved or not, with their kinds: of equal ones the last."""
+    return {name.spelling: name.label for name in book.names}
 
 
 class Tokens:

@@ -8,6 +8,9 @@ pub const CHARACTERS: &[u8] = b"-+*-+*()[],;=!/1a";
 /// Spellings of words and names; some are both, and some are the beginning of another.
 pub const SPELLINGS: &[&str] = &["a", "b", "ab", "x", "if", "in", "_", "a1", "a_long_spelling"];
 
+/// The most words, and the most names, of a book.
+const MOST_ENTRIES: usize = 64;
+
 pub fn book(random: &mut Random) -> Book {
     let most = match random.below(16) {
         0 => 32,
@@ -16,6 +19,7 @@ pub fn book(random: &mut Random) -> Book {
     };
     let nonterminals = random.between(1, most);
     let mut book = Book { words: entries(random, 2), names: entries(random, 3), nonterminals: vec![] };
+    reserve_names(random, &mut book);
     for n in 0..nonterminals {
         let mut nonterminal = nonterminal(random, &book, n, nonterminals);
         if nonterminals > 5 {
@@ -29,11 +33,28 @@ pub fn book(random: &mut Random) -> Book {
 
 fn entries(random: &mut Random, labels: usize) -> Vec<Entry> {
     let count = match random.below(40) {
-        0 => 64,
+        0 => MOST_ENTRIES,
         1..=20 => 0,
         _ => random.between(1, 4),
     };
     (0..count).map(|_| Entry { label: random.below(labels) as u8, spelling: random.pick(SPELLINGS).into() }).collect()
+}
+
+/// In one book of four some name is reserved for certain; in others by chance.
+fn reserve_names(random: &mut Random, book: &mut Book) {
+    if !random.one_in(4) {
+        return;
+    }
+    let spelling: String = match book.names.get(random.below(book.names.len() + 1)) {
+        Some(name) => name.spelling.clone(),
+        None => random.pick(SPELLINGS).into(),
+    };
+    if book.words.len() < MOST_ENTRIES {
+        book.words.push(Entry { label: 1, spelling: spelling.clone() });
+    }
+    if book.names.len() < MOST_ENTRIES {
+        book.names.push(Entry { label: random.below(3) as u8, spelling });
+    }
 }
 
 fn nonterminal(random: &mut Random, book: &Book, n: usize, of: usize) -> Nonterminal {

@@ -2,6 +2,7 @@
 use crate::reader::Reader;
 use crate::worker::{Without, Worker};
 use oracle::answer::Answer;
+use oracle::book::Book;
 
 #[derive(Clone, Debug, PartialEq)]
 pub struct Case {
@@ -9,6 +10,18 @@ pub struct Case {
     pub text: Vec<u8>,
     pub start: u32,
     pub allowance: u32,
+}
+
+impl Case {
+    /// Whether a starting name stands in the text that is also a reserved word, by a book that the reader has accepted.
+    pub fn has_reserved_name(&self) -> bool {
+        let book = Book::of(&self.book);
+        let is_name = |word: &str| book.names.iter().any(|n| n.spelling == word);
+        let is_reserved = |word: &str| book.words.iter().any(|w| w.label == 1 && w.spelling == word);
+        let text = String::from_utf8_lossy(&self.text);
+        let mut words = text.split(|c: char| !c.is_ascii_alphanumeric() && c != '_');
+        words.any(|word| is_name(word) && is_reserved(word))
+    }
 }
 
 #[derive(Clone, Debug, PartialEq)]

@@ -44,6 +44,7 @@ pub struct Counts {
     refused: BTreeMap<u32, usize>,
     without: BTreeMap<crate::worker::Without, usize>,
     step_kinds: BTreeMap<u8, usize>,
+    reserved_names: BTreeMap<u32, usize>,
     most_parses: usize,
 }
 
@@ -53,6 +54,9 @@ impl Counts {
             Verdict::Equal(answer) => {
                 *self.equal.entry(answer.refusal).or_default() += 1;
                 self.most_parses = self.most_parses.max(answer.parses.len());
+                if case.has_reserved_name() {
+                    *self.reserved_names.entry(answer.refusal).or_default() += 1;
+                }
                 for kind in kinds(&case.book) {
                     *self.step_kinds.entry(kind).or_default() += 1;
                 }
@@ -76,6 +80,7 @@ impl Counts {
         println!("Rust without an answer  {:>7}  {:?}", self.without.values().sum::<usize>(), self.without);
         println!("book or text refused    {:>7}  {:?}", sum(&self.refused), self.refused);
         println!("of the equal ones, books with each step kind {:?}; at most {} parses", self.step_kinds, self.most_parses);
+        println!("of the equal ones, a reserved name in the text {:>7}  by refusal {:?}", sum(&self.reserved_names), self.reserved_names);
     }
 }
 

@@ -84,6 +84,9 @@ pub const EXHAUSTIVE: &[Exhaustive] = &[
     Exhaustive { book: "02 01 01 69 00 01 62 02 01 01 61 00 01 62 02 01 03 02 00 03 FF030301 01030101 02000102 04 08010000 05010000 01000000 08000000", alphabet: b"aib ", longest: 7 },
     // an identifier that is no variable, uncommitted; a variable and `-`; behind a step that takes nothing, 0 and `+`
     Exhaustive { book: "01 01 01 69 01 02 01 61 01 00 03 03 FF030003 01030102 02030103 08 06000000 07000000 02000000 04000000 002D0000 07000000 08000000 002B0000", alphabet: b"ai-+", longest: 6 },
+    // reserved words `a`, `i`, and names `a` of kind 1, `b` of kind 0. 0 claims, and is an identifier nonterminal, a variable of kind 1, `-` and an
+    // identifier that is no variable, or `+` and a variable or, behind kind 7, an identifier
+    Exhaustive { book: "02 01 01 61 01 01 69 02 01 01 61 00 01 62 02 01 05 02 00 05 FF030101 01030101 FF030103 02030102 FF030103 0A 08010000 05010000 002D0000 06000000 02000000 002B0000 04000000 002B0000 07000000 02000000", alphabet: b"aib-+ ", longest: 5 },
     // 0 is 1 `-` 1, or `+` and perhaps 1; 1 is a variant without steps, or a number
     Exhaustive { book: "00 00 02 00 02 00 02 04 01030103 02030102 FF030100 FF030101 06 08010000 002D0000 08010000 002B0000 09010000 03000000", alphabet: b"1-+ /", longest: 6 },
 ];

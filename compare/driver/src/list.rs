@@ -5,8 +5,9 @@ use crate::fixed;
 use oracle::answer::{put_numbers, Answer};
 use std::collections::BTreeMap;
 
-/// How many random cases of each refusal the list has.
+/// How many random cases of each refusal the list has; and how many more with a starting name in the text that is reserved.
 const WANTED: [(u32, usize); 4] = [(0, 300), (30, 180), (31, 120), (32, 60)];
+const WITH_RESERVED_NAMES: [(u32, usize); 4] = [(0, 60), (30, 40), (31, 40), (32, 20)];
 
 /// Of the random cases, those with at most this many bytes of text and of value, so that the file stays small; "long" ones are few.
 const SHORT: usize = 400;
@@ -16,7 +17,10 @@ pub fn write(sides: &mut Sides, seed: u64, path: &str) {
     let mut bytes = Vec::new();
     let mut written = 0;
     let rows = fixed::rows().into_iter().map(|row| row.case);
-    for case in rows.chain(chosen(sides, seed)) {
+    let mut cases: Vec<Case> = rows.chain(chosen(sides, seed, WANTED, |_| true)).collect();
+    let others = chosen(sides, seed, WITH_RESERVED_NAMES, |case| case.has_reserved_name() && !cases.contains(case));
+    cases.extend(others);
+    for case in cases {
         if let Some(answer) = equal(sides, &case) {
             put(&mut bytes, &case, &answer, &sides.reader.parses());
             written += 1;
@@ -26,10 +30,10 @@ pub fn write(sides: &mut Sides, seed: u64, path: &str) {
     println!("{written} cases, {} bytes", bytes.len());
 }
 
-/// The first random cases with each refusal, as many as are wanted.
-fn chosen(sides: &mut Sides, seed: u64) -> Vec<Case> {
+/// The first random cases that fit with each refusal, as many as are wanted.
+fn chosen(sides: &mut Sides, seed: u64, wanted: [(u32, usize); 4], fits: impl Fn(&Case) -> bool) -> Vec<Case> {
     let mut cases = Vec::new();
-    let mut wanted = BTreeMap::from(WANTED);
+    let mut wanted = BTreeMap::from(wanted);
     let mut long = LONG;
     for case in (0..).map(|number| random_case(seed, number)) {
         if wanted.values().all(|left| *left == 0) {
@@ -38,7 +42,7 @@ fn chosen(sides: &mut Sides, seed: u64) -> Vec<Case> {
         let Some(answer) = equal(sides, &case) else { continue };
         let left = wanted.get_mut(&answer.refusal).expect("a refusal of the Rust");
         let is_long = case.text.len().max(answer.value.len()) > SHORT;
-        if *left == 0 || is_dull(&answer) || (is_long && long == 0) {
+        if *left == 0 || is_dull(&answer) || (is_long && long == 0) || !fits(&case) {
             continue;
         }
         *left -= 1;

@@ -109,10 +109,14 @@ impl HasKind<Books> for Parameter {
     }
 }
 
-/// `parse_variable_name` has its body from the trait, which is `identifier`.
+/// A variable's name may be a reserved word (document 02 f); the trait's own body is `identifier`, which refuses them.
 impl CoreParseBinding<Books> for Parameter {
     fn parse_binding<'t>(scope: &Scope<Books>, text: &'t str) -> ParseResult<'t, Binding<Books>> {
         formality_core::parse::default_binding_parse(scope, text)
+    }
+
+    fn parse_variable_name<'t>(p: &mut ActiveVariant<'_, 't, Books>) -> Result<String, Set<ParseError<'t>>> {
+        p.identifier_like_string()
     }
 }
 

@@ -8,6 +8,7 @@ pub fn test() {
     precedences();
     associativities();
     keywords();
+    reserved_names();
 }
 
 fn variant(level: u8, associativity: u8, steps: &[[u8; 4]]) -> Variant {
@@ -50,5 +51,18 @@ fn keywords() {
         let identifier = variant(DEFAULT_LEVEL, BOTH, &[[2, 0, 0, 0]]);
         let book = Book { words, nonterminals: vec![Nonterminal { mark: 0, variants: vec![identifier] }], ..Book::default() };
         assert_eq!(answer(book, "if").refusal, if reserved == 1 { 30 } else { 0 });
+    }
+}
+
+/// Document 02 f: a starting name that is reserved is read as a variable, and still not as an identifier.
+fn reserved_names() {
+    for (kind, refusal) in [(2, 30), (4, 0), (5, 0), (6, 30), (7, 30)] {
+        let words = vec![Entry { label: 1, spelling: "if".into() }];
+        let names = vec![Entry { label: 0, spelling: "if".into() }];
+        let minus = variant(DEFAULT_LEVEL, BOTH, &[[0, b'-', 0, 0], [kind, 0, 0, 0]]);
+        let book = Book { words, names, nonterminals: vec![Nonterminal { mark: 0, variants: vec![minus] }] };
+        let got = answer(book, "-if");
+        let value = if refusal == 0 { "(0 $if)" } else { "" };
+        assert_eq!((got.refusal, got.value.as_str()), (refusal, value), "kind {kind}");
     }
 }

@@ -76,9 +76,10 @@ module _ (book : Book) (text : List ℕ) where
         | Number.Value value end ↦ error at tooLarge 0
       ])
   stepError Step.Variable at = identifierError at (error at unknownName 0)
+  -- a name of another kind, else as kind 4. Document 02 f: kinds 4 and 5 "now read the name, or give 8"
   stepError (Step.VariableOfKind a) at =
-      identifierError at
-      (when (isSome (variableAt book text at)) (λ _. error at wrongKind a) (λ _. error at unknownName 0))
+      when (isSome (variableAt book text at)) (λ _. error at wrongKind a)
+      (λ _. identifierError at (error at unknownName 0))
   stepError Step.RejectVariable at = error at variableFound 0
   stepError Step.RejectReserved at = error at reservedFound 0
   stepError (Step.Nonterminal a) at = error at nonterminalWanted a

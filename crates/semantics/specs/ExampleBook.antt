@@ -194,11 +194,6 @@ pub record Points : Type 0 where
       restsOf
       (answerTo (0 ∷ 0 ∷ 1 ∷ 0 ∷ 1 ∷ 1 ∷ 255 ∷ 3 ∷ 1 ∷ 2 ∷ 2 ∷ 0 ∷ 45 ∷ 0 ∷ 0 ∷ 13 ∷ 0 ∷ 40 ∷ 41 ∷ []) (45 ∷ 32 ∷ []))
       ≡ 2 ∷ 0 ∷ []
-  -- "2, 4, 5 and a mark-2 use refuse a reserved word": the variable `a`, which is a reserved word too
-  pub reservedVariable :
-      reads
-      (1 ∷ 1 ∷ 1 ∷ 97 ∷ 1 ∷ 0 ∷ 1 ∷ 97 ∷ 1 ∷ 0 ∷ 1 ∷ 1 ∷ 255 ∷ 3 ∷ 1 ∷ 1 ∷ 1 ∷ 4 ∷ 0 ∷ 0 ∷ 0 ∷ []) (97 ∷ [])
-      ≡ refused 30 0 11 0
   -- "The furthest place wins, then least kind, then least argument": after `-`, 34 or 33; a number or 33
   pub leastArgument :
       reads
@@ -218,7 +213,6 @@ unfolding computing
 points = record {
   commaInVain = refl;
   openingInVain = refl;
-  reservedVariable = refl;
   leastArgument = refl;
   leastKind = refl;
 }

@@ -14,6 +14,8 @@ pub mod FurthestLaws
 pub mod Answer
 pub mod Allowance
 pub mod ExampleBook
+pub mod ReservedNames
+pub mod ReservedNamesExample
 pub mod Exact
 pub mod Extension
 pub mod ExtensionExample

@@ -6,10 +6,9 @@ ghost use Rattle.characters.specs.Slices.{atEntry};
 ghost use Rattle.book.specs.Book.{Book};
 ghost use Rattle.book.specs.Index.{bookAt};
 ghost use Rattle.book.specs.declared.records.Step.{Step};
-ghost use Rattle.semantics.specs.Numbers.{characterWanted, unknownName, wrongKind};
+ghost use Rattle.semantics.specs.Numbers.{characterWanted};
 ghost use Rattle.semantics.specs.Errors.{error, identifierError, stepError};
 ghost use Rattle.semantics.specs.Run.{closingCode};
-ghost use Rattle.semantics.specs.Tokens.{when, isSome, variableAt};
 ghost use Rattle.semantics.specs.Steps.{read, stepAt, afterElement, closed as closedAt};
 ghost use Rattle.errors.specs.Maps.{errorOf};
 ghost use Rattle.tokens.specs.Maps.{endOf, closingIn, takenOf, afterOf};
@@ -354,10 +353,16 @@ fn number_error(text: &[u8], at: u32) -> Error
     }
 }
 
-// No variable of the kind: a name of another kind, or none.
+// No variable: no identifier, a reserved word, or an unknown name.
+fn variable_error(book: &[u8], index: &[usize], text: &[u8], at: u32) -> Error
+    ensures { λ r. ⌜ errorOf r ≡ stepError (bookAt book index) (atEntry text) Step.Variable at ⌝ }
+{
+    identifier_error(book, index, text, at, error_at(at, UNKNOWN_NAME, 0))
+}
+
+// No variable of the kind: a name of another kind, reserved or not, or none.
 fn kind_error(book: &[u8], index: &[usize], text: &[u8], kind: u32, at: u32) -> Error
-    ensures { λ r. ⌜ errorOf r ≡ when (isSome (variableAt (bookAt book index) (atEntry text) at))
-        (λ _. error at wrongKind kind) (λ _. error at unknownName 0) ⌝ }
+    ensures { λ r. ⌜ errorOf r ≡ stepError (bookAt book index) (atEntry text) (Step.VariableOfKind kind) at ⌝ }
 {
     match variable_at(book, index, text, at as usize) {
         Variable::Named {
@@ -365,7 +370,7 @@ fn kind_error(book: &[u8], index: &[usize], text: &[u8], kind: u32, at: u32) -> 
             number: _,
             kind: _,
         } => error_at(at, WRONG_KIND, kind),
-        Variable::Nothing => error_at(at, UNKNOWN_NAME, 0),
+        Variable::Nothing => variable_error(book, index, text, at),
     }
 }
 
@@ -383,10 +388,8 @@ pub fn step_error(book: &[u8], index: &[usize], text: &[u8], step: Step, at: u32
             error_at(at, IDENTIFIER_WANTED, 0),
         ),
         Step::Number => number_error(text, at),
-        Step::Variable => identifier_error(book, index, text, at, error_at(at, UNKNOWN_NAME, 0)),
-        Step::VariableOfKind(a) => {
-            identifier_error(book, index, text, at, kind_error(book, index, text, a, at))
-        }
+        Step::Variable => variable_error(book, index, text, at),
+        Step::VariableOfKind(a) => kind_error(book, index, text, a, at),
         Step::RejectVariable => error_at(at, VARIABLE_FOUND, 0),
         Step::RejectReserved => error_at(at, RESERVED_FOUND, 0),
         Step::Nonterminal(a) => error_at(at, NONTERMINAL_WANTED, a),

@@ -78,10 +78,11 @@ pub fn free_end(book: &[u8], index: &[usize], text: &[u8], at: usize) -> End
     }
 }
 
+// A starting name, reserved or not.
 pub fn variable_at(book: &[u8], index: &[usize], text: &[u8], at: usize) -> Variable
     ensures { λ r. ⌜ variableOf r ≡ variableAt (bookAt book index) (atEntry text) at ⌝ }
 {
-    let End::At(end) = free_end(book, index, text, at) else {
+    let End::At(end) = identifier_end(text, at) else {
         return Variable::Nothing;
     };
     match lookup(book, index, text, at, span_length(at, end)) {

@@ -124,15 +124,15 @@ name-fits names spelling kinds j k e =
 
 -- ---- Variables
 module _ (book : Book) (text : List ℕ) (fit : Fit book text) where
-  variable-named : (at end : ℕ) (v : Variable) → freeEnd book text at ≡ some end → (f : Found) →
+  variable-named : (at end : ℕ) (v : Variable) → identifierEnd text at ≡ some end → (f : Found) →
       lookupName (book .names) (spelled text at end) ≡ f →
       elim f [ Found.Name i kind ↦ some (record { end = end; number = i; kind = kind }) | Found.Nothing ↦ none ]
       ≡ some v → Fits (v .end) × Fits (v .number) × Fits (v .kind)
   variable-named at end v e (Found.Name i kind) q p =
       let s : record { end = end; number = i; kind = kind } ≡ v = cc in
       let low = name-fits (book .names) (spelled text at end) (fit .kinds) i kind q in
-      let all : Fits end × Fits i × Fits kind =
-      (free-end-fits book text at end (fit .short) e, omega (arith, fit .names), low .1) in
+      let ends : Fits end = omega (arith, identifier-within text at end e, fit .short) in
+      let all : Fits end × Fits i × Fits kind = (ends, omega (arith, fit .names), low .1) in
       rw (← s) all
   variable-named at end v e Found.Nothing q p = let z : _≡_ {A = ℕ} 0 1 = cc in absurd (omega arith)
 
@@ -140,7 +140,7 @@ module _ (book : Book) (text : List ℕ) (fit : Fit book text) where
       Fits (v .end) × Fits (v .number) × Fits (v .kind)
   unfolding variableAt
   variable-fits at v q =
-      by-option (freeEnd book text at)
+      by-option (identifierEnd text at)
       (λ end e.
       variable-named at end v e (lookupName (book .names) (spelled text at end)) refl (rw (e, variableAt) at q))
       (λ e. let p : none ≡ some v = rw (e, variableAt) at q in let z : _≡_ {A = ℕ} 0 1 = cc in absurd (omega arith))

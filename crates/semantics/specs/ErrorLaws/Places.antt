@@ -99,10 +99,10 @@ module _ (book : Book) (text : List ℕ) where
   variable-forward : (at : ℕ) (v : Variable) → variableAt book text at ≡ some v → at ≤ v .end
   unfolding variableAt
   variable-forward at v q =
-      option-cases (freeEnd book text at)
+      option-cases (identifierEnd text at)
       (λ e. absurd (none-some (rw (e, variableAt) at q)))
       (λ end e.
-      named-forward end (free-end-within book text at end e .0) (lookupName (book .names) (spelled text at end))
+      named-forward end (identifier-within text at end e .0) (lookupName (book .names) (spelled text at end))
       (rw (e, variableAt) at q))
     where
       named-forward : (end : ℕ) → at < end → (f : Found) →
@@ -207,7 +207,7 @@ module _ (book : Book) (text : List ℕ) where
   step-error-place Step.Number at = number-error-place at (numberAt text at) refl
   step-error-place Step.Variable at = identifier-error-place at _ refl
   step-error-place (Step.VariableOfKind a) at =
-      identifier-error-place at _ (by-test (isSome (variableAt book text at)) (λ t. rw t) (λ t. rw t))
+      by-test (isSome (variableAt book text at)) (λ t. rw t) (λ t. rw t (identifier-error-place at _ refl))
   step-error-place Step.RejectVariable at = refl
   step-error-place Step.RejectReserved at = refl
   step-error-place (Step.Nonterminal M) at = refl

@@ -16,7 +16,6 @@ use Rattle.semantics.specs.Steps.{stepAt, Todo, stepsOf}
 use Rattle.semantics.specs.Derivations.{Attempt, variantOf, inside, Derives, by-variant, by-governor}
 use Rattle.semantics.specs.Derivations.{by-identifier, Through, done, by-token, by-child, by-absent, by-one}
 use Rattle.semantics.specs.Derivations.{by-list, by-unopened, by-stop, by-more, by-last, by-ending}
-use Rattle.semantics.specs.Theorem.Results.{option-cases}
 
 -- what the rules ask of a book, and what of it a longer one retains
 pub record Retains (book longer : Book) : Type 0 where
@@ -41,10 +40,7 @@ module _ (book longer : Book) (text : List ℕ) (retains : Retains book longer) 
 
   variable-still : (at : ℕ) → variableAt longer text at ≡ variableAt book text at
   unfolding variableAt
-  variable-still at =
-      option-cases (freeEnd book text at)
-      (λ missing. rw (free-still at ∙ missing, missing, variableAt) refl)
-      (λ end there. rw (free-still at ∙ there, there, variableAt, retains .names) refl)
+  variable-still at = rw (retains .names) refl
 
   claimant-still : (P : Path) (scope u : ℕ) → hasClaimant longer text P scope u ≡ hasClaimant book text P scope u
   unfolding hasClaimant

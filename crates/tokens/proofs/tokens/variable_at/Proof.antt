@@ -9,18 +9,18 @@ use Rattle.tokens.proofs.tokens.variable_at.Tie as tie
 returns : tie.Need-returns
 unfolding variableAt
 returns c =
-    let free-end = c .before .before .free-end in
-    rw (sym (free-end .ensures) ∙ ap endOf (c .enum-told .given .1), variableAt)
+    let identifier-end = c .before .before .identifier-end in
+    rw (sym (identifier-end .ensures) ∙ ap endOf (c .enum-told .given .1), variableAt)
 
 returns-2 : tie.Need-returns-2
 unfolding variableAt
 returns-2 c =
-    let free-end = c .before .before .before .before .before .before .before .before .free-end in
+    let identifier-end = c .before .before .before .before .before .before .before .before .identifier-end in
     let end = c .before .before .before .before .before .before .end in
     let span-length = c .before .before .before .before .span-length in
     let lookup = c .before .before .before .lookup in
     rw (
-      sym (free-end .ensures) ∙ ap endOf (end .given .1),
+      sym (identifier-end .ensures) ∙ ap endOf (end .given .1),
       variableAt,
       sym (span-length .ensures),
       sym (lookup .ensures) ∙ c .before .number .given .1,
@@ -29,12 +29,12 @@ returns-2 c =
 returns-3 : tie.Need-returns-3
 unfolding variableAt
 returns-3 c =
-    let free-end = c .before .before .before .before .before .before .before .free-end in
+    let identifier-end = c .before .before .before .before .before .before .before .identifier-end in
     let end = c .before .before .before .before .before .end in
     let span-length = c .before .before .before .span-length in
     let lookup = c .before .before .lookup in
     rw (
-      sym (free-end .ensures) ∙ ap endOf (end .given .1),
+      sym (identifier-end .ensures) ∙ ap endOf (end .given .1),
       variableAt,
       sym (span-length .ensures),
       sym (lookup .ensures) ∙ c .enum-told2 .given .1,
