@@ -219,8 +219,8 @@ class Explanation:
             return [f"If the rule is meant to go on, the steps of the book fit up to here:\n{there}"]
         if self.reading.error is not None and len(found.symbols) == 1:
             return []  # the error has told it
-        said, word = hints.said(place, found.symbols), hints.word(place)
-        if not word or not said.startswith(word):  # a word of the rule stays as it is spelled
+        said = hints.said(place, found.symbols)
+        if not said.startswith(f"{hints.word(place)} is "):  # a word of the rule stays as it is spelled
             said = said[0].upper() + said[1:]
         return [said, *map(_filled, hints.begun(found.symbols))]
 

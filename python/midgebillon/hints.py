@@ -12,8 +12,7 @@ COMMENTS = (b"#", b"/*")  # of other languages
 CLOSE = 0.7  # how alike two spellings are for one to be meant
 DECIMAL = re.compile(rb"(?<=[0-9])[.,eE][0-9]")
 DOLLAR = re.compile(rb"\$[A-Za-z_]")
-OF_VARIABLES = {books.VARIABLE, books.VARIABLE_OF_KIND}
-OF_NAMES = {books.IDENTIFIER} | OF_VARIABLES
+OF_NAMES = {books.IDENTIFIER, books.VARIABLE, books.VARIABLE_OF_KIND}
 
 
 def near(word, known):
@@ -44,7 +43,7 @@ class Hints:
         word, digits = self.word(place), DIGITS.match(self.text, place)
         if digits and int(digits.group()) > LARGEST_NUMBER and books.NUMBER in kinds:
             return [f"this number is above {LARGEST_NUMBER}, the greatest"]
-        if kinds & OF_NAMES and (known := self._known(word, kinds)):
+        if kinds & OF_NAMES and (known := self._known(word)):
             return [f"{word} is {' and '.join(known)}"]
         if self.text.startswith(COMMENTS, place):
             return ["a comment begins with //"]
@@ -56,13 +55,10 @@ class Hints:
             return ["a name is written without $"]
         return self._no_name(word, first, kinds)
 
-    def _known(self, word, kinds):
-        """What a word is, of what keeps it from being read as a name of these kinds. A starting name that is reserved
-        may still be a variable, but no identifier."""
-        is_variable = word in self.tokens.variables
-        refused = word in self.tokens.reserved and (books.IDENTIFIER in kinds or not is_variable)
-        known = ["a reserved word"] if refused else []
-        if is_variable and (kinds & OF_VARIABLES or not refused):
+    def _known(self, word):
+        """What a word is, of what may keep it from being read as a name; it may be both."""
+        known = ["a reserved word"] if word in self.tokens.reserved else []
+        if word in self.tokens.variables:
             known.append(f"a variable of kind {self.tokens.variables[word]}")
         return known
 

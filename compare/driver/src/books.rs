@@ -40,7 +40,7 @@ fn entries(random: &mut Random, labels: usize) -> Vec<Entry> {
     (0..count).map(|_| Entry { label: random.below(labels) as u8, spelling: random.pick(SPELLINGS).into() }).collect()
 }
 
-/// In one book of four some name is reserved for certain; in others by chance.
+/// In one book of four a name is reserved on purpose; in others by chance.
 fn reserve_names(random: &mut Random, book: &mut Book) {
     if !random.one_in(4) {
         return;

@@ -13,7 +13,8 @@ pub struct Case {
 }
 
 impl Case {
-    /// Whether a starting name stands in the text that is also a reserved word, by a book that the reader has accepted.
+    /// Whether among the text's words, those of comments too, is a starting name that is reserved, by a book that the reader
+    /// has accepted.
     pub fn has_reserved_name(&self) -> bool {
         let book = Book::of(&self.book);
         let is_name = |word: &str| book.names.iter().any(|n| n.spelling == word);

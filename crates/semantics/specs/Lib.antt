@@ -15,7 +15,8 @@ pub mod Answer
 pub mod Allowance
 pub mod ExampleBook
 pub mod ReservedNames
-pub mod ReservedNamesExample
+pub mod ReservedNameLaws
+pub mod ReservedNameExample
 pub mod Exact
 pub mod Extension
 pub mod ExtensionExample

@@ -49,13 +49,13 @@ module _ (book : Book) (text : List ℕ) where
   reservedAt at =
       elim (identifierEnd text at) [ some end ↦ isReserved (book .words) (spelled text at end) | none ↦ false ]
 
-  -- an identifier that is not reserved: "2, 4, 5 and a mark-2 use refuse a reserved word", of which document 02 f leaves
-  -- 2 and the mark-2 use: "Identifiers still refuse reserved words"
+  -- an identifier that is not reserved, of kind 2 and of a mark-2 use: "2, 4, 5 and a mark-2 use refuse a reserved
+  -- word", and by document 02 f "Identifiers still refuse reserved words"
   unfoldable pub freeEnd : ℕ → Option ℕ
   freeEnd at = when (reservedAt at) (λ _. none) (λ _. identifierEnd text at)
 
-  -- a variable at a place: the last equal starting name, reserved or not. Document 02 f: "The starting name shall win in
-  -- steps of kinds 4 and 5, in kind 6 and in the claim of mark 1"
+  -- a variable at a place: the last equal starting name, reserved or not. Document 02 f: "The starting name shall win
+  -- in steps of kinds 4 and 5, in kind 6 and in the claim of mark 1"
   unfoldable pub variableAt : ℕ → Option Variable
   variableAt at =
       elim (identifierEnd text at) [

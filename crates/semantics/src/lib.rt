@@ -5,4 +5,5 @@
 // of a call never run out (specs/RoundLaws.antt), and that errors stand and drop as document 01 says
 // (specs/ErrorLaws.antt). Of document 02: errors joined in any order give the furthest (specs/FurthestLaws.antt);
 // adding a variant to a book loses nothing (specs/Extension.antt); from 1 to 1,000,000, a larger allowance changes no
-// answer but 20 (specs/Allowance.antt).
+// answer but 20 (specs/Allowance.antt); where no starting name stands that is reserved, a variable is what
+// it was before document 02 f (specs/ReservedNames.antt).

@@ -1,4 +1,5 @@
--- Document 02 f, by examples: a starting name that is also a reserved word, at each step and mark that it may meet.
+-- Document 02 f, by examples: a starting name that is also a reserved word, in steps of each kind that reads words or
+-- names, and under marks 1 and 2.
 use mathlib.Core.Path.{_≡_, refl}
 use mathlib.Core.Bool.{Bool, true, false}
 use mathlib.Core.List.{List, [], _∷_}
@@ -51,7 +52,7 @@ claims text =
 abbrev variableA : Row
 variableA = value (Tree.variant 0 (no-trees ▸ Tree.variable 0 2)) 1
 
-pub record ReservedNames : Type 0 where
+pub record ReservedNameAnswers : Type 0 where
   -- "The starting name shall win in steps of kinds 4 and 5", of the right kind; of another, "or give 8"
   pub variable : reads (bookOf 4 0) minusA ≡ variableA
   pub of-kind : reads (bookOf 5 2) minusA ≡ variableA
@@ -62,21 +63,23 @@ pub record ReservedNames : Type 0 where
   pub identifier : reads (bookOf 2 0) minusA ≡ refused 30 1 6 0
   pub identifier-use : reads identifierBook minusA ≡ refused 30 1 11 1
   pub reserved : reads (bookOf 7 0) minusA ≡ refused 30 1 6 0
+  -- a word is read, whatever else it is
+  pub word : reads (bookOf 1 0) minusA ≡ value (Tree.variant 0 no-trees) 1
   -- "a mark-1 use didn't claim and now does". No answer shows it: the mark-2 use refuses the word anyway
   pub claiming : claims (97 ∷ []) ≡ true
   pub read-by-claiming : reads claimingBook (97 ∷ []) ≡ variableA
-  -- a reserved word that is no starting name is no variable, and gives 6; kind 6 passes it; no one claims it
+  -- a reserved word that is no starting name is no variable, and gives 6; kind 6 passes it; no use claims it
   pub no-name : reads (bookOf 4 0) minusB ≡ refused 30 1 6 0
   pub no-name-of-kind : reads (bookOf 5 2) minusB ≡ refused 30 1 6 0
   pub no-name-passes : reads (bookOf 6 0) minusB ≡ refused 31 0 0 0
-  pub no-name-claimed : claims (98 ∷ []) ≡ false
+  pub no-name-unclaimed : claims (98 ∷ []) ≡ false
   -- an identifier that is neither
   pub unknown : reads (bookOf 4 0) minusC ≡ refused 30 1 7 0
   pub unknown-of-kind : reads (bookOf 5 2) minusC ≡ refused 30 1 7 0
 
-pub reserved-names : ReservedNames
+pub reserved-name-answers : ReservedNameAnswers
 unfolding computing
-reserved-names = record {
+reserved-name-answers = record {
   variable = refl;
   of-kind = refl;
   of-another-kind = refl;
@@ -84,12 +87,13 @@ reserved-names = record {
   identifier = refl;
   identifier-use = refl;
   reserved = refl;
+  word = refl;
   claiming = refl;
   read-by-claiming = refl;
   no-name = refl;
   no-name-of-kind = refl;
   no-name-passes = refl;
-  no-name-claimed = refl;
+  no-name-unclaimed = refl;
   unknown = refl;
   unknown-of-kind = refl;
 }
