@@ -7,9 +7,10 @@
 use mathlib.Core.Path.{_≡_, refl, sym, ap, _∙_}
 use mathlib.Core.Bool.{true, false}
 use mathlib.Core.List.{List, [], _∷_}
-use mathlib.Core.Option.{Option, none, some}
+use mathlib.Core.Option.{none, some}
 use Prim.Native.Nat.{ℕ, suc, _<_}
 use native.Mathlib.Omega.{arith}
+use lib.Dec.{eqb}
 use lib.ListN.{length}
 use borrow.Author.Tests.{ne-eqb}
 use Rattle.characters.specs.Cases.{by-test, clash}
@@ -38,6 +39,17 @@ module _ (book : Book) (text : List ℕ) where
   unfolding freeEnd
   free-unreserved at unreserved = rw unreserved refl
 
+  -- where an identifier stands, the text hasn't ended
+  not-ended : (at end : ℕ) → identifierEnd text at ≡ some end → eqb at (length text) ≡ false
+  not-ended at end e =
+      let within = identifier-within text at end e in ne-eqb at (length text) (λ is. omega (arith, within .0, within .1))
+
+  -- where one that isn't reserved stands, none is missing
+  identifier-there : (at end : ℕ) (other : Error) → identifierEnd text at ≡ some end →
+      reservedAt book text at ≡ false → identifierError book text at other ≡ other
+  unfolding identifierError
+  identifier-there at end other e unreserved = rw (not-ended at end e, unreserved, e, identifierError) refl
+
   pub variable-before : (at : ℕ) → reservedAt book text at ≡ true → variableBefore book text at ≡ none
   unfolding variableBefore
   variable-before at reserved = rw (free-reserved at reserved, variableBefore) refl
@@ -48,9 +60,7 @@ module _ (book : Book) (text : List ℕ) where
   error-before a at reserved =
       option-cases (identifierEnd text at)
       (λ missing. clash reserved (rw (missing, reservedAt) refl))
-      (λ end e.
-      let within = identifier-within text at end e in
-      rw (ne-eqb at (length text) (λ is. omega (arith, within .0, within .1)), reserved, identifierError) refl)
+      (λ end e. rw (not-ended at end e, reserved, identifierError) refl)
 
   pub claim-unseen : (c : Call) (s : State) → reservedAt book text (c .start) ≡ true →
       runIdentifier book text c s ≡ ok (parsed [] (some (failedCall c none)) s)
@@ -71,14 +81,6 @@ module _ (book : Book) (text : List ℕ) where
     variable-unreserved v there =
         by-test (reservedAt book text at) (λ t. absurd (none-some (sym (no-name t) ∙ there))) (λ t. t)
 
-    -- where an identifier that isn't reserved stands, none is missing
-    identifier-there : (end : ℕ) (other : Error) → identifierEnd text at ≡ some end →
-        reservedAt book text at ≡ false → identifierError book text at other ≡ other
-    unfolding identifierError
-    identifier-there end other e unreserved =
-        let within = identifier-within text at end e in
-        rw (ne-eqb at (length text) (λ is. omega (arith, within .0, within .1)), unreserved, e, identifierError) refl
-
     errors-as-before : (a : ℕ) → stepError book text (Step.VariableOfKind a) at ≡ kindErrorBefore book text a at
     unfolding stepError kindErrorBefore isSome variableAt
     errors-as-before a =
@@ -88,7 +90,7 @@ module _ (book : Book) (text : List ℕ) where
         option-cases (identifierEnd text at)
         (λ missing. absurd (none-some (rw (missing, variableAt) at e)))
         (λ end there. rw (sym variable-as-before ∙ e, e)
-        (sym (identifier-there end (error at wrongKind a) there (variable-unreserved v e)))))
+        (sym (identifier-there at end (error at wrongKind a) there (variable-unreserved v e)))))
 
 pub unmoved-at : UnmovedAt
 unmoved-at book text at no-name =
