@@ -9,12 +9,13 @@ use Rattle.characters.specs.Skipping.{skipFrom}
 use Rattle.characters.specs.Spelling.{partOf}
 use Rattle.book.specs.Book.{Book, nthNonterminal, nthVariant}
 use Rattle.book.specs.declared.records.Associativity.{Associativity}
+use Rattle.book.specs.declared.records.Step.{Step}
 use Rattle.book.specs.Numbers.{defaultLevel}
-use Rattle.semantics.specs.Values.{Tree, Trees, no-trees, _▸_, variant, name, number, variable, absent, list}
-use Rattle.semantics.specs.Values.{Parse}
-use Rattle.semantics.specs.Uses.{Path, base, useOf, hasMark, minimum, same-start, governor, keeps}
-use Rattle.semantics.specs.Tokens.{freeEnd, spelled, claimed}
-use Rattle.semantics.specs.Steps.{Item, Taken, stepAt, goes, halts, afterElement, closed, Todo, taking, elements}
+use Rattle.semantics.specs.Values.{Tree, Trees, no-trees, _▸_, variant, name, number, variable, declared}
+use Rattle.semantics.specs.Values.{absent, list, Parse}
+use Rattle.semantics.specs.Uses.{Path, scopeOf, within, useOf, hasMark, minimum, same-start, governor, keeps}
+use Rattle.semantics.specs.Tokens.{Item, freeEnd, spelled, claimed}
+use Rattle.semantics.specs.Steps.{Taken, stepAt, goes, halts, afterElement, closed, Todo, taking, elements}
 use Rattle.semantics.specs.Steps.{ending, todoOf}
 
 -- the last item; a passing variant has just one
@@ -42,6 +43,7 @@ unfoldable pub treeOf : List ℕ → Item → Tree
 treeOf text (Item.name place size) = name (partOf text place size)
 treeOf text (Item.number n) = number n
 treeOf text (Item.variable i kind) = variable i kind
+treeOf text (Item.declared depth index) = declared depth index
 
 -- the items with a token's
 unfoldable pub withItem : List ℕ → Trees → Option Item → Trees
@@ -66,44 +68,49 @@ variantOf book N i = nthNonterminal book N .first + i
 
 -- the path of a child that begins at a place
 abbrev pub inside : Book → Attempt → ℕ → Path
-inside book a at = useOf book (a .nonterminal) (a .start) (a .variant) at ∷ a .path
+inside book a at = within (useOf book (a .nonterminal) (a .start) (a .variant) at) ∷ a .path
 
 module _ (book : Book) (text : List ℕ) where
+  -- what a step of an attempt takes at a place, in the attempt's scope. Document 02 d: "Derivations are now taken over a
+  -- scope as well as a place"
+  abbrev pub takes : Attempt → Step → ℕ → Taken
+  takes a s x = stepAt book text (scopeOf (a .path)) s x
+
   mutual
     -- a use of N at u, with its path, has the parse p
     pub data Derives : Path → ℕ → ℕ → Parse Tree → Type 0 where
       -- "A derivation takes a variant whose level reaches the minimum and all its steps in turn"
-      by-variant : {P N u p m i : _} → governor P base N u ≡ minimum m →
+      by-variant : {P N u p m i : _} → governor P N u ≡ minimum m →
           i < nthNonterminal book N .count → leb m (nthVariant book (variantOf book N i) .level) ≡ true →
           Through (attempt P N u (variantOf book N i) p)
           (todoOf book (nthVariant book (variantOf book N i))) u no-trees →
           Derives P N u p
       -- "Child at the governor's own start: its derivations are those at the governor's place and path, kept when .."
-      by-governor : {P N u p i f Q : _} → governor P base N u ≡ same-start i f Q →
+      by-governor : {P N u p i f Q : _} → governor P N u ≡ same-start i f Q →
           Derives Q (f .nonterminal) (f .start) p → keeps f p ≡ true → Derives P N u p
       -- "A mark-2 use yields an identifier .. unless .."
-      by-identifier : {P N u p m end : _} → governor P base N u ≡ minimum m → hasMark book 2 N ≡ true →
-          claimed book text P base u ≡ false → freeEnd book text u ≡ some end →
+      by-identifier : {P N u p m end : _} → governor P N u ≡ minimum m → hasMark book 2 N ≡ true →
+          claimed book text P u ≡ false → freeEnd book text u ≡ some end →
           p ≡ identifierParse text u end → Derives P N u p
 
     -- an attempt, with this left to do at a place, after these items, comes to its parse. "Kinds 2 to 5 and 8 to 13 add
     -- one item, others none"
     pub data Through : Attempt → List (Todo Trees) → ℕ → Trees → Type 0 where
       done : {a : Attempt} {x items : _} → a .parse ≡ parseOf book (a .variant) x items → Through a [] x items
-      by-token : {a s t rest x items : _} → stepAt book text s x ≡ Taken.token t →
+      by-token : {a s t rest x items : _} → takes a s x ≡ Taken.token t →
           Through a rest (t .next) (withItem text items (t .item)) → Through a (taking s ∷ rest) x items
-      by-child : {a s M q rest x items : _} → stepAt book text s x ≡ Taken.child M →
+      by-child : {a s M q rest x items : _} → takes a s x ≡ Taken.child M →
           Derives (inside book a (skipFrom text x)) M (skipFrom text x) q →
           Through a rest (q .rest) (items ▸ q .value) → Through a (taking s ∷ rest) x items
       -- "Optional is absent or one"
-      by-absent : {a s M rest x items : _} → stepAt book text s x ≡ Taken.optional M →
+      by-absent : {a s M rest x items : _} → takes a s x ≡ Taken.optional M →
           Through a rest x (items ▸ absent) → Through a (taking s ∷ rest) x items
-      by-one : {a s M q rest x items : _} → stepAt book text s x ≡ Taken.optional M →
+      by-one : {a s M q rest x items : _} → takes a s x ≡ Taken.optional M →
           Derives (inside book a (skipFrom text x)) M (skipFrom text x) q →
           Through a rest (q .rest) (items ▸ q .value) → Through a (taking s ∷ rest) x items
-      by-list : {a s comma M close y rest x items : _} → stepAt book text s x ≡ Taken.list comma M close y →
+      by-list : {a s comma M close y rest x items : _} → takes a s x ≡ Taken.list comma M close y →
           Through a (elements comma M no-trees close ∷ rest) y items → Through a (taking s ∷ rest) x items
-      by-unopened : {a s y rest x items : _} → stepAt book text s x ≡ Taken.unopened y →
+      by-unopened : {a s y rest x items : _} → takes a s x ≡ Taken.unopened y →
           Through a rest y (items ▸ list no-trees) → Through a (taking s ∷ rest) x items
       -- "Many is stop or one more. A comma list is stop, or one followed by stop or, after a comma, by the list again":
       -- any list may stop; after one more it goes on, or, without a comma where commas are wanted, it halts

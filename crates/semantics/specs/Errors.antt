@@ -12,6 +12,7 @@ use Rattle.book.specs.declared.records.Step.{Step}
 use Rattle.semantics.specs.Numbers.{characterWanted, wordWanted, identifierWanted, textEnded, variableFound}
 use Rattle.semantics.specs.Numbers.{reservedFound, unknownName, wrongKind, digitsWanted, tooLarge}
 use Rattle.semantics.specs.Numbers.{nonterminalWanted, moreWanted}
+use Rattle.semantics.specs.Uses.{Scope}
 use Rattle.semantics.specs.Tokens.{identifierEnd, reservedAt, variableAt, isSome, when}
 
 pub record Error : Type 0 where
@@ -64,27 +65,27 @@ module _ (book : Book) (text : List ℕ) where
       (λ _. elim (identifierEnd text at) [ some end ↦ other | none ↦ error at identifierWanted 0 ]))
 
   -- at a skipped place. Kinds 8 to 11 and 13 always take something and are never asked for
-  unfoldable pub stepError : Step → ℕ → Error
-  stepError (Step.Character a) at = error at characterWanted a
-  stepError (Step.Word a) at = error at wordWanted a
-  stepError Step.Identifier at = identifierError at (error at identifierWanted 0)
-  stepError Step.Number at =
+  unfoldable pub stepError : Scope → Step → ℕ → Error
+  stepError scope (Step.Character a) at = error at characterWanted a
+  stepError scope (Step.Word a) at = error at wordWanted a
+  stepError scope Step.Identifier at = identifierError at (error at identifierWanted 0)
+  stepError scope Step.Number at =
       when (eqb at (length text)) (λ _. error at textEnded 0)
       (λ _. elim (numberAt text at) [
         | Number.Nothing ↦ error at digitsWanted 0
         | Number.TooLarge ↦ error at tooLarge 0
         | Number.Value value end ↦ error at tooLarge 0
       ])
-  stepError Step.Variable at = identifierError at (error at unknownName 0)
+  stepError scope Step.Variable at = identifierError at (error at unknownName 0)
   -- a name of another kind, else as kind 4. Document 02 f: kinds 4 and 5 "now read the name, or give 8"
-  stepError (Step.VariableOfKind a) at =
-      when (isSome (variableAt book text at)) (λ _. error at wrongKind a)
+  stepError scope (Step.VariableOfKind a) at =
+      when (isSome (variableAt book text scope at)) (λ _. error at wrongKind a)
       (λ _. identifierError at (error at unknownName 0))
-  stepError Step.RejectVariable at = error at variableFound 0
-  stepError Step.RejectReserved at = error at reservedFound 0
-  stepError (Step.Nonterminal a) at = error at nonterminalWanted a
-  stepError (Step.Optional a) at = error at nonterminalWanted a
-  stepError (Step.Many a) at = error at nonterminalWanted a
-  stepError (Step.CommaList a) at = error at nonterminalWanted a
-  stepError (Step.Delimited a b c) at = error at characterWanted b
-  stepError (Step.OptionalDelimited a b c) at = error at nonterminalWanted a
+  stepError scope Step.RejectVariable at = error at variableFound 0
+  stepError scope Step.RejectReserved at = error at reservedFound 0
+  stepError scope (Step.Nonterminal a) at = error at nonterminalWanted a
+  stepError scope (Step.Optional a) at = error at nonterminalWanted a
+  stepError scope (Step.Many a) at = error at nonterminalWanted a
+  stepError scope (Step.CommaList a) at = error at nonterminalWanted a
+  stepError scope (Step.Delimited a b c) at = error at characterWanted b
+  stepError scope (Step.OptionalDelimited a b c) at = error at nonterminalWanted a

@@ -14,8 +14,8 @@ use Rattle.book.specs.Book.{isReserved, lookupFrom}
 use Rattle.book.specs.Check.{checked, records, spelling, entry, nonterminal, variant, stepOf, step, allPass, ended}
 use Rattle.book.specs.Check.{entireBook}
 use Rattle.book.specs.Check.{checkBook}
-use Rattle.semantics.specs.Uses.{outwards, govern, governor}
-use Rattle.semantics.specs.Tokens.{isSome, characterEnd, identifierEnd, reservedAt, freeEnd, variableAt}
+use Rattle.semantics.specs.Uses.{scopeOf, outwards, govern, governor}
+use Rattle.semantics.specs.Tokens.{isSome, characterEnd, identifierEnd, reservedAt, freeEnd, variableIn, variableAt}
 use Rattle.semantics.specs.Tokens.{hasClaimant, when}
 use Rattle.semantics.specs.Steps.{stepAt, afterElement, closed}
 use Rattle.semantics.specs.Cells.{numbersOf, cellsIn, identityOf, findCell, treeIn, treesIn, meaningOf, meanings}
@@ -77,8 +77,8 @@ times a b = Tree.variant 2 (no-trees ▸ a ▸ b)
 unfoldable pub computing : Unit {0}
 unfolding classOf leading spanEnd commentAt commentEnd roundEnd skipRounds skipFrom identifierAt decimal numberOf
     numberAt same isReserved lookupFrom checked records spelling entry nonterminal variant stepOf step allPass ended
-    entireBook checkBook outwards govern governor isSome characterEnd identifierEnd reservedAt freeEnd variableAt stepAt
-    hasClaimant afterElement closed numbersOf cellsIn identityOf findCell treeIn treesIn meaningOf meanings join
+    entireBook checkBook outwards govern governor isSome characterEnd identifierEnd reservedAt freeEnd scopeOf
+    variableIn variableAt stepAt hasClaimant afterElement closed numbersOf cellsIn identityOf findCell treeIn treesIn meaningOf meanings join
     beyond joinWith choiceError identifierError stepError _>>=_ sameParse has allIn kept add addAll ask newest others
     spend make itemCell withCell withToken nested closingCode begin complete counted variants oneRun roundsRun
     failedCall runCall named runIdentifier reentry enter enterChild either followMore follow followed plainNext

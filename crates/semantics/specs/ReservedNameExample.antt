@@ -6,7 +6,7 @@ use mathlib.Core.List.{List, [], _∷_}
 use Prim.Native.Nat.{ℕ}
 use Rattle.book.specs.Check.{checkBook, Outcome}
 use Rattle.semantics.specs.Values.{Tree, no-trees, _▸_}
-use Rattle.semantics.specs.Uses.{base, useOf}
+use Rattle.semantics.specs.Uses.{useOf, within}
 use Rattle.semantics.specs.Tokens.{claimed}
 use Rattle.semantics.specs.ExampleBook.{computing, Row, value, refused, reads}
 
@@ -44,7 +44,7 @@ minusC = 45 ∷ 99 ∷ []
 abbrev claims : List ℕ → Bool
 claims text =
     elim (checkBook claimingBook) [
-      | Outcome.book book ↦ claimed book text (useOf book 0 0 1 0 ∷ []) base 0
+      | Outcome.book book ↦ claimed book text (within (useOf book 0 0 1 0) ∷ []) 0
       | Outcome.refusal number place ↦ false
     ]
 

@@ -20,8 +20,8 @@ use Rattle.book.specs.Book.{Book, Entry, nthEntry, isReserved, lookupFrom}
 use Rattle.book.specs.declared.names.Found.{Found}
 use Rattle.book.specs.declared.records.Step.{Step}
 use Rattle.semantics.specs.Numbers.{reservedFound, wrongKind}
-use Rattle.semantics.specs.Uses.{base}
-use Rattle.semantics.specs.Tokens.{Variable, isSome, identifierEnd, spelled, reservedAt, freeEnd, variableAt}
+use Rattle.semantics.specs.Tokens.{Variable, Read, isSome, identifierEnd, spelled, reservedAt, freeEnd}
+use Rattle.semantics.specs.Tokens.{variableIn, variableAt}
 use Rattle.semantics.specs.Tokens.{claimed}
 use Rattle.semantics.specs.Errors.{Error, error, identifierError, stepError}
 use Rattle.semantics.specs.Run.{ok, State, parsed, Call, failedCall, named, runIdentifier}
@@ -66,25 +66,25 @@ module _ (book : Book) (text : List ℕ) where
       runIdentifier book text c s ≡ ok (parsed [] (some (failedCall c none)) s)
   unfolding runIdentifier freeEnd named
   claim-unseen c s reserved =
-      by-test (claimed book text (c .path) base (c .start)) (λ is. rw (is, named)) (λ is. rw (is, reserved, named))
+      by-test (claimed book text (c .path) (c .start)) (λ is. rw (is, named)) (λ is. rw (is, reserved, named))
 
   -- ---- At a place
   module _ (at : ℕ) (no-name : NoReservedNameAt book text at) where
-    variable-as-before : variableAt book text at ≡ variableBefore book text at
+    variable-as-before : variableAt book text [] at ≡ variableBefore book text at
     unfolding variableAt variableBefore
     variable-as-before =
         by-test (reservedAt book text at)
         (λ t. no-name t ∙ sym (variable-before at t))
         (λ t. rw (free-unreserved at t, variableBefore) refl)
 
-    variable-unreserved : (v : Variable) → variableAt book text at ≡ some v → reservedAt book text at ≡ false
+    variable-unreserved : (v : Read Variable) → variableAt book text [] at ≡ some v → reservedAt book text at ≡ false
     variable-unreserved v there =
         by-test (reservedAt book text at) (λ t. absurd (none-some (sym (no-name t) ∙ there))) (λ t. t)
 
-    errors-as-before : (a : ℕ) → stepError book text (Step.VariableOfKind a) at ≡ kindErrorBefore book text a at
+    errors-as-before : (a : ℕ) → stepError book text [] (Step.VariableOfKind a) at ≡ kindErrorBefore book text a at
     unfolding stepError kindErrorBefore isSome variableAt
     errors-as-before a =
-        option-cases (variableAt book text at)
+        option-cases (variableAt book text [] at)
         (λ e. rw (sym variable-as-before ∙ e, e) refl)
         (λ v e.
         option-cases (identifierEnd text at)
@@ -111,13 +111,13 @@ lookup-nothing words (n ∷ names) i spelling reserved none-reserved =
     (λ t. rw t (lookup-nothing words names (suc i) spelling reserved (λ m l. none-reserved (suc m) (omega arith))))
 
 no-name-at : (book : Book) → NoReservedName book → (text : List ℕ) (at : ℕ) → NoReservedNameAt book text at
-unfolding variableAt reservedAt
+unfolding variableIn variableAt reservedAt
 no-name-at book none-reserved text at reserved-there =
     option-cases (identifierEnd text at)
     (λ e. rw (e, variableAt))
     (λ end e.
     let reserved : isReserved (book .words) (spelled text at end) ≡ true = rw (e, reservedAt) at reserved-there in
-    rw (e, variableAt, lookup-nothing (book .words) (book .names) 0 (spelled text at end) reserved none-reserved) refl)
+    rw (e, variableAt, variableIn, lookup-nothing (book .words) (book .names) 0 (spelled text at end) reserved none-reserved) refl)
 
 pub unmoved : Unmoved
 unmoved book none-reserved text at = unmoved-at book text at (no-name-at book none-reserved text at)

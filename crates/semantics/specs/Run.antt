@@ -19,9 +19,9 @@ use Rattle.semantics.specs.Numbers.{mostNesting, mostParses, mostRounds,
 use Rattle.semantics.specs.Numbers.{noUnit, tooDeep, tooManyParses, tooManyCells, characterWanted}
 use Rattle.semantics.specs.Numbers.{nonterminalWanted}
 use Rattle.semantics.specs.Values.{Parse}
-use Rattle.semantics.specs.Uses.{Use, Path, base, useOf, hasMark, minimum, same-start, governor, keeps}
-use Rattle.semantics.specs.Tokens.{when, freeEnd, claimed}
-use Rattle.semantics.specs.Steps.{Item, Taken, stepAt, goes, halts, afterElement, closed, Todo, taking, elements}
+use Rattle.semantics.specs.Uses.{Use, Path, scopeOf, within, useOf, hasMark, minimum, same-start, governor, keeps}
+use Rattle.semantics.specs.Tokens.{Item, when, freeEnd, claimed}
+use Rattle.semantics.specs.Steps.{Taken, stepAt, goes, halts, afterElement, closed, Todo, taking, elements}
 use Rattle.semantics.specs.Steps.{ending, todoOf}
 use Rattle.semantics.specs.Cells.{Cell, findCell}
 use Rattle.semantics.specs.Errors.{Error, error, join, joinWith, beyond, choiceError, stepError}
@@ -164,6 +164,7 @@ unfoldable pub itemCell : Item → Cell
 itemCell (Item.name place size) = Cell.name place size
 itemCell (Item.number n) = Cell.number (n / half) (n % half)
 itemCell (Item.variable i kind) = Cell.variable i kind
+itemCell (Item.declared depth index) = Cell.declared depth index
 
 -- ---- Errors
 -- "With none, a call gives 11 at its start"
@@ -275,7 +276,7 @@ module _ (book : Book) (text : List ℕ) where
 
   unfoldable pub runIdentifier : Call → State → Result Parsed
   runIdentifier c s =
-      named c s (when (claimed book text (c .path) base (c .start)) (λ _. none) (λ _. freeEnd book text (c .start)))
+      named c s (when (claimed book text (c .path) (c .start)) (λ _. none) (λ _. freeEnd book text (c .start)))
 
   -- ---- What follows a parse
   -- the item is added, and the steps go on
@@ -315,7 +316,7 @@ module _ (book : Book) (text : List ℕ) (inner : Option Runner) where
   unfoldable pub enter : Path → List (List (Parse ℕ)) → ℕ → ℕ → State → Result Parsed
   enter path sets N u s₀ = do
     s ← spend s₀
-    elim (governor path base N u) [
+    elim (governor path N u) [
       | same-start i f around ↦
           ok (reentry (kept f (getD sets i [])) (error u nonterminalWanted N) (withAsked s (ask i (s .asked))))
       | minimum m ↦ nested s (λ run.
@@ -331,7 +332,7 @@ module _ (book : Book) (text : List ℕ) (inner : Option Runner) where
   unfoldable pub enterChild : Call → ℕ → ℕ → ℕ → State → Result Parsed
   enterChild c j M x s =
       let at = skipFrom text x in
-      enter (useOf book (c .nonterminal) (c .start) j at ∷ c .path) (c .mine ∷ c .stored) M at s
+      enter (within (useOf book (c .nonterminal) (c .start) j at) ∷ c .path) (c .mine ∷ c .stored) M at s
 
   -- what follows each parse of a child, one level further in; of the errors so far, if all failed, one is handed on
   unfoldable pub followMore : Next → List (Parse ℕ) → List (Parse ℕ) → Option Error → State → Result Parsed
@@ -386,8 +387,8 @@ module _ (book : Book) (text : List ℕ) (inner : Option Runner) where
   steps c j (ending values close ∷ rest) x items set s = stops book text j values close (steps c j rest) x items set s
   steps c j (taking step ∷ rest) x items set s₀ = do
     s ← stepUnit step s₀
-    elim (stepAt book text step x) [
-      | Taken.nothing ↦ ok (parsed set (some (stepError book text step (skipFrom text x))) s)
+    elim (stepAt book text (scopeOf (c .path)) step x) [
+      | Taken.nothing ↦ ok (parsed set (some (stepError book text (scopeOf (c .path)) step (skipFrom text x))) s)
       | Taken.token t ↦
           withToken book text j items (t .item) s >>= (λ m. steps c j rest (t .next) (m .cell) set (m .state))
       | Taken.child M ↦ enterChild c j M x s >>= (λ r. followed (plainNext book text c j rest items) set r)

@@ -13,15 +13,9 @@ use Rattle.characters.specs.declared.lexemes.Number.{Number}
 use Rattle.book.specs.Book.{Book, nthEntry}
 use Rattle.book.specs.declared.records.Step.{Step}
 use Rattle.book.specs.declared.records.Variant.{Variant}
-use Rattle.semantics.specs.Tokens.{Variable, when, characterEnd, identifierEnd, spelled, reservedAt, freeEnd}
-use Rattle.semantics.specs.Tokens.{variableAt}
-
--- what a token adds: an identifier by the place and length of its spelling, a number, a variable by its name's number
--- and kind
-pub data Item : Type 0 where
-  name : ℕ → ℕ → Item
-  number : ℕ → Item
-  variable : ℕ → ℕ → Item
+use Rattle.semantics.specs.Uses.{Scope}
+use Rattle.semantics.specs.Tokens.{Item, name, number, Variable, Read, when, characterEnd, identifierEnd, spelled}
+use Rattle.semantics.specs.Tokens.{reservedAt, freeEnd, variableAt}
 
 -- where a token ends, and what it adds
 pub record Token : Type 0 where
@@ -44,48 +38,48 @@ pub data Taken : Type 0 where
 abbrev pub read : ℕ → Option Item → Taken
 read next item = token (record { next = next; item = item })
 
-abbrev pub readVariable : Variable → Taken
-readVariable v = read (v .end) (some (variable (v .number) (v .kind)))
+abbrev pub readVariable : Read Variable → Taken
+readVariable v = read (v .end) (some (v .value .item))
 
 -- "Every token skips first; what follows it is unskipped"; "Kinds 2 to 5 .. add one item, others none; 6 and 7 don't
 -- move the place"
-unfoldable pub stepAt : Book → List ℕ → Step → ℕ → Taken
-stepAt book text (Step.Character a) x = elim (characterEnd text a x) [ some end ↦ read end none | none ↦ nothing ]
-stepAt book text (Step.Word a) x =
+unfoldable pub stepAt : Book → List ℕ → Scope → Step → ℕ → Taken
+stepAt book text scope (Step.Character a) x = elim (characterEnd text a x) [ some end ↦ read end none | none ↦ nothing ]
+stepAt book text scope (Step.Word a) x =
     let at = skipFrom text x in
     elim (identifierEnd text at) [
       | some end ↦ when (same (spelled text at end) (nthEntry (book .words) a .spelling))
           (λ _. read end none) (λ _. nothing)
       | none ↦ nothing
     ]
-stepAt book text Step.Identifier x =
+stepAt book text scope Step.Identifier x =
     let at = skipFrom text x in
     elim (freeEnd book text at) [ some end ↦ read end (some (name at (end - at))) | none ↦ nothing ]
-stepAt book text Step.Number x =
+stepAt book text scope Step.Number x =
     elim (numberAt text (skipFrom text x)) [
       | Number.Value value end ↦ read end (some (number value))
       | Number.TooLarge ↦ nothing
       | Number.Nothing ↦ nothing
     ]
-stepAt book text Step.Variable x =
-    elim (variableAt book text (skipFrom text x)) [ some v ↦ readVariable v | none ↦ nothing ]
-stepAt book text (Step.VariableOfKind a) x =
-    elim (variableAt book text (skipFrom text x)) [
-      | some v ↦ when (eqb (v .kind) a) (λ _. readVariable v) (λ _. nothing)
+stepAt book text scope Step.Variable x =
+    elim (variableAt book text scope (skipFrom text x)) [ some v ↦ readVariable v | none ↦ nothing ]
+stepAt book text scope (Step.VariableOfKind a) x =
+    elim (variableAt book text scope (skipFrom text x)) [
+      | some v ↦ when (eqb (v .value .kind) a) (λ _. readVariable v) (λ _. nothing)
       | none ↦ nothing
     ]
-stepAt book text Step.RejectVariable x =
-    elim (variableAt book text (skipFrom text x)) [ some v ↦ nothing | none ↦ read x none ]
-stepAt book text Step.RejectReserved x = when (reservedAt book text (skipFrom text x)) (λ _. nothing) (λ _. read x none)
-stepAt book text (Step.Nonterminal M) x = child M
-stepAt book text (Step.Optional M) x = optional M
-stepAt book text (Step.Many M) x = list false M none x
-stepAt book text (Step.CommaList M) x = list true M none x
-stepAt book text (Step.Delimited M b c) x =
+stepAt book text scope Step.RejectVariable x =
+    elim (variableAt book text scope (skipFrom text x)) [ some v ↦ nothing | none ↦ read x none ]
+stepAt book text scope Step.RejectReserved x = when (reservedAt book text (skipFrom text x)) (λ _. nothing) (λ _. read x none)
+stepAt book text scope (Step.Nonterminal M) x = child M
+stepAt book text scope (Step.Optional M) x = optional M
+stepAt book text scope (Step.Many M) x = list false M none x
+stepAt book text scope (Step.CommaList M) x = list true M none x
+stepAt book text scope (Step.Delimited M b c) x =
     elim (characterEnd text b x) [ some y ↦ list true M (some c) y | none ↦ nothing ]
 -- "If .. an optional opening is there it must be taken; without its opening kind 13 is the empty list"; "an optional
 -- opening in vain, still leaves the place skipped"
-stepAt book text (Step.OptionalDelimited M b c) x =
+stepAt book text scope (Step.OptionalDelimited M b c) x =
     elim (characterEnd text b x) [ some y ↦ list true M (some c) y | none ↦ unopened (skipFrom text x) ]
 
 -- ---- Lists

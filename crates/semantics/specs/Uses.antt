@@ -3,37 +3,46 @@ use mathlib.Core.Bool.{Bool, true, false, _&&_}
 use mathlib.Core.List.{List, [], _∷_}
 use Prim.Native.Nat.{ℕ, zero, suc}
 use lib.Dec.{leb, ltb, eqb}
-use Rattle.book.specs.Book.{Book, nthNonterminal, nthVariant, markNumber}
+use Rattle.book.specs.Book.{Entry, Book, nthNonterminal, nthVariant, markNumber}
 use Rattle.book.specs.declared.records.Associativity.{Associativity}
 use Rattle.semantics.specs.Values.{Parse}
 
--- an enclosing use: its nonterminal, scope and start, the level and associativity of its variant, and where its current
--- child begins
+-- an enclosing use: its nonterminal and start, the level and associativity of its variant, and where its current child
+-- begins
 pub record Use : Type 0 where
   pub nonterminal : ℕ
-  pub scope : ℕ
   pub start : ℕ
   pub level : ℕ
   pub associativity : Associativity
   pub child : ℕ
 
--- "the base has one" scope
-abbrev pub base : ℕ
-base = 0
-
 -- a use of N at u, with variant j, whose child begins at x
 abbrev pub useOf : Book → ℕ → ℕ → ℕ → ℕ → Use
 useOf book N u j x =
     let v = nthVariant book j in
-    record { nonterminal = N; scope = base; start = u; level = v .level; associativity = v .associativity; child = x }
+    record { nonterminal = N; start = u; level = v .level; associativity = v .associativity; child = x }
 
 -- "Mark 0 plain; 1 calls `try_claim_as_var` first; 2 is `identifier_nonterminal`"
 abbrev pub hasMark : Book → ℕ → ℕ → Bool
 hasMark book mark N = eqb (markNumber (nthNonterminal book N .mark)) mark
 
--- "Its path lists the enclosing uses", the nearest first
+-- what a use stands in: within an enclosing use, or behind an opening that was read, with the names it declared in order
+pub data Enclosing : Type 0 where
+  within : Use → Enclosing
+  behind : List Entry → Enclosing
+
+-- "Its path lists the enclosing uses", the nearest first, and among them the openings that were read
 abbrev pub Path : Type 0
-Path = List Use
+Path = List Enclosing
+
+-- The scope of a use: the names declared in the openings around it, the innermost binder first
+abbrev pub Scope : Type 0
+Scope = List (List Entry)
+
+unfoldable pub scopeOf : Path → Scope
+scopeOf [] = []
+scopeOf (within f ∷ path) = scopeOf path
+scopeOf (behind names ∷ path) = names ∷ scopeOf path
 
 -- what the governor of a use says: the minimum, or, for a child at the governor's own start, the governor: its number
 -- in the path, which only the run asks for, itself and its own path
@@ -60,12 +69,12 @@ govern true false f path around = minimum (minimumOf (f .associativity) (f .leve
 govern false b f path around = outwards around
 
 -- "Its governor is the nearest enclosing use of N, in the same scope .., whose current child begins at u. No governor:
--- minimum 0"
-unfoldable pub governor : Path → ℕ → ℕ → ℕ → Governor
-governor [] scope N u = minimum 0
-governor (f ∷ path) scope N u =
-    govern (eqb (f .nonterminal) N && (eqb (f .scope) scope && eqb (f .child) u)) (eqb (f .start) u) f path
-    (governor path scope N u)
+-- minimum 0". Two uses of a path have the same scope exactly when no opening was read between them
+unfoldable pub governor : Path → ℕ → ℕ → Governor
+governor [] N u = minimum 0
+governor (behind names ∷ path) N u = minimum 0
+governor (within f ∷ path) N u =
+    govern (eqb (f .nonterminal) N && eqb (f .child) u) (eqb (f .start) u) f path (governor path N u)
 
 -- "kept when level is at least (Left) or above (Right, None) the governor's variant level; Both keeps all"
 abbrev pub keepsLevel : Associativity → ℕ → ℕ → Bool

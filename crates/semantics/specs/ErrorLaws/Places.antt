@@ -19,21 +19,30 @@ use Rattle.characters.specs.declared.lexemes.Number.{Number}
 use Rattle.book.specs.Book.{Book, nthEntry, lookupName}
 use Rattle.book.specs.declared.names.Found.{Found}
 use Rattle.book.specs.declared.records.Step.{Step}
-use Rattle.semantics.specs.Uses.{Use, Path, base, hasMark, Governor, minimum, same-start, outwards, govern}
-use Rattle.semantics.specs.Uses.{governor}
-use Rattle.semantics.specs.Tokens.{Variable, isSome, characterEnd, identifierEnd, spelled, reservedAt, freeEnd}
-use Rattle.semantics.specs.Tokens.{variableAt, hasClaimant}
+use Rattle.semantics.specs.Uses.{Use, Enclosing, within, behind, Path, hasMark, Governor, minimum, same-start}
+use Rattle.semantics.specs.Uses.{Scope, outwards, govern, governor}
+use Rattle.semantics.specs.Tokens.{Variable, Read, isSome, characterEnd, identifierEnd, spelled, reservedAt}
+use Rattle.semantics.specs.Tokens.{freeEnd, variableIn, variableAt, hasClaimant}
 use Rattle.semantics.specs.Steps.{Taken, stepAt, After, goes, halts, afterElement, closed}
 use Rattle.semantics.specs.Errors.{Error, identifierError, stepError}
 use Rattle.semantics.specs.Theorem.Lists.{_∈_}
 use Rattle.semantics.specs.Theorem.Results.{some-inj, none-some, option-cases}
-use Rattle.semantics.specs.Theorem.Sound.{At, here, there}
+use Rattle.semantics.specs.Theorem.Sound.{At, here, there, past}
 use Rattle.semantics.specs.Theorem.Tokens.{identifier-within, free-end-within}
 
 -- ---- Uses around a call
-pub at-in : {P : Path} {i : ℕ} {f : Use} {Q : Path} → At P i f Q → f ∈ P
+pub at-in : {P : Path} {i : ℕ} {f : Use} {Q : Path} → At P i f Q → within f ∈ P
 at-in here = List·Memᴰ·head refl
 at-in (there a) = List·Memᴰ·tail (at-in a)
+at-in (past a) = List·Memᴰ·tail (at-in a)
+
+-- uses that are equal as parts of a path begin at one place
+pub same-begin : {f g : Use} → within f ≡ within g → f .start ≡ g .start
+same-begin e = ap startOf e
+  where
+    startOf : Enclosing → ℕ
+    startOf (within f) = f .start
+    startOf (behind names) = 0
 
 -- a governor at its own start begins where the child does
 abbrev Begins : ℕ → Governor → Type 0
@@ -52,20 +61,21 @@ govern-begins u true true f P g k h = k refl
 govern-begins u true false f P g k h = tt
 govern-begins u false b f P g k h = outwards-begins u g h
 
-governor-begins : (P : Path) (scope N u : ℕ) → Begins u (governor P scope N u)
+governor-begins : (P : Path) (N u : ℕ) → Begins u (governor P N u)
 unfolding governor
-governor-begins [] scope N u = tt
-governor-begins (f ∷ P) scope N u =
-    govern-begins u _ (eqb (f .start) u) f P _ (λ t. eqb-true (f .start) u t) (governor-begins P scope N u)
+governor-begins [] N u = tt
+governor-begins (behind names ∷ P) N u = tt
+governor-begins (within f ∷ P) N u =
+    govern-begins u _ (eqb (f .start) u) f P _ (λ t. eqb-true (f .start) u t) (governor-begins P N u)
 
 pub gov-start : (P : Path) (N u : ℕ) {i : ℕ} {f : Use} {Q : Path} →
-    governor P base N u ≡ same-start i f Q → f .start ≡ u
-gov-start P N u e = subst (Begins u) e (governor-begins P base N u)
+    governor P N u ≡ same-start i f Q → f .start ≡ u
+gov-start P N u e = subst (Begins u) e (governor-begins P N u)
 
 -- a use that claims a name begins where the name does
 pub record Claimant (P : Path) (u : ℕ) : Type 0 where
   pub by : Use
-  pub member : by ∈ P
+  pub member : within by ∈ P
   pub start : by .start ≡ u
 
 -- ---- Places go forward
@@ -96,21 +106,20 @@ module _ (text : List ℕ) where
       (λ end e. rw (e, afterElement) (character-forward 44 x end e))
 
 module _ (book : Book) (text : List ℕ) where
-  variable-forward : (at : ℕ) (v : Variable) → variableAt book text at ≡ some v → at ≤ v .end
+  variable-forward : (scope : Scope) (at : ℕ) (v : Read Variable) → variableAt book text scope at ≡ some v → at ≤ v .end
   unfolding variableAt
-  variable-forward at v q =
+  variable-forward scope at v q =
       option-cases (identifierEnd text at)
       (λ e. absurd (none-some (rw (e, variableAt) at q)))
       (λ end e.
-      named-forward end (identifier-within text at end e .0) (lookupName (book .names) (spelled text at end))
-      (rw (e, variableAt) at q))
+      named-forward end (identifier-within text at end e .0)
+      (variableIn (book .names) 0 scope (spelled text at end)) (rw (e, variableAt) at q))
     where
-      named-forward : (end : ℕ) → at < end → (f : Found) →
-          elim f [ Found.Name i kind ↦ some (record { end = end; number = i; kind = kind }) | Found.Nothing ↦ none ]
-          ≡ some v → at ≤ v .end
-      named-forward end l (Found.Name i kind) p =
-          let is : end ≡ v .end = ap (λ (w : Variable). w .end) (some-inj p) in omega arith
-      named-forward end l Found.Nothing p = absurd (none-some p)
+      named-forward : (end : ℕ) → at < end → (f : Option Variable) →
+          elim f [ some w ↦ some (record { end = end; value = w }) | none ↦ none ] ≡ some v → at ≤ v .end
+      named-forward end l (some w) p =
+          let is : end ≡ v .end = ap (λ (w : Read Variable). w .end) (some-inj p) in omega arith
+      named-forward end l none p = absurd (none-some p)
 
   -- what a step takes, it takes at its place or further on
   abbrev pub TakenOn : ℕ → Taken → Type 0
@@ -121,18 +130,18 @@ module _ (book : Book) (text : List ℕ) where
   TakenOn x (Taken.unopened y) = x ≤ y
   TakenOn x Taken.nothing = Unit {0}
 
-  module _ (x : ℕ) where
+  module _ (scope : Scope) (x : ℕ) where
     skip-on : x ≤ skipFrom text x
     skip-on = skip-forward text x
 
-    number-on : (n : Number) → numberAt text (skipFrom text x) ≡ n → TakenOn x (stepAt book text Step.Number x)
+    number-on : (n : Number) → numberAt text (skipFrom text x) ≡ n → TakenOn x (stepAt book text scope Step.Number x)
     unfolding stepAt
     number-on (Number.Value value end) e =
         rw (e, stepAt) (omega (arith, skip-on, number-bounds text (skipFrom text x) value end e .0))
     number-on Number.TooLarge e = rw (e, stepAt) tt
     number-on Number.Nothing e = rw (e, stepAt) tt
 
-    step-on : (step : Step) → TakenOn x (stepAt book text step x)
+    step-on : (step : Step) → TakenOn x (stepAt book text scope step x)
     unfolding stepAt
     step-on (Step.Character a) =
         option-cases (characterEnd text a x) (λ e. rw (e, stepAt) tt)
@@ -150,17 +159,17 @@ module _ (book : Book) (text : List ℕ) where
         (λ end e. rw (e, stepAt) (omega (arith, skip-on, free-end-within book text (skipFrom text x) end e .0)))
     step-on Step.Number = number-on (numberAt text (skipFrom text x)) refl
     step-on Step.Variable =
-        option-cases (variableAt book text (skipFrom text x))
+        option-cases (variableAt book text scope (skipFrom text x))
         (λ e. rw (e, stepAt) tt)
-        (λ v e. rw (e, stepAt) (omega (arith, skip-on, variable-forward (skipFrom text x) v e)))
+        (λ v e. rw (e, stepAt) (omega (arith, skip-on, variable-forward scope (skipFrom text x) v e)))
     step-on (Step.VariableOfKind a) =
-        option-cases (variableAt book text (skipFrom text x))
+        option-cases (variableAt book text scope (skipFrom text x))
         (λ e. rw (e, stepAt) tt)
-        (λ v e. by-test (eqb (v .kind) a)
-        (λ t. rw (e, t, stepAt) (omega (arith, skip-on, variable-forward (skipFrom text x) v e)))
+        (λ v e. by-test (eqb (v .value .kind) a)
+        (λ t. rw (e, t, stepAt) (omega (arith, skip-on, variable-forward scope (skipFrom text x) v e)))
         (λ t. rw (e, t, stepAt) tt))
     step-on Step.RejectVariable =
-        option-cases (variableAt book text (skipFrom text x)) (λ e. rw (e, stepAt) (omega arith))
+        option-cases (variableAt book text scope (skipFrom text x)) (λ e. rw (e, stepAt) (omega arith))
         (λ v e. rw (e, stepAt) tt)
     step-on Step.RejectReserved =
         by-test (reservedAt book text (skipFrom text x)) (λ t. rw (t, stepAt) tt) (λ t. rw (t, stepAt) (omega arith))
@@ -175,7 +184,7 @@ module _ (book : Book) (text : List ℕ) where
         option-cases (characterEnd text b x) (λ e. rw (e, stepAt) skip-on)
         (λ y e. rw (e, stepAt) (character-forward text b x y e))
 
-    pub step-forward : (step : Step) {k : Taken} → stepAt book text step x ≡ k → TakenOn x k
+    pub step-forward : (step : Step) {k : Taken} → stepAt book text scope step x ≡ k → TakenOn x k
     step-forward step e = subst (TakenOn x) e (step-on step)
 
   -- the error of a step stands where it was wanted
@@ -189,44 +198,44 @@ module _ (book : Book) (text : List ℕ) where
       (λ u. option-cases (identifierEnd text at) (λ e. rw (t, u, e, identifierError)) (λ end e.
       rw (t, u, e, identifierError) h)))
 
-  number-error-place : (at : ℕ) (n : Number) → numberAt text at ≡ n → stepError book text Step.Number at .place ≡ at
+  number-error-place : (scope : Scope) (at : ℕ) (n : Number) → numberAt text at ≡ n → stepError book text scope Step.Number at .place ≡ at
   unfolding stepError
-  number-error-place at n e = by-test (eqb at (length text)) (λ t. rw (t, stepError)) (λ t. by n e t)
+  number-error-place scope at n e = by-test (eqb at (length text)) (λ t. rw (t, stepError)) (λ t. by n e t)
     where
       by : (n : Number) → numberAt text at ≡ n → eqb at (length text) ≡ false →
-          stepError book text Step.Number at .place ≡ at
+          stepError book text scope Step.Number at .place ≡ at
       by Number.Nothing e t = rw (t, e, stepError)
       by Number.TooLarge e t = rw (t, e, stepError)
       by (Number.Value value end) e t = rw (t, e, stepError)
 
-  pub step-error-place : (step : Step) (at : ℕ) → stepError book text step at .place ≡ at
+  pub step-error-place : (scope : Scope) (step : Step) (at : ℕ) → stepError book text scope step at .place ≡ at
   unfolding stepError
-  step-error-place (Step.Character a) at = refl
-  step-error-place (Step.Word a) at = refl
-  step-error-place Step.Identifier at = identifier-error-place at _ refl
-  step-error-place Step.Number at = number-error-place at (numberAt text at) refl
-  step-error-place Step.Variable at = identifier-error-place at _ refl
-  step-error-place (Step.VariableOfKind a) at =
-      by-test (isSome (variableAt book text at)) (λ t. rw t) (λ t. rw t (identifier-error-place at _ refl))
-  step-error-place Step.RejectVariable at = refl
-  step-error-place Step.RejectReserved at = refl
-  step-error-place (Step.Nonterminal M) at = refl
-  step-error-place (Step.Optional M) at = refl
-  step-error-place (Step.Many M) at = refl
-  step-error-place (Step.CommaList M) at = refl
-  step-error-place (Step.Delimited M b c) at = refl
-  step-error-place (Step.OptionalDelimited M b c) at = refl
+  step-error-place scope (Step.Character a) at = refl
+  step-error-place scope (Step.Word a) at = refl
+  step-error-place scope Step.Identifier at = identifier-error-place at _ refl
+  step-error-place scope Step.Number at = number-error-place scope at (numberAt text at) refl
+  step-error-place scope Step.Variable at = identifier-error-place at _ refl
+  step-error-place scope (Step.VariableOfKind a) at =
+      by-test (isSome (variableAt book text scope at)) (λ t. rw t) (λ t. rw t (identifier-error-place at _ refl))
+  step-error-place scope Step.RejectVariable at = refl
+  step-error-place scope Step.RejectReserved at = refl
+  step-error-place scope (Step.Nonterminal M) at = refl
+  step-error-place scope (Step.Optional M) at = refl
+  step-error-place scope (Step.Many M) at = refl
+  step-error-place scope (Step.CommaList M) at = refl
+  step-error-place scope (Step.Delimited M b c) at = refl
+  step-error-place scope (Step.OptionalDelimited M b c) at = refl
 
   -- a name is claimed by a use that begins there
-  pub claimant : (P : Path) (scope u : ℕ) → hasClaimant book text P scope u ≡ true → Claimant P u
+  pub claimant : (P : Path) (u : ℕ) → hasClaimant book text P u ≡ true → Claimant P u
   unfolding hasClaimant
-  claimant [] scope u e = absurd (false≢true e)
-  claimant (f ∷ P) scope u e =
-      by-test (hasMark book 1 (f .nonterminal) && (eqb (f .scope) scope && eqb (f .start) u))
+  claimant [] u e = absurd (false≢true e)
+  claimant (behind names ∷ P) u e = absurd (false≢true e)
+  claimant (within f ∷ P) u e =
+      by-test (hasMark book 1 (f .nonterminal) && eqb (f .start) u)
       (λ t.
-      let k = and-eq-true-iff (hasMark book 1 (f .nonterminal)) (eqb (f .scope) scope && eqb (f .start) u) .0 t .1 in
-      let l = and-eq-true-iff (eqb (f .scope) scope) (eqb (f .start) u) .0 k .1 in
-      record { by = f; member = List·Memᴰ·head refl; start = eqb-true (f .start) u l })
+      let k = and-eq-true-iff (hasMark book 1 (f .nonterminal)) (eqb (f .start) u) .0 t .1 in
+      record { by = f; member = List·Memᴰ·head refl; start = eqb-true (f .start) u k })
       (λ t.
-      let c = claimant P scope u (rw t at e) in
+      let c = claimant P u (rw t at e) in
       record { by = c .by; member = List·Memᴰ·tail (c .member); start = c .start })

@@ -19,7 +19,7 @@ use Rattle.book.specs.Book.{Book, nthNonterminal, nthVariant}
 use Rattle.book.specs.declared.records.Step.{Step}
 use Rattle.semantics.specs.Numbers.{mostNesting, mostRounds, nonterminalWanted, moreWanted}
 use Rattle.semantics.specs.Values.{Parse}
-use Rattle.semantics.specs.Uses.{Use, Path, base, useOf, hasMark, same-start, governor, keeps}
+use Rattle.semantics.specs.Uses.{Use, Path, scopeOf, within, useOf, hasMark, same-start, governor, keeps}
 use Rattle.semantics.specs.Tokens.{freeEnd, claimed}
 use Rattle.semantics.specs.Steps.{stepAt, afterElement, closed, Todo, taking, elements, ending, todoOf}
 use Rattle.semantics.specs.Errors.{Error, error, wins, join, joinWith, beyond, choiceError}
@@ -36,7 +36,7 @@ use Rattle.semantics.specs.Theorem.Sets.{kept-sift, add-joins, add-all-j
 use Rattle.semantics.specs.Theorem.Sound.{At, here, there, gov-at}
 use Rattle.semantics.specs.Theorem.Tokens.{free-end-within}
 use Rattle.semantics.specs.ErrorLaws.Places.{gov-start, closed-forward, Onward, after-onward, step-forward}
-use Rattle.semantics.specs.ErrorLaws.Places.{step-error-place}
+use Rattle.semantics.specs.ErrorLaws.Places.{same-begin, step-error-place}
 
 module _ (text : List ℕ) where
   -- a skipped place
@@ -114,7 +114,7 @@ module _ (text : List ℕ) where
   -- the uses around a call at a place, with their stored sets
   pub record Around (P : Path) (S : List (List (Parse ℕ))) (u : ℕ) : Type 0 where
     pub skipped : Skipped u
-    pub starts : (f : Use) → f ∈ P → f .start ≤ u
+    pub starts : (f : Use) → within f ∈ P → f .start ≤ u
     pub stored : (i : ℕ) (f : Use) (Q : Path) → At P i f Q → Behind (f .start) (nth S i)
 
   pub record Ready (c : Call) : Type 0 where
@@ -226,7 +226,7 @@ module _ (book : Book) (text : List ℕ) where
       runIdentifier book text c s ≡ ok r → Gives text (c .start) r
   unfolding runIdentifier named failedCall
   identifier-gives c s r h e =
-      by-test (claimed book text (c .path) base (c .start))
+      by-test (claimed book text (c .path) (c .start))
       (λ t. gives-ok text (rw t at e) (gives-error text (nothing-behind text) (h .around .skipped)))
       (λ t. option-cases (freeEnd book text (c .start))
       (λ nowhere.
@@ -252,7 +252,7 @@ module _ (book : Book) (text : List ℕ) where
   module _ (c : Call) (h : Ready text c) where
     -- no use around the child begins after it
     pub around-child : (j x : ℕ) → c .start ≤ x →
-        Around text (useOf book (c .nonterminal) (c .start) j (skipFrom text x) ∷ c .path)
+        Around text (within (useOf book (c .nonterminal) (c .start) j (skipFrom text x)) ∷ c .path)
         (c .mine ∷ c .stored) (skipFrom text x)
     around-child j x l =
         let on = skip-forward text x in
@@ -263,21 +263,21 @@ module _ (book : Book) (text : List ℕ) where
         }
       where
         begins : {u : ℕ} → c .start ≤ u → (f : Use) →
-            f ∈ (useOf book (c .nonterminal) (c .start) j (skipFrom text x) ∷ c .path) → f .start ≤ u
-        begins k f (List·Memᴰ·head e) = let is = ap (λ (z : Use). z .start) e in omega arith
+            within f ∈ (within (useOf book (c .nonterminal) (c .start) j (skipFrom text x)) ∷ c .path) → f .start ≤ u
+        begins k f (List·Memᴰ·head e) = let is = same-begin e in omega arith
         begins k f (List·Memᴰ·tail m) = let less = h .around .starts f m in omega arith
 
         sets : (i : ℕ) (f : Use) (Q : Path) →
-            At (useOf book (c .nonterminal) (c .start) j (skipFrom text x) ∷ c .path) i f Q →
+            At (within (useOf book (c .nonterminal) (c .start) j (skipFrom text x)) ∷ c .path) i f Q →
             Behind text (f .start) (nth (c .mine ∷ c .stored) i)
         sets zero f Q here = h .mine
         sets (suc i) f Q (there a) = h .around .stored i f Q a
 
     -- if a use around the child begins where the child does, so does the call
     pub child-at-start : (j x : ℕ) → c .start ≤ x → (f : Use) →
-        f ∈ (useOf book (c .nonterminal) (c .start) j (skipFrom text x) ∷ c .path) →
+        within f ∈ (within (useOf book (c .nonterminal) (c .start) j (skipFrom text x)) ∷ c .path) →
         f .start ≡ skipFrom text x → skipFrom text x ≡ c .start
-    child-at-start j x l f (List·Memᴰ·head e) s = sym s ∙ ap (λ (z : Use). z .start) e
+    child-at-start j x l f (List·Memᴰ·head e) s = sym s ∙ same-begin e
     child-at-start j x l f (List·Memᴰ·tail m) s =
         let less = h .around .starts f m in let on = skip-forward text x in omega arith
 
@@ -320,7 +320,7 @@ module _ (book : Book) (text : List ℕ) where
     unfolding enter
     enter-gives P S N u s₀ r h e =
         after _ _ e (λ s spent next.
-        governor-cases (governor P base N u)
+        governor-cases (governor P N u)
         (λ m gov. nested-run book text inner s _ (rw gov at next) (λ f there ran. by-test (hasMark book 2 N)
         (λ mark. identifier-gives (call P S N u []) s r opened (rw mark at ran))
         (λ mark. after _ _ (rw mark at ran) (λ a called is.
@@ -332,7 +332,7 @@ module _ (book : Book) (text : List ℕ) where
         opened : Ready text (call P S N u [])
         opened = record { around = h; mine = nothing-behind text }
 
-        stored : (i : ℕ) (f : Use) (Q : Path) → governor P base N u ≡ same-start i f Q →
+        stored : (i : ℕ) (f : Use) (Q : Path) → governor P N u ≡ same-start i f Q →
             Behind text u (kept f (nth S i))
         stored i f Q gov p m =
             let k = sift-out (keeps f) (nth S i) (subst (λ l. p ∈ l) (kept-sift f (nth S i)) m) .0 in
@@ -434,18 +434,18 @@ module _ (book : Book) (text : List ℕ) where
       unfolding steps
       take-gives j step rest good x items set s₀ r l b e =
           after _ _ e (λ s unit ran.
-          taken-cases (stepAt book text step x)
+          taken-cases (stepAt book text (scopeOf (c .path)) step x)
           (λ takes.
           gives-ok text (rw takes at ran)
-          (gives-error text b (rw (step-error-place book text step (skipFrom text x)) (skip-twice text x))))
-          (λ t takes. let on : x ≤ t .next = step-forward book text x step takes in
+          (gives-error text b (rw (step-error-place book text (scopeOf (c .path)) step (skipFrom text x)) (skip-twice text x))))
+          (λ t takes. let on : x ≤ t .next = step-forward book text (scopeOf (c .path)) x step takes in
           after _ _ (rw takes at ran) (λ m linked more. good (t .next) (m .cell) set (m .state) r (omega arith) b more))
           (λ M takes. after _ _ (rw takes at ran) (λ a entered next.
           child-gives j M x _ (plain-next-good c h j rest items) set s a r l b entered next))
           (λ M takes. or-absent-gives j rest _ good M x items set s r l b (rw takes at ran))
-          (λ comma M close y takes. let on : x ≤ y = step-forward book text x step takes in
+          (λ comma M close y takes. let on : x ≤ y = step-forward book text (scopeOf (c .path)) x step takes in
           listing-gives j rest _ good comma M close y items set s r (omega arith) b (rw takes at ran))
-          (λ y takes. let on : x ≤ y = step-forward book text x step takes in
+          (λ y takes. let on : x ≤ y = step-forward book text (scopeOf (c .path)) x step takes in
           after _ _ (rw takes at ran)
           (λ m begun next. stops-give c h j (m .cell) none _ good y items set (m .state) r (omega arith) b next)))
 

@@ -9,7 +9,7 @@ use Rattle.characters.specs.Skipping.{skipFrom}
 use Rattle.book.specs.Book.{Book}
 use Rattle.semantics.specs.Numbers.{mostNesting}
 use Rattle.semantics.specs.Values.{Parse}
-use Rattle.semantics.specs.Uses.{Path, base, useOf, hasMark, minimum, same-start, governor}
+use Rattle.semantics.specs.Uses.{Path, scopeOf, within, useOf, hasMark, minimum, same-start, governor}
 use Rattle.semantics.specs.Tokens.{when, freeEnd, claimed}
 use Rattle.semantics.specs.Steps.{Taken, stepAt, Todo, taking, elements, ending}
 use Rattle.semantics.specs.Cells.{Cell}
@@ -23,14 +23,14 @@ use Rattle.semantics.specs.Run.{stepUnit, run}
 module _ (told : ℕ → ℕ → Error) (book : Book) (text : List ℕ) (inner : Option Runner) where
   unfoldable pub identifierWith : Call → State → Result Parsed
   identifierWith c s =
-      when (claimed book text (c .path) base (c .start))
+      when (claimed book text (c .path) (c .start))
       (λ _. ok (parsed [] (some (told (c .start) (c .nonterminal))) s))
       (λ _. named book text c s (freeEnd book text (c .start)))
 
   unfoldable pub enterWith : Path → List (List (Parse ℕ)) → ℕ → ℕ → State → Result Parsed
   enterWith path sets N u s₀ = do
     s ← spend s₀
-    elim (governor path base N u) [
+    elim (governor path N u) [
       | same-start i f around ↦
           ok (reentry book text inner (kept f (getD sets i [])) (told u N) (withAsked s (ask i (s .asked))))
       | minimum m ↦ nested book text inner s (λ run.
@@ -44,7 +44,7 @@ module _ (told : ℕ → ℕ → Error) (book : Book) (text : List ℕ) (inner :
   unfoldable pub enterChildWith : Call → ℕ → ℕ → ℕ → State → Result Parsed
   enterChildWith c j M x s =
       let at = skipFrom text x in
-      enterWith (useOf book (c .nonterminal) (c .start) j at ∷ c .path) (c .mine ∷ c .stored) M at s
+      enterWith (within (useOf book (c .nonterminal) (c .start) j at) ∷ c .path) (c .mine ∷ c .stored) M at s
 
   unfoldable pub orAbsentWith : Call → ℕ → ℕ → List (Todo ℕ) → Go → Go
   orAbsentWith c j M rest go x items set s = do
@@ -71,8 +71,8 @@ module _ (told : ℕ → ℕ → Error) (book : Book) (text : List ℕ) (inner :
       stops book text j values close (stepsWith c j rest) x items set s
   stepsWith c j (taking step ∷ rest) x items set s₀ = do
     s ← stepUnit book text inner step s₀
-    elim (stepAt book text step x) [
-      | Taken.nothing ↦ ok (parsed set (some (stepError book text step (skipFrom text x))) s)
+    elim (stepAt book text (scopeOf (c .path)) step x) [
+      | Taken.nothing ↦ ok (parsed set (some (stepError book text (scopeOf (c .path)) step (skipFrom text x))) s)
       | Taken.token t ↦
           withToken book text j items (t .item) s >>= (λ m. stepsWith c j rest (t .next) (m .cell) set (m .state))
       | Taken.child M ↦

@@ -18,7 +18,7 @@ use Rattle.book.specs.Book.{Book, nthNonterminal, nthVariant}
 use Rattle.book.specs.declared.records.Step.{Step}
 use Rattle.semantics.specs.Numbers.{mostNesting, mostRounds, tooDeep}
 use Rattle.semantics.specs.Values.{Parse}
-use Rattle.semantics.specs.Uses.{Use, Path, base, hasMark, same-start, governor, keeps}
+use Rattle.semantics.specs.Uses.{Use, Path, scopeOf, within, hasMark, same-start, governor, keeps}
 use Rattle.semantics.specs.Tokens.{isSome, freeEnd, variableAt, hasClaimant, claimed}
 use Rattle.semantics.specs.Steps.{stepAt, afterElement, closed, Todo, taking, elements, ending, todoOf}
 use Rattle.semantics.specs.Cells.{Cell}
@@ -205,7 +205,7 @@ module _ (book : Book) (text : List ℕ) where
           same-bind text _ _
           (run-call-same f g like (call P S N u []) m (withAsked s (false ∷ s .asked)) opened) (λ r b. same-result b)
 
-      unclaimed-same : (s : State) → claimed book text P base u ≡ false →
+      unclaimed-same : (s : State) → claimed book text P u ≡ false →
           Same text u (identifierWith told book text inner (call P S N u []) s)
           (runIdentifier book text (call P S N u []) s)
       unfolding identifierWith runIdentifier
@@ -218,31 +218,31 @@ module _ (book : Book) (text : List ℕ) where
       reentry-like (p ∷ ps) a b s k alike = like-result k neither
 
       -- a call that no use around it can answer or claim
-      enter-same : ((f : Use) → f ∈ P → f .start ≡ u → ⊥) → (s : State) →
+      enter-same : ((f : Use) → within f ∈ P → f .start ≡ u → ⊥) → (s : State) →
           Same text u (enterWith told book text inner P S N u s) (enter book text inner′ P S N u s)
       unfolding enterWith enter
       enter-same alone s₀ =
           same-next text (spend s₀) _ _ (λ s spent.
-          governor-cases (governor P base N u)
+          governor-cases (governor P N u)
           (λ m gov. rw gov (nested-same s _ _ (λ f g like.
           by-test (hasMark book 2 N)
           (λ mark. rw mark (unclaimed-same s unclaimed))
           (λ mark. rw mark (called-same s m f g like)))))
           (λ i f Q gov. absurd (alone f (at-in (gov-at P N u gov)) (gov-start P N u gov))))
         where
-          unclaimed : claimed book text P base u ≡ false
-          unclaimed = by-test (claimed book text P base u) (λ t. absurd (claims t)) (λ t. t)
+          unclaimed : claimed book text P u ≡ false
+          unclaimed = by-test (claimed book text P u) (λ t. absurd (claims t)) (λ t. t)
             where
-              claims : claimed book text P base u ≡ true → ⊥
+              claims : claimed book text P u ≡ true → ⊥
               claims t =
                   let k =
-                  claimant book text P base u
-                  (and-eq-true-iff (isSome (variableAt book text u)) (hasClaimant book text P base u) .0 t .1) in
+                  claimant book text P u
+                  (and-eq-true-iff (isSome (variableAt book text (scopeOf P) u)) (hasClaimant book text P u) .0 t .1) in
                   alone (k .by) (k .member) (k .start)
 
       -- a child's call, of a call that begins at v, where every use around it that begins there makes the call begin
       -- there too
-      module _ (v : ℕ) (l : v ≤ u) (starts : (f : Use) → f ∈ P → f .start ≡ u → u ≡ v) where
+      module _ (v : ℕ) (l : v ≤ u) (starts : (f : Use) → within f ∈ P → f .start ≡ u → u ≡ v) where
         alike-there : (a b : Error) → u ≡ v → a .place ≡ u → b .place ≡ u → Alike v a b
         alike-there a b s h k = record { at = h ∙ sym k; beyond-it = λ far. absurd (omega arith) }
 
@@ -251,18 +251,18 @@ module _ (book : Book) (text : List ℕ) where
             (runIdentifier book text (call P S N u []) s)
         unfolding identifierWith runIdentifier named failedCall
         claimed-like s =
-            by-test (claimed book text P base u)
+            by-test (claimed book text P u)
             (λ t. rw t (like-result (nothing-behind text) (both (alike-there _ _ (claims t) (there u N) refl))))
             (λ t. same-like text l (unclaimed-same s t))
           where
-            claims : claimed book text P base u ≡ true → u ≡ v
+            claims : claimed book text P u ≡ true → u ≡ v
             claims t =
                 let k =
-                claimant book text P base u
-                (and-eq-true-iff (isSome (variableAt book text u)) (hasClaimant book text P base u) .0 t .1) in
+                claimant book text P u
+                (and-eq-true-iff (isSome (variableAt book text (scopeOf P) u)) (hasClaimant book text P u) .0 t .1) in
                 starts (k .by) (k .member) (k .start)
 
-        stored : (i : ℕ) (f : Use) (Q : Path) → governor P base N u ≡ same-start i f Q →
+        stored : (i : ℕ) (f : Use) (Q : Path) → governor P N u ≡ same-start i f Q →
             Behind text v (kept f (nth S i))
         stored i f Q gov p m =
             let k = sift-out (keeps f) (nth S i) (subst (λ z. p ∈ z) (kept-sift f (nth S i)) m) .0 in
@@ -275,7 +275,7 @@ module _ (book : Book) (text : List ℕ) where
         unfolding enterWith enter
         enter-like s₀ =
             like-next text (spend s₀) _ _ (λ s spent.
-            governor-cases (governor P base N u)
+            governor-cases (governor P N u)
             (λ m gov. rw gov (nested-like s _ _ (λ f g like.
             by-test (hasMark book 2 N)
             (λ mark. rw mark (claimed-like s))
@@ -369,18 +369,18 @@ module _ (book : Book) (text : List ℕ) where
       unfolding stepsWith steps stepUnit listing
       take-like j step rest like x items set s₀ l b =
           like-next text (stepUnit book text inner step s₀) _ _ (λ s unit.
-          taken-cases (stepAt book text step x)
+          taken-cases (stepAt book text (scopeOf (c .path)) step x)
           (λ takes. rw takes (like-result b (both-same _)))
-          (λ t takes. let on : x ≤ t .next = step-forward book text x step takes in
+          (λ t takes. let on : x ≤ t .next = step-forward book text (scopeOf (c .path)) x step takes in
           rw takes (like-next text (withToken book text j items (t .item) s) _ _ (λ m linked.
           like (t .next) (m .cell) set (m .state) (omega arith) b)))
           (λ M takes. rw takes (like-bind text _ _ (child-like j M x s l) (λ qs s′ d e q k.
           followed-like (plainNext book text c j rest items) (plain-next-like c h j rest items) set qs s′ b q k)))
           (λ M takes. rw takes (or-absent-like j rest _ _ like M x items set s l b))
-          (λ comma M close y takes. let on : x ≤ y = step-forward book text x step takes in
+          (λ comma M close y takes. let on : x ≤ y = step-forward book text (scopeOf (c .path)) x step takes in
           rw takes (like-next text (make text Cell.empty s) _ _ (λ e begun.
           choice-like j rest _ _ like comma M (e .cell) close y items set (e .state) (omega arith) b)))
-          (λ y takes. let on : x ≤ y = step-forward book text x step takes in
+          (λ y takes. let on : x ≤ y = step-forward book text (scopeOf (c .path)) x step takes in
           rw takes (like-next text (make text Cell.empty s) _ _ (λ e begun.
           stops-like c h j (e .cell) none _ _ like y items set (e .state) (omega arith) b))))
 

@@ -10,7 +10,7 @@ use Rattle.characters.specs.Skipping.{skipFrom}
 use Rattle.book.specs.Book.{Book, nthNonterminal, nthVariant}
 use Rattle.book.specs.declared.records.Step.{Step}
 use Rattle.semantics.specs.Values.{Tree, Trees, no-trees, _▸_, absent, list, Parse}
-use Rattle.semantics.specs.Uses.{Use, Path, base, useOf, hasMark, minimum, same-start, governor, keeps}
+use Rattle.semantics.specs.Uses.{Use, Path, scopeOf, within, useOf, hasMark, minimum, same-start, governor, keeps}
 use Rattle.semantics.specs.Tokens.{freeEnd, claimed}
 use Rattle.semantics.specs.Steps.{Token, Taken, stepAt, After, goes, halts, afterElement, closed, Todo, taking}
 use Rattle.semantics.specs.Steps.{elements, ending, todoOf}
@@ -49,7 +49,7 @@ pub record Left : Type 0 where
 module _ (book : Book) (text : List ℕ) where
   -- the path of a child at a place
   abbrev pub inside : Open → ℕ → ℕ → Path
-  inside o j x = useOf book (o .nonterminal) (o .start) j x ∷ o .path
+  inside o j x = within (useOf book (o .nonterminal) (o .start) j x) ∷ o .path
 
   abbrev pub onward : After → Tree → Bool → ℕ → Trees → Option ℕ → List (Todo Trees) → Trees → Left
   onward (goes y) v comma M values close rest items =
@@ -68,26 +68,26 @@ module _ (book : Book) (text : List ℕ) where
   named (some end) u = identifierParse text u end ∷ []
 
   abbrev pub identifiers : Path → ℕ → List (Parse Tree)
-  identifiers P u = cond (claimed book text P base u) [] (named (freeEnd book text u) u)
+  identifiers P u = cond (claimed book text P u) [] (named (freeEnd book text u) u)
 
   mutual
     -- a use at its path, among the stored sets and marks of the open calls: what it finds, and the marks after it
     pub data Enters : Path → Sets → List Bool → ℕ → ℕ → List (Parse Tree) → List Bool → Type 0 where
       again : {P Q : Path} {S : Sets} {A A′ : List Bool} {N u i : ℕ} {f : Use} {R : List (Parse Tree)} →
-          governor P base N u ≡ same-start i f Q → R ≡ sift (keeps f) (nth S i) → A′ ≡ ask i A → Enters P S A N u R A′
+          governor P N u ≡ same-start i f Q → R ≡ sift (keeps f) (nth S i) → A′ ≡ ask i A → Enters P S A N u R A′
       identifier : {P : Path} {S : Sets} {A A′ : List Bool} {N u m : ℕ} {R : List (Parse Tree)} →
-          governor P base N u ≡ minimum m → hasMark book 2 N ≡ true →
+          governor P N u ≡ minimum m → hasMark book 2 N ≡ true →
           R ≡ identifiers P u → A′ ≡ A → Enters P S A N u R A′
       -- the first run didn't ask for the call's stored parses, or found nothing
       quiet : {P : Path} {S : Sets} {A A′ B : List Bool} {N u m : ℕ} {R : List (Parse Tree)} →
-          governor P base N u ≡ minimum m → hasMark book 2 N ≡ false →
+          governor P N u ≡ minimum m → hasMark book 2 N ≡ false →
           Runs P S m N u [] (false ∷ A) R B → newest B ≡ false → A′ ≡ others B → Enters P S A N u R A′
       barren : {P : Path} {S : Sets} {A A′ B : List Bool} {N u m : ℕ} {R : List (Parse Tree)} →
-          governor P base N u ≡ minimum m → hasMark book 2 N ≡ false →
+          governor P N u ≡ minimum m → hasMark book 2 N ≡ false →
           Runs P S m N u [] (false ∷ A) R B → R ≡ [] → A′ ≡ others B → Enters P S A N u R A′
       -- it asked and found some: rounds
       grown : {P : Path} {S : Sets} {A A′ B : List Bool} {N u m : ℕ} {R U : List (Parse Tree)} →
-          governor P base N u ≡ minimum m → hasMark book 2 N ≡ false →
+          governor P N u ≡ minimum m → hasMark book 2 N ≡ false →
           Runs P S m N u [] (false ∷ A) R B → Rounds P S m N u R B U A′ → Enters P S A N u U A′
 
     -- one run of a call's variants, from a stored set of its own
@@ -122,25 +122,25 @@ module _ (book : Book) (text : List ℕ) where
       s-done : {o : Open} {j x : ℕ} {items : Trees} {B : List Bool} {R : List (Parse Tree)} →
           R ≡ parseOf book j x items ∷ [] → Steps o j [] x items B R B
       s-nothing : {o : Open} {j x : ℕ} {s : Step} {rest : List (Todo Trees)} {items : Trees} {B : List Bool} →
-          stepAt book text s x ≡ Taken.nothing → Steps o j (taking s ∷ rest) x items B [] B
+          stepAt book text (scopeOf (o .path)) s x ≡ Taken.nothing → Steps o j (taking s ∷ rest) x items B [] B
       s-token : {o : Open} {j x : ℕ} {s : Step} {t : Token} {rest : List (Todo Trees)} {items : Trees}
-          {B B′ : List Bool} {R : List (Parse Tree)} → stepAt book text s x ≡ Taken.token t →
+          {B B′ : List Bool} {R : List (Parse Tree)} → stepAt book text (scopeOf (o .path)) s x ≡ Taken.token t →
           Steps o j rest (t .next) (withItem text items (t .item)) B R B′ → Steps o j (taking s ∷ rest) x items B R B′
       s-child : {o : Open} {j x M : ℕ} {s : Step} {rest : List (Todo Trees)} {items : Trees} {B B₁ B′ : List Bool}
-          {Q R : List (Parse Tree)} → stepAt book text s x ≡ Taken.child M →
+          {Q R : List (Parse Tree)} → stepAt book text (scopeOf (o .path)) s x ≡ Taken.child M →
           Enters (inside o j (skipFrom text x)) (around o) B M (skipFrom text x) Q B₁ →
           Each o j (plain rest items) Q B₁ R B′ → Steps o j (taking s ∷ rest) x items B R B′
       s-optional : {o : Open} {j x M : ℕ} {s : Step} {rest : List (Todo Trees)} {items : Trees} {B B₁ B₂ B′ : List Bool}
           {Q R R₁ R₂ : List (Parse Tree)} →
-          stepAt book text s x ≡ Taken.optional M → Steps o j rest x (items ▸ absent) B R₁ B₁ →
+          stepAt book text (scopeOf (o .path)) s x ≡ Taken.optional M → Steps o j rest x (items ▸ absent) B R₁ B₁ →
           Enters (inside o j (skipFrom text x)) (around o) B₁ M (skipFrom text x) Q B₂ →
           Each o j (plain rest items) Q B₂ R₂ B′ → Joins R₁ R₂ R → Steps o j (taking s ∷ rest) x items B R B′
       s-list : {o : Open} {j x y M : ℕ} {s : Step} {comma : Bool} {close : Option ℕ} {rest : List (Todo Trees)}
           {items : Trees} {B B′ : List Bool} {R : List (Parse Tree)} →
-          stepAt book text s x ≡ Taken.list comma M close y →
+          stepAt book text (scopeOf (o .path)) s x ≡ Taken.list comma M close y →
           Steps o j (elements comma M no-trees close ∷ rest) y items B R B′ → Steps o j (taking s ∷ rest) x items B R B′
       s-unopened : {o : Open} {j x y : ℕ} {s : Step} {rest : List (Todo Trees)} {items : Trees} {B B′ : List Bool}
-          {R : List (Parse Tree)} → stepAt book text s x ≡ Taken.unopened y →
+          {R : List (Parse Tree)} → stepAt book text (scopeOf (o .path)) s x ≡ Taken.unopened y →
           Steps o j rest y (items ▸ list no-trees) B R B′ → Steps o j (taking s ∷ rest) x items B R B′
       s-elements : {o : Open} {j x M : ℕ} {comma : Bool} {values : Trees} {close : Option ℕ} {rest : List (Todo Trees)}
           {items : Trees} {B B₁ B₂ B′ : List Bool}

@@ -19,7 +19,7 @@ use Rattle.characters.specs.Skipping.{skipFrom}
 use Rattle.book.specs.Book.{Book, nthNonterminal, nthVariant}
 use Rattle.book.specs.declared.records.Step.{Step}
 use Rattle.semantics.specs.Values.{Tree, Trees, no-trees, _▸_, absent, list, Parse}
-use Rattle.semantics.specs.Uses.{Use, Path, base, useOf, hasMark, Governor, minimum, same-start, governor, keeps}
+use Rattle.semantics.specs.Uses.{Use, Path, scopeOf, within, useOf, hasMark, Governor, minimum, same-start, governor, keeps}
 use Rattle.semantics.specs.Tokens.{freeEnd, claimed}
 use Rattle.semantics.specs.Steps.{Taken, stepAt, After, afterElement, closed, Todo, taking, elements, ending}
 use Rattle.semantics.specs.Steps.{todoOf}
@@ -71,7 +71,7 @@ module _ (book : Book) (text : List ℕ) where
   -- the newest mark is the open call's own, the others are of the calls around it
   own-holds : {h : ℕ} (P : Path) (S : Sets) (N u : ℕ) (T : List (Parse Tree)) (B : List Bool) →
       (newest B ≡ true → HoldsAll h P N u T) → Full h P S (others B) →
-      (j x i : ℕ) (f : Use) (Q : Path) → At (useOf book N u j x ∷ P) i f Q → flag B i ≡ true →
+      (j x i : ℕ) (f : Use) (Q : Path) → At (within (useOf book N u j x) ∷ P) i f Q → flag B i ≡ true →
       HoldsAll h Q (f .nonterminal) (f .start) (nth (T ∷ S) i)
   own-holds P S N u T B t F j x zero f Q here e p d = t (sym (flag-newest B) ∙ e) p d
   own-holds P S N u T B t F j x (suc i) f Q (there a) e p d = F .holds i f Q a (sym (flag-others B i) ∙ e) p d
@@ -124,7 +124,7 @@ module _ (book : Book) (text : List ℕ) where
 
   inv-take : {o : Open} {j : ℕ} {s : Step} {rest : List (Todo Trees)} {x : ℕ} {items : Trees} {B : List Bool}
       {R : List (Parse Tree)} {B′ : List Bool} →
-      Steps book text o j (taking s ∷ rest) x items B R B′ → Ran o j rest x items B R B′ (stepAt book text s x)
+      Steps book text o j (taking s ∷ rest) x items B R B′ → Ran o j rest x items B R B′ (stepAt book text (scopeOf (o .path)) s x)
   inv-take (s-nothing {o} {j} {x} {rest = rest} {items = items} {B = B} e) =
       subst (Ran o j rest x items B [] B) (sym e) tt
   inv-take (s-token {o} {j} {x} {rest = rest} {items = items} {B = B} {B′ = B′} {R = R} e s) =
@@ -173,7 +173,7 @@ module _ (book : Book) (text : List ℕ) where
   -- where it is known what a step takes, or where a list's closing ends
   ran : {o : Open} {j : ℕ} {s : Step} {rest : List (Todo Trees)} {x : ℕ} {items : Trees} {B : List Bool}
       {R : List (Parse Tree)} {B′ : List Bool} {t : Taken} →
-      stepAt book text s x ≡ t → Steps book text o j (taking s ∷ rest) x items B R B′ → Ran o j rest x items B R B′ t
+      stepAt book text (scopeOf (o .path)) s x ≡ t → Steps book text o j (taking s ∷ rest) x items B R B′ → Ran o j rest x items B R B′ t
   ran {o} {j} {s} {rest} {x} {items} {B} {R} {B′} e r = subst (Ran o j rest x items B R B′) e (inv-take r)
 
   ended : {o : Open} {j : ℕ} {values : Trees} {close : Option ℕ} {rest : List (Todo Trees)} {x y : ℕ} {items : Trees}
@@ -216,20 +216,20 @@ module _ (book : Book) (text : List ℕ) where
   Handed h p (same-start i f Q) = Der book text h Q (f .nonterminal) (f .start) p × (keeps f p ≡ true)
 
   handed : {h : ℕ} (P : Path) (N u : ℕ) {i : ℕ} {f : Use} {Q : Path} {p : Parse Tree} →
-      governor P base N u ≡ same-start i f Q → Der book text (suc h) P N u p → Handed h p (same-start i f Q)
+      governor P N u ≡ same-start i f Q → Der book text (suc h) P N u p → Handed h p (same-start i f Q)
   handed P N u e (h-variant e′ l high t) = absurd (not-both e′ e)
   handed {h} P N u {p = p} e (h-governor e′ d k) = subst (Handed h p) (sym e′ ∙ e) (d, k)
   handed P N u e (h-identifier e′ k c f v) = absurd (not-both e′ e)
 
   -- ---- Mark-2 uses
-  named-in : (P : Path) (u : ℕ) {end : ℕ} {p : Parse Tree} → claimed book text P base u ≡ false →
+  named-in : (P : Path) (u : ℕ) {end : ℕ} {p : Parse Tree} → claimed book text P u ≡ false →
       freeEnd book text u ≡ some end → p ∈ named book text (some end) u → p ∈ identifiers book text P u
   named-in P u {p = p} c e m =
       subst (λ b. p ∈ cond b [] (named book text (freeEnd book text u) u)) (sym c)
       (subst (λ z. p ∈ named book text z u) (sym e) m)
 
   identified : {h : ℕ} (P : Path) (N u : ℕ) {m : ℕ} {p : Parse Tree} → PlainBook book →
-      governor P base N u ≡ minimum m → hasMark book 2 N ≡ true →
+      governor P N u ≡ minimum m → hasMark book 2 N ≡ true →
       Der book text (suc h) P N u p → p ∈ identifiers book text P u
   identified P N u plain-book e k (h-variant e′ l high t) = absurd (omega (arith, l, plain-book N k))
   identified P N u plain-book e k (h-governor e′ d s) = absurd (not-both e e′)
@@ -340,7 +340,7 @@ module _ (book : Book) (text : List ℕ) where
     -- a run of a call's variants finds what is one higher, by a variant: the use has no other governor and is no mark-2
     -- use
     by-run : {P : Path} {S : Sets} {m N u : ℕ} {T : List (Parse Tree)} {B : List Bool} {R : List (Parse Tree)}
-        {B′ : List Bool} → governor P base N u ≡ minimum m → hasMark book 2 N ≡ false →
+        {B′ : List Bool} → governor P N u ≡ minimum m → hasMark book 2 N ≡ false →
         Runs book text P S m N u T B R B′ → FullIn h (open′ P S N u T) B′ → HoldsAll (suc h) P N u R
     by-run {N = N} e k v F p (h-variant {i = i} e′ l high t) =
         let first = nthNonterminal book N .first in

@@ -6,7 +6,7 @@ use Prim.Native.Nat.{ℕ, zero, suc}
 use Rattle.characters.specs.Cases.{by-test}
 use Rattle.book.specs.Book.{Book}
 use Rattle.semantics.specs.Values.{Parse}
-use Rattle.semantics.specs.Uses.{Path, base, hasMark, governor}
+use Rattle.semantics.specs.Uses.{Path, hasMark, governor}
 use Rattle.semantics.specs.Tokens.{freeEnd, claimed}
 use Rattle.semantics.specs.Errors.{Error}
 use Rattle.semantics.specs.Run.{ok, State, Parsed, Call, withMine, Runner, allIn, newest, rounds, runCall, named}
@@ -52,7 +52,7 @@ module _ (book : Book) (text : List ℕ) where
   identifier-fails : (c : Call) (s : State) (r : Parsed) → runIdentifier book text c s ≡ ok r → Fails r
   unfolding runIdentifier named
   identifier-fails c s r e =
-      by-test (claimed book text (c .path) base (c .start))
+      by-test (claimed book text (c .path) (c .start))
       (λ t. subst Fails (ok-inj (rw t at e)) (failed _ _ refl refl))
       (λ t. option-cases (freeEnd book text (c .start))
       (λ none-there. subst Fails (ok-inj (rw none-there at (rw t at e))) (failed _ _ refl refl))
@@ -70,7 +70,7 @@ module _ (book : Book) (text : List ℕ) where
     unfolding enter nested
     enter-fails P S N u s₀ r e =
         after _ _ e (λ s ran next.
-        governor-cases (governor P base N u)
+        governor-cases (governor P N u)
         (λ m gov. option-cases inner
         (λ over. absurd (met-ok (rw over at (rw gov at next))))
         (λ f there. by-test (hasMark book 2 N)

@@ -18,7 +18,7 @@ use Rattle.characters.specs.Skipping.{skipFrom}
 use Rattle.book.specs.Book.{Book, nthNonterminal, nthVariant, stepNumber}
 use Rattle.book.specs.declared.records.Step.{Step}
 use Rattle.semantics.specs.Values.{Parse}
-use Rattle.semantics.specs.Uses.{Path, base, hasMark, governor}
+use Rattle.semantics.specs.Uses.{Path, Scope, scopeOf, hasMark, governor}
 use Rattle.semantics.specs.Tokens.{freeEnd, claimed}
 use Rattle.semantics.specs.Steps.{Token, Taken, stepAt, afterElement, closed, Todo, taking, elements, ending}
 use Rattle.semantics.specs.Steps.{stepsOf, todoOf}
@@ -145,7 +145,7 @@ module _ (book : Book) (text : List ℕ)
       runIdentifier book text c s ≡ ok r → Gives text (s .cells) r
   unfolding runIdentifier named
   identifier-gives c s r h e =
-      by-test (claimed book text (c .path) base (c .start))
+      by-test (claimed book text (c .path) (c .start))
       (λ t. gives-ok (rw t at e) (record { grown = grown-refl h; set = holds-none }))
       (λ t. option-cases (freeEnd book text (c .start))
       (λ nowhere. gives-ok (rw nowhere at (rw t at e)) (record { grown = grown-refl h; set = holds-none }))
@@ -231,7 +231,7 @@ module _ (book : Book) (text : List ℕ)
         let g = spend-grown s₀ s h spent in
         let stored : (i : ℕ) → Held text (s .cells) (nth S i) = λ i. holds-still (g .prefix) (k i) in
         gives-from g
-        (governor-cases (governor P base N u)
+        (governor-cases (governor P N u)
         (λ m gov. nested-run book text inner s _ (rw gov at next) (λ f there ran. by-test (hasMark book 2 N)
         (λ mark. identifier-gives (call P S N u []) s r (g .tabled) (rw mark at ran))
         (λ mark. after _ _ (rw mark at ran) (λ a called is.
@@ -386,12 +386,13 @@ module _ (book : Book) (text : List ℕ)
           gives-from (o .grown) (good (t .next) (m .cell) set (m .state) r (ready-still (o .grown) h) (o .left) ran))
 
     -- the one step of a passing variant takes no token
-    not-passing : {C : List Cell} (j : ℕ) (step : Step) (rest : List (Todo ℕ)) (x items : ℕ) (t : Token) →
+    not-passing : {C : List Cell} (j : ℕ) (scope : Scope) (step : Step) (rest : List (Todo ℕ)) (x items : ℕ) (t : Token) →
         Left book text C j (taking step ∷ rest) items →
-        stepAt book text step x ≡ Taken.token t → nthVariant book j .passing ≡ true → ⊥
+        stepAt book text scope step x ≡ Taken.token t → nthVariant book j .passing ≡ true → ⊥
     unfolding stepAt
-    not-passing j step rest x items t l e passing =
-        let k = l .passing passing .0 in child-token (sym (ap (λ (z : Step). stepAt book text z x) (k .1)) ∙ e)
+    not-passing j scope step rest x items t l e passing =
+        let k = l .passing passing .0 in
+        child-token (sym (ap (λ (z : Step). stepAt book text scope z x) (k .1)) ∙ e)
 
     unit-grown : (step : Step) (s t : State) → Tabled text (s .cells) → stepUnit book text inner step s ≡ ok t →
         Grown text (s .cells) (t .cells)
@@ -412,11 +413,11 @@ module _ (book : Book) (text : List ℕ)
         let l = left-still (taking step ∷ rest) items (way .prefix) l₀ in
         let w = wants-take l in
         gives-from way
-        (taken-cases (stepAt book text step x)
+        (taken-cases (stepAt book text (scopeOf (c .path)) step x)
         (λ takes. gives-ok (rw takes at ran) (gives-set h))
         (λ t takes.
-        token-gives c j rest _ good t items set s r h w (not-passing j step rest x items t l takes)
-        (token-fits book text x step t takes) (rw takes at ran))
+        token-gives c j rest _ good t items set s r h w (not-passing j (scopeOf (c .path)) step rest x items t l takes)
+        (token-fits book text (scopeOf (c .path)) x step t takes) (rw takes at ran))
         (λ M takes. after _ _ (rw takes at ran) (λ a entered next.
         child-gives (s .cells) c j M x _ (plain-next-good (s .cells) c j rest items w) set s a r
         (prefix-refl (s .cells)) h entered next))

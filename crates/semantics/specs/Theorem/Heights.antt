@@ -10,12 +10,12 @@ use lib.Dec.{leb}
 use Rattle.characters.specs.Skipping.{skipFrom}
 use Rattle.book.specs.Book.{Book, nthNonterminal, nthVariant}
 use Rattle.semantics.specs.Values.{Tree, Trees, no-trees, _▸_, absent, list, Parse}
-use Rattle.semantics.specs.Uses.{Path, base, hasMark, minimum, same-start, governor, keeps}
+use Rattle.semantics.specs.Uses.{Path, hasMark, minimum, same-start, governor, keeps}
 use Rattle.semantics.specs.Tokens.{freeEnd, claimed}
-use Rattle.semantics.specs.Steps.{Taken, stepAt, goes, halts, afterElement, closed, Todo, taking, elements}
+use Rattle.semantics.specs.Steps.{Taken, goes, halts, afterElement, closed, Todo, taking, elements}
 use Rattle.semantics.specs.Steps.{ending, todoOf}
 use Rattle.semantics.specs.Derivations.{parseOf, identifierParse, withItem, Attempt, attempt, variantOf, inside}
-use Rattle.semantics.specs.Derivations.{Derives, by-variant, by-governor, by-identifier}
+use Rattle.semantics.specs.Derivations.{takes, Derives, by-variant, by-governor, by-identifier}
 use Rattle.semantics.specs.Derivations.{Through, done, by-token, by-child, by-absent, by-one, by-list}
 use Rattle.semantics.specs.Derivations.{by-unopened, by-stop, by-more, by-last, by-ending}
 
@@ -23,32 +23,32 @@ module _ (book : Book) (text : List ℕ) where
   -- the rules of derivations once more, with a height
   mutual
     pub data Der : ℕ → Path → ℕ → ℕ → Parse Tree → Type 0 where
-      h-variant : {h P N u p m i : _} → governor P base N u ≡ minimum m →
+      h-variant : {h P N u p m i : _} → governor P N u ≡ minimum m →
           i < nthNonterminal book N .count → leb m (nthVariant book (variantOf book N i) .level) ≡ true →
           DThrough h (attempt P N u (variantOf book N i) p) (todoOf book (nthVariant book (variantOf book N i))) u
           no-trees → Der (suc h) P N u p
-      h-governor : {h P N u p i f Q : _} → governor P base N u ≡ same-start i f Q →
+      h-governor : {h P N u p i f Q : _} → governor P N u ≡ same-start i f Q →
           Der h Q (f .nonterminal) (f .start) p → keeps f p ≡ true → Der (suc h) P N u p
-      h-identifier : {h P N u p m end : _} → governor P base N u ≡ minimum m → hasMark book 2 N ≡ true →
-          claimed book text P base u ≡ false → freeEnd book text u ≡ some end →
+      h-identifier : {h P N u p m end : _} → governor P N u ≡ minimum m → hasMark book 2 N ≡ true →
+          claimed book text P u ≡ false → freeEnd book text u ≡ some end →
           p ≡ identifierParse text u end → Der (suc h) P N u p
 
     pub data DThrough : ℕ → Attempt → List (Todo Trees) → ℕ → Trees → Type 0 where
       h-done : {h : ℕ} {a : Attempt} {x items : _} →
           a .parse ≡ parseOf book (a .variant) x items → DThrough h a [] x items
-      h-token : {h a s t rest x items : _} → stepAt book text s x ≡ Taken.token t →
+      h-token : {h a s t rest x items : _} → takes book text a s x ≡ Taken.token t →
           DThrough h a rest (t .next) (withItem text items (t .item)) → DThrough h a (taking s ∷ rest) x items
-      h-child : {h a s M q rest x items : _} → stepAt book text s x ≡ Taken.child M →
+      h-child : {h a s M q rest x items : _} → takes book text a s x ≡ Taken.child M →
           Der h (inside book a (skipFrom text x)) M (skipFrom text x) q →
           DThrough h a rest (q .rest) (items ▸ q .value) → DThrough h a (taking s ∷ rest) x items
-      h-absent : {h a s M rest x items : _} → stepAt book text s x ≡ Taken.optional M →
+      h-absent : {h a s M rest x items : _} → takes book text a s x ≡ Taken.optional M →
           DThrough h a rest x (items ▸ absent) → DThrough h a (taking s ∷ rest) x items
-      h-one : {h a s M q rest x items : _} → stepAt book text s x ≡ Taken.optional M →
+      h-one : {h a s M q rest x items : _} → takes book text a s x ≡ Taken.optional M →
           Der h (inside book a (skipFrom text x)) M (skipFrom text x) q →
           DThrough h a rest (q .rest) (items ▸ q .value) → DThrough h a (taking s ∷ rest) x items
-      h-list : {h a s comma M close y rest x items : _} → stepAt book text s x ≡ Taken.list comma M close y →
+      h-list : {h a s comma M close y rest x items : _} → takes book text a s x ≡ Taken.list comma M close y →
           DThrough h a (elements comma M no-trees close ∷ rest) y items → DThrough h a (taking s ∷ rest) x items
-      h-unopened : {h a s y rest x items : _} → stepAt book text s x ≡ Taken.unopened y →
+      h-unopened : {h a s y rest x items : _} → takes book text a s x ≡ Taken.unopened y →
           DThrough h a rest y (items ▸ list no-trees) → DThrough h a (taking s ∷ rest) x items
       h-stop : {h a comma M values close rest x items : _} →
           DThrough h a (ending values close ∷ rest) x items →

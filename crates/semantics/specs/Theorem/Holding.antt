@@ -19,8 +19,8 @@ use Rattle.book.specs.Book.{Book, nthVariant}
 use Rattle.book.specs.declared.records.Step.{Step}
 use Rattle.semantics.specs.Values.{Tree, Trees, Parse}
 use Rattle.semantics.specs.Uses.{Use, keeps}
-use Rattle.semantics.specs.Tokens.{when}
-use Rattle.semantics.specs.Steps.{Item as Read, Todo, taking, elements, ending, stepsOf, todoOf}
+use Rattle.semantics.specs.Tokens.{Item as Read, when}
+use Rattle.semantics.specs.Steps.{Todo, taking, elements, ending, stepsOf, todoOf}
 use Rattle.semantics.specs.Cells.{Cell, one, several, meaningOf, meanings}
 use Rattle.semantics.specs.Errors.{Error}
 use Rattle.semantics.specs.Run.{ok, State, Parsed, parsed, Made, made, Call, kept, add, addAll, make, itemCell}
@@ -339,6 +339,7 @@ module _ {text : List ℕ} (s : State) (m : Made) (tabled : Tabled text (s .cell
   new-read (Read.number n) fits e =
       make-item (Cell.number (n / 2 ^ 32) (n % 2 ^ 32)) _ refl (omega arith, mod-lt n (pow-pos 32)) e
   new-read (Read.variable i kind) fits e = make-item (Cell.variable i kind) _ refl tt e
+  new-read (Read.declared depth index) fits e = make-item (Cell.declared depth index) _ refl tt e
 
 -- ---- The cells of a variant
 steps-values : (text : List ℕ) (C : List Cell) (l : List Step) → Values text C (map taking l)

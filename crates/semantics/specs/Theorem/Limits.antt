@@ -15,9 +15,9 @@ use Rattle.characters.specs.Classes.{between}
 use Rattle.book.specs.Book.{Book, nthVariant, stepNumber}
 use Rattle.book.specs.declared.records.Step.{Step}
 use Rattle.semantics.specs.Values.{Parse}
-use Rattle.semantics.specs.Uses.{Path, base, hasMark, governor}
-use Rattle.semantics.specs.Tokens.{freeEnd, claimed}
-use Rattle.semantics.specs.Steps.{Item, stepAt, afterElement, closed, Todo, taking, elements, ending}
+use Rattle.semantics.specs.Uses.{Path, scopeOf, hasMark, governor}
+use Rattle.semantics.specs.Tokens.{Item, freeEnd, claimed}
+use Rattle.semantics.specs.Steps.{stepAt, afterElement, closed, Todo, taking, elements, ending}
 use Rattle.semantics.specs.Cells.{Cell, findCell}
 use Rattle.semantics.specs.Errors.{Error}
 use Rattle.semantics.specs.Run.{Result, met, ok, _>>=_, State, Parsed, Call, Runner, Go, Next, has, allIn, newest}
@@ -153,7 +153,7 @@ module _ (book : Book) (text : List ℕ) where
   identifier-limited : (c : Call) (s : State) → Limited (runIdentifier book text c s)
   unfolding runIdentifier named
   identifier-limited c s =
-      by-test (claimed book text (c .path) base (c .start))
+      by-test (claimed book text (c .path) (c .start))
       (λ t. rw t done)
       (λ t. option-cases (freeEnd book text (c .start))
       (λ missing. rw (t, missing) done)
@@ -199,7 +199,7 @@ module _ (book : Book) (text : List ℕ) where
     unfolding enter
     enter-limited P S N u s₀ =
         then _ _ (spend-limited s₀) (λ s.
-        governor-cases (governor P base N u)
+        governor-cases (governor P N u)
         (λ m gov. rw gov (nested-limited inner limited s _ (λ f h.
         by-test (hasMark book 2 N)
         (λ mark. rw mark (identifier-limited _ s))
@@ -275,7 +275,7 @@ module _ (book : Book) (text : List ℕ) where
         let go = steps book text inner c j rest in
         let h : LimitedGo go = λ y is u t. steps-limited c j rest y is u t in
         then _ _ (step-unit-limited step s₀) (λ s.
-        taken-cases (stepAt book text step x)
+        taken-cases (stepAt book text (scopeOf (c .path)) step x)
         (λ takes. rw takes done)
         (λ t takes.
         rw takes (then _ _ (with-token-limited j items (t .item) s) (λ m. h (t .next) (m .cell) set (m .state))))

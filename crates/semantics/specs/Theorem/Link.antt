@@ -14,7 +14,7 @@ use Rattle.book.specs.Book.{Book, nthNonterminal, nthVariant}
 use Rattle.book.specs.declared.records.Associativity.{Associativity}
 use Rattle.book.specs.declared.records.Step.{Step}
 use Rattle.semantics.specs.Values.{Tree, Trees, no-trees, Parse}
-use Rattle.semantics.specs.Uses.{Use, Path, base, hasMark, minimum, same-start, governor, keeps}
+use Rattle.semantics.specs.Uses.{Use, Path, hasMark, minimum, same-start, governor, keeps}
 use Rattle.semantics.specs.Tokens.{freeEnd, claimed}
 use Rattle.semantics.specs.Steps.{Todo, taking, elements, ending, stepsOf, todoOf}
 use Rattle.semantics.specs.Cells.{Cell}
@@ -207,7 +207,7 @@ module _ (book : Book) (text : List ℕ) (Cf : List Cell) (table : Table text Cf
 
     -- ---- The call of a nonterminal
     run-call-ok : (P : Path) (S : List (List (Parse ℕ))) (N u m : ℕ) (s : State) (r : Parsed) →
-        governor P base N u ≡ minimum m → hasMark book 2 N ≡ false →
+        governor P N u ≡ minimum m → hasMark book 2 N ≡ false →
         runCall book text f (call P S N u []) m (withAsked s (false ∷ s .asked)) ≡ ok r →
         Before Cf (r .state) → CallOk P S N u s r
     unfolding runCall
@@ -244,7 +244,7 @@ module _ (book : Book) (text : List ℕ) (Cf : List Cell) (table : Table text Cf
     pub back : Before Cf s
     pub run : Enters book text P (map (trees text Cf) S) (s .asked) N u (trees text Cf (r .set)) (r .state .asked)
 
-  module _ (P : Path) (S : List (List (Parse ℕ))) (N u m : ℕ) (gov : governor P base N u ≡ minimum m)
+  module _ (P : Path) (S : List (List (Parse ℕ))) (N u m : ℕ) (gov : governor P N u ≡ minimum m)
       (mark : hasMark book 2 N ≡ true) where
     missing-ok : (s : State) (e : Error) → [] ≡ identifiers book text P u → Before Cf s →
         EnterOk P S N u s (parsed [] (some e) s)
@@ -254,7 +254,7 @@ module _ (book : Book) (text : List ℕ) (Cf : List Cell) (table : Table text Cf
         Before Cf (r .state) → EnterOk P S N u s r
     unfolding runIdentifier named
     identifier-ok s r e b =
-        by-test (claimed book text P base u)
+        by-test (claimed book text P u)
         (λ t.
         subst (λ (z : Parsed). Before Cf (z .state) → EnterOk P S N u s z) (ok-inj (rw t at e))
         (missing-ok s _ (rw t refl)) b)
@@ -273,7 +273,7 @@ module _ (book : Book) (text : List ℕ) (Cf : List Cell) (table : Table text Cf
         }) b))
 
   reentry-ok : (inner : Option Runner) (P Q : Path) (S : List (List (Parse ℕ))) (N u i : ℕ) (f : Use)
-      (l : List (Parse ℕ)) (e : Error) (s t : State) → governor P base N u ≡ same-start i f Q →
+      (l : List (Parse ℕ)) (e : Error) (s t : State) → governor P N u ≡ same-start i f Q →
       trees text Cf l ≡ sift (keeps f) (nth (map (trees text Cf) S) i) → t .asked ≡ ask i (s .asked) → Before Cf s →
       EnterOk P S N u s (reentry book text inner l e t)
   unfolding reentry
@@ -312,7 +312,7 @@ module _ (book : Book) (text : List ℕ) (Cf : List Cell) (table : Table text Cf
     unfolding enter
     enter-ok P S N u s₀ r e b =
         after _ _ e (λ s ran next.
-        governor-cases (governor P base N u)
+        governor-cases (governor P N u)
         (λ m gov. nested-run book text inner s _ (rw gov at next) (λ f inside-it ran-it.
         by-test (hasMark book 2 N)
         (λ mark.

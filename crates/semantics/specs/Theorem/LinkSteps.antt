@@ -10,6 +10,7 @@ use Rattle.characters.specs.Skipping.{skipFrom}
 use Rattle.book.specs.Book.{Book, nthVariant, stepNumber}
 use Rattle.book.specs.declared.records.Step.{Step}
 use Rattle.semantics.specs.Values.{Tree, Trees, no-trees, _▸_, Parse}
+use Rattle.semantics.specs.Uses.{scopeOf}
 use Rattle.semantics.specs.Steps.{Token, Taken, stepAt, After, goes, halts, afterElement, closed, Todo, taking}
 use Rattle.semantics.specs.Steps.{elements, ending}
 use Rattle.semantics.specs.Derivations.{valueOf, withItem}
@@ -370,7 +371,7 @@ module _ (book : Book) (text : List ℕ) (Cf : List Cell) (table : Table text Cf
 
     or-absent-ok : (c : Call) (j M : ℕ) (step : Step) (rest : List (Todo ℕ)) (go : Go) → GoodGo c j rest go →
         (x items : ℕ) (set : List (Parse ℕ)) (s : State) (r : Parsed) →
-        stepAt book text step x ≡ Taken.optional M → orAbsent book text inner c j M rest go x items set s ≡ ok r →
+        stepAt book text (scopeOf (c .path)) step x ≡ Taken.optional M → orAbsent book text inner c j M rest go x items set s ≡ ok r →
         Before Cf (r .state) → RunOk c j (taking step ∷ rest) x items set s (r .set) (r .state)
     unfolding orAbsent
     or-absent-ok c j M step rest go good x items set s r takes e b =
@@ -405,7 +406,7 @@ module _ (book : Book) (text : List ℕ) (Cf : List Cell) (table : Table text Cf
     listing-ok :
         (c : Call) (j : ℕ) (step : Step) (comma : Bool) (M : ℕ) (close : Option ℕ) (rest : List (Todo ℕ)) (go : Go) →
         GoodGo c j rest go → (x y items : ℕ) (set : List (Parse ℕ))
-        (s : State) (r : Parsed) → stepAt book text step x ≡ Taken.list comma M close y →
+        (s : State) (r : Parsed) → stepAt book text (scopeOf (c .path)) step x ≡ Taken.list comma M close y →
         listing book text inner c j comma M close rest go y items set s ≡ ok r → Before Cf (r .state) →
         RunOk c j (taking step ∷ rest) x items set s (r .set) (r .state)
     unfolding listing
@@ -431,7 +432,7 @@ module _ (book : Book) (text : List ℕ) (Cf : List Cell) (table : Table text Cf
 
     unopened-ok : (c : Call) (j : ℕ) (step : Step) (rest : List (Todo ℕ)) (go : Go) → GoodGo c j rest go →
         (x y items : ℕ) (set : List (Parse ℕ)) (s : State) (r : Parsed) →
-        stepAt book text step x ≡ Taken.unopened y →
+        stepAt book text (scopeOf (c .path)) step x ≡ Taken.unopened y →
         (make text Cell.empty s >>= (λ e. stops book text j (e .cell) none go y items set (e .state))) ≡ ok r →
         Before Cf (r .state) →
         RunOk c j (taking step ∷ rest) x items set s (r .set) (r .state)
@@ -464,7 +465,7 @@ module _ (book : Book) (text : List ℕ) (Cf : List Cell) (table : Table text Cf
     -- ---- Steps
     token-ok : (c : Call) (j : ℕ) (step : Step) (t : Token) (rest : List (Todo ℕ)) (go : Go) → GoodGo c j rest go →
         (x items : ℕ) (set : List (Parse ℕ)) (s : State) (r : Parsed) →
-        stepAt book text step x ≡ Taken.token t →
+        stepAt book text (scopeOf (c .path)) step x ≡ Taken.token t →
         (withToken book text j items (t .item) s >>= (λ m. go (t .next) (m .cell) set (m .state))) ≡ ok r →
         Before Cf (r .state) →
         RunOk c j (taking step ∷ rest) x items set s (r .set) (r .state)
@@ -480,7 +481,7 @@ module _ (book : Book) (text : List ℕ) (Cf : List Cell) (table : Table text Cf
         })
 
     child-ok : (c : Call) (j M : ℕ) (step : Step) (rest : List (Todo ℕ)) (x items : ℕ) (set : List (Parse ℕ))
-        (s : State) (r : Parsed) → stepAt book text step x ≡ Taken.child M →
+        (s : State) (r : Parsed) → stepAt book text (scopeOf (c .path)) step x ≡ Taken.child M →
         (enterChild book text inner c j M x s
         >>= (λ d. followed book text inner (plainNext book text c j rest items) set d)) ≡ ok r → Before Cf (r .state) →
         RunOk c j (taking step ∷ rest) x items set s (r .set) (r .state)
@@ -495,7 +496,7 @@ module _ (book : Book) (text : List ℕ) (Cf : List Cell) (table : Table text Cf
 
     nothing-ok :
         (c : Call) (j : ℕ) (step : Step) (rest : List (Todo ℕ)) (x items : ℕ) (set : List (Parse ℕ)) (s : State) →
-        stepAt book text step x ≡ Taken.nothing → Before Cf s →
+        stepAt book text (scopeOf (c .path)) step x ≡ Taken.nothing → Before Cf s →
         RunOk c j (taking step ∷ rest) x items set s set s
     nothing-ok c j step rest x items set s takes b =
         record { back = b; finds = λ ts h. record { R = []; run = s-nothing takes; joins = joins-nil } }
@@ -575,7 +576,7 @@ module _ (book : Book) (text : List ℕ) (Cf : List Cell) (table : Table text Cf
         let good : GoodGo c j rest go = λ y is u t q d b′. steps-ok c j rest y is u t q d b′ in
         after _ _ e (λ s unit ran.
         run-from c j (taking step ∷ rest) x items set s₀ s r (λ b′. unit-way step s₀ s unit b′)
-        (taken-cases (stepAt book text step x)
+        (taken-cases (stepAt book text (scopeOf (c .path)) step x)
         (λ takes.
         subst (λ (z : Parsed). Before Cf (z .state) → RunOk c j (taking step ∷ rest) x items set s (z .set) (z .state))
         (ok-inj (rw takes at ran)) (nothing-ok c j step rest x items set s takes) b)

@@ -20,7 +20,7 @@ use Rattle.book.specs.Check.{checkBook, Outcome}
 use Rattle.semantics.specs.Numbers.{cellsSize, parsesSize, mostUnits, longestText, mostNesting, mostCells, noUnit}
 use Rattle.semantics.specs.Numbers.{tooManyCells}
 use Rattle.semantics.specs.Values.{Parse}
-use Rattle.semantics.specs.Uses.{base, governor}
+use Rattle.semantics.specs.Uses.{scopeOf, governor}
 use Rattle.semantics.specs.Tokens.{claimed}
 use Rattle.semantics.specs.Cells.{Cell, findCell}
 use Rattle.semantics.specs.Errors.{Error}
@@ -99,9 +99,9 @@ module _ (d : ℕ) where
 
   governed-longer : (A₁ A₂ : Context) (N u : ℕ) → A₂ ≡ A₁ → Governed anywhere (λ s₁ s₂. s₂ ≡ withMore s₁) A₁ A₂ N u
   governed-longer A₁ A₂ N u e =
-      let same : governor (A₂ .path) base N u ≡ governor (A₁ .path) base N u =
-      ap (λ (A : Context). governor (A .path) base N u) e in
-      governor-cases (governor (A₁ .path) base N u)
+      let same : governor (A₂ .path) N u ≡ governor (A₁ .path) N u =
+      ap (λ (A : Context). governor (A .path) N u) e in
+      governor-cases (governor (A₁ .path) N u)
       (λ m is. minimums m is (same ∙ is))
       (λ i f Q is. reentries i f Q Q is (same ∙ is) (ap (λ (A : Context). getD (A .stored) i []) e)
       (good-anywhere _) (λ s₁ s₂ t. ap (λ (s : State). withAsked s (ask i (s .asked))) t))
@@ -128,12 +128,13 @@ module _ (d : ℕ) where
         closes = λ k s₁ s₂ e. ap (λ (s : State). withAsked s (others (s .asked))) e;
         within = λ k A₁ A₂ N u j v mine e pu pv good. ap (inside book N u j v mine) e;
         governed = λ k A₁ A₂ N u e pu. governed-longer A₁ A₂ N u e;
-        claims = λ k A₁ A₂ u e pu. ap (λ (A : Context). claimed book text (A .path) base u) e;
+        scopes = λ k A₁ A₂ e. ap (λ (A : Context). scopeOf (A .path)) e;
+        claims = λ k A₁ A₂ u e pu. ap (λ (A : Context). claimed book text (A .path) u) e;
         skips = λ x p. tt;
         frees = λ x y p e. tt;
-        takes = λ step x t p e. tt;
-        lists = λ step x comma M close y p e. tt;
-        unopens = λ step x y p e. tt;
+        takes = λ scope step x t p e. tt;
+        lists = λ scope step x comma M close y p e. tt;
+        unopens = λ scope step x y p e. tt;
         goes-on = λ comma x y p e. tt;
         halts-at = λ comma x y p e. tt;
         closes-at = λ close x y p e. tt;

@@ -10,7 +10,7 @@ use Rattle.characters.specs.Cases.{by-test, clash}
 use Rattle.characters.specs.Spelling.{partOf}
 use Rattle.book.specs.Book.{Book, nthVariant}
 use Rattle.semantics.specs.Values.{Tree, Trees, no-trees, _▸_}
-use Rattle.semantics.specs.Steps.{Item}
+use Rattle.semantics.specs.Tokens.{Item}
 use Rattle.semantics.specs.Derivations.{lastOf, treeOf, withItem}
 use Rattle.semantics.specs.Cells.{Cell, treeIn, treesIn, meaningOf}
 use Rattle.semantics.specs.Run.{ok, State, Made, make, itemCell, begin, withCell, withToken}
@@ -81,6 +81,8 @@ module _ (text : List ℕ) (Cf : List Cell) (table : Table text Cf) where
         ap treeIn (make-means text Cf table (Cell.number (n / 2 ^ 32) (n % 2 ^ 32)) s m e b)
         ∙ ap Tree.number (split n 32)
     made-item (Item.variable i kind) e b = ap treeIn (make-means text Cf table (Cell.variable i kind) s m e b)
+    made-item (Item.declared depth index) e b =
+        ap treeIn (make-means text Cf table (Cell.declared depth index) s m e b)
 
   module _ (book : Book) (j : ℕ) where
     -- the items of a variant under way, as a cell and as trees. A passing variant has the cell of its last item

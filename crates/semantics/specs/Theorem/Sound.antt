@@ -9,9 +9,9 @@ use Prim.Native.Nat.{ℕ, zero, suc, _+_, _<_}
 use native.Mathlib.Omega.{arith}
 use lib.Dec.{leb, eqb}
 use Rattle.characters.specs.Skipping.{skipFrom}
-use Rattle.book.specs.Book.{Book, nthNonterminal, nthVariant}
+use Rattle.book.specs.Book.{Entry, Book, nthNonterminal, nthVariant}
 use Rattle.semantics.specs.Values.{Tree, Trees, no-trees, Parse}
-use Rattle.semantics.specs.Uses.{Use, Path, base, useOf, hasMark, Governor, minimum, same-start, outwards, govern}
+use Rattle.semantics.specs.Uses.{Use, Path, within, behind, useOf, hasMark, Governor, minimum, same-start, outwards, govern}
 use Rattle.semantics.specs.Uses.{governor, keeps}
 use Rattle.semantics.specs.Tokens.{freeEnd, claimed}
 use Rattle.semantics.specs.Steps.{After, goes, halts, afterElement, Todo, elements, todoOf}
@@ -30,34 +30,36 @@ use Rattle.semantics.specs.Theorem.BigStep.{Each, e-none, e-one}
 -- ---- A governor stands in the path
 -- use number i of a path, and its own path
 pub data At : Path → ℕ → Use → Path → Type 0 where
-  here : {f : Use} {P : Path} → At (f ∷ P) zero f P
-  there : {f g : Use} {P Q : Path} {i : ℕ} → At P i f Q → At (g ∷ P) (suc i) f Q
+  here : {f : Use} {P : Path} → At (within f ∷ P) zero f P
+  there : {f g : Use} {P Q : Path} {i : ℕ} → At P i f Q → At (within g ∷ P) (suc i) f Q
+  past : {f : Use} {names : List Entry} {P Q : Path} {i : ℕ} → At P i f Q → At (behind names ∷ P) i f Q
 
 -- a governor at its own start does
 abbrev Stands : Path → Governor → Type 0
 Stands P (minimum m) = Unit {0}
 Stands P (same-start i f Q) = At P i f Q
 
-outwards-stands : (f : Use) (P : Path) (g : Governor) → Stands P g → Stands (f ∷ P) (outwards g)
+outwards-stands : (f : Use) (P : Path) (g : Governor) → Stands P g → Stands (within f ∷ P) (outwards g)
 unfolding outwards
 outwards-stands f P (minimum m) a = tt
 outwards-stands f P (same-start i f′ Q) a = there a
 
-govern-stands : (a b : Bool) (f : Use) (P : Path) (g : Governor) → Stands P g → Stands (f ∷ P) (govern a b f P g)
+govern-stands : (a b : Bool) (f : Use) (P : Path) (g : Governor) → Stands P g → Stands (within f ∷ P) (govern a b f P g)
 unfolding govern
 govern-stands true true f P g h = here
 govern-stands true false f P g h = tt
 govern-stands false b f P g h = outwards-stands f P g h
 
-governor-stands : (P : Path) (scope N u : ℕ) → Stands P (governor P scope N u)
+governor-stands : (P : Path) (N u : ℕ) → Stands P (governor P N u)
 unfolding governor
-governor-stands [] scope N u = tt
-governor-stands (f ∷ P) scope N u =
-    govern-stands (eqb (f .nonterminal) N && (eqb (f .scope) scope && eqb (f .child) u)) (eqb (f .start) u) f P
-    (governor P scope N u) (governor-stands P scope N u)
+governor-stands [] N u = tt
+governor-stands (behind names ∷ P) N u = tt
+governor-stands (within f ∷ P) N u =
+    govern-stands (eqb (f .nonterminal) N && eqb (f .child) u) (eqb (f .start) u) f P (governor P N u)
+    (governor-stands P N u)
 
-pub gov-at : (P : Path) (N u : ℕ) {i : ℕ} {f : Use} {Q : Path} → governor P base N u ≡ same-start i f Q → At P i f Q
-gov-at P N u e = subst (Stands P) e (governor-stands P base N u)
+pub gov-at : (P : Path) (N u : ℕ) {i : ℕ} {f : Use} {Q : Path} → governor P N u ≡ same-start i f Q → At P i f Q
+gov-at P N u e = subst (Stands P) e (governor-stands P N u)
 
 module _ (book : Book) (text : List ℕ) where
   -- ---- The stored sets
@@ -105,15 +107,15 @@ module _ (book : Book) (text : List ℕ) where
   }
 
   by-way : {P : Path} {S : Sets} {N u m : ℕ} {T : List (Parse Tree)} {p : Parse Tree} →
-      governor P base N u ≡ minimum m →
+      governor P N u ≡ minimum m →
       Way (open′ P S N u T) m (nthNonterminal book N .count) (nthNonterminal book N .first) p →
       Derives book text P N u p
   by-way {P} {N = N} {u = u} {m = m} {p = p} e w =
       by-variant e (w .below) (subst (λ k. leb m (nthVariant book k .level) ≡ true) (w .is) (w .high))
       (subst (λ k. Through book text (attempt P N u k p) (todoOf book (nthVariant book k)) u no-trees) (w .is) (w .way))
 
-  by-named : {P : Path} {N u m : ℕ} {p : Parse Tree} → governor P base N u ≡ minimum m → hasMark book 2 N ≡ true →
-      (b : Bool) → claimed book text P base u ≡ b →
+  by-named : {P : Path} {N u m : ℕ} {p : Parse Tree} → governor P N u ≡ minimum m → hasMark book 2 N ≡ true →
+      (b : Bool) → claimed book text P u ≡ b →
       (end : Option ℕ) → freeEnd book text u ≡ end → p ∈ cond b [] (named book text end u) → Derives book text P N u p
   by-named g k true c end e m = absurd (List·Memᴰ·not-nil m)
   by-named g k false c none e m = absurd (List·Memᴰ·not-nil m)
@@ -136,7 +138,7 @@ module _ (book : Book) (text : List ℕ) where
 
   after-element : {P : Path} {N u j x M : ℕ} {comma : Bool} {values : Trees} {close : Option ℕ} {q p : Parse Tree}
       {rest : List (Todo Trees)} {items : Trees} →
-      Derives book text (useOf book N u j (skipFrom text x) ∷ P) M (skipFrom text x) q → (z : After) →
+      Derives book text (within (useOf book N u j (skipFrom text x)) ∷ P) M (skipFrom text x) q → (z : After) →
       afterElement text comma (q .rest) ≡ z →
       ThroughLeft P N u j (onward book text z (q .value) comma M values close rest items) p →
       Through book text (attempt P N u j p) (elements comma M values close ∷ rest) x items
@@ -150,7 +152,7 @@ module _ (book : Book) (text : List ℕ) where
         let n = sift-out (keeps f) (nth S i) (subst (λ l. p ∈ l) r m) in
         by-governor g (h i f Q (gov-at P N u g) p (n .0)) (n .1)
     s-enters (identifier {P} {u = u} g k r a) h p m =
-        by-named g k (claimed book text P base u) refl (freeEnd book text u) refl (subst (λ l. p ∈ l) r m)
+        by-named g k (claimed book text P u) refl (freeEnd book text u) refl (subst (λ l. p ∈ l) r m)
     s-enters (quiet {P} {S} {N = N} {u = u} g k v b a) h p m = s-runs v g h (nothing-stored P S N u) p m
     s-enters (barren {P} {S} {N = N} {u = u} g k v r a) h p m = s-runs v g h (nothing-stored P S N u) p m
     s-enters (grown {P} {S} {N = N} {u = u} g k v rs) h p m =
@@ -158,13 +160,13 @@ module _ (book : Book) (text : List ℕ) where
 
     s-runs : {P : Path} {S : Sets} {m N u : ℕ} {T : List (Parse Tree)} {B : List Bool}
         {R : List (Parse Tree)} {B′ : List Bool} →
-        Runs book text P S m N u T B R B′ → governor P base N u ≡ minimum m → Truthful P S → Mine (open′ P S N u T) →
+        Runs book text P S m N u T B R B′ → governor P N u ≡ minimum m → Truthful P S → Mine (open′ P S N u T) →
         (p : Parse Tree) → p ∈ R → Derives book text P N u p
     s-runs (runs v) g h t p m = by-way g (s-variants v h t p m)
 
     s-rounds : {P : Path} {S : Sets} {m N u : ℕ} {T : List (Parse Tree)} {B : List Bool}
         {U : List (Parse Tree)} {A′ : List Bool} →
-        Rounds book text P S m N u T B U A′ → governor P base N u ≡ minimum m → Truthful P S → Mine (open′ P S N u T) →
+        Rounds book text P S m N u T B U A′ → governor P N u ≡ minimum m → Truthful P S → Mine (open′ P S N u T) →
         (p : Parse Tree) → p ∈ U → Derives book text P N u p
     s-rounds (last v sub e a) g h t p m = t p (subst (λ l. p ∈ l) e m)
     s-rounds (more v j rs) g h t p m =

@@ -1,9 +1,9 @@
 -- Where tokens end, and what they add: an identifier ends behind its place, inside the text; a name that is read is a
 -- part of the text, and a number has 64 bits.
 use mathlib.Core.Path.{_≡_, refl, _∙_, ap, subst}
-use mathlib.Core.List.{List}
+use mathlib.Core.List.{List, [], _∷_}
 use mathlib.Core.Option.{Option, none, some}
-use Prim.Native.Nat.{ℕ, _+_, _^_, _≤_, _<_}
+use Prim.Native.Nat.{ℕ, suc, _+_, _^_, _≤_, _<_}
 use native.Mathlib.Omega.{arith}
 use lib.Dec.{eqb}
 use lib.ListN.{length}
@@ -14,10 +14,13 @@ use Rattle.characters.specs.Lexemes.{identifierAt, numberAt}
 use Rattle.characters.specs.LexemeLaws.{identifier-bounds, number-bounds}
 use Rattle.characters.specs.declared.lexemes.Identifier.{Identifier}
 use Rattle.characters.specs.declared.lexemes.Number.{Number}
-use Rattle.book.specs.Book.{Book, nthEntry}
+use Rattle.book.specs.Book.{Entry, Book, nthEntry, lookupName}
+use Rattle.book.specs.declared.names.Found.{Found}
 use Rattle.book.specs.declared.records.Step.{Step}
-use Rattle.semantics.specs.Tokens.{characterEnd, identifierEnd, spelled, reservedAt, freeEnd, variableAt}
-use Rattle.semantics.specs.Steps.{Item, Token, Taken, stepAt}
+use Rattle.semantics.specs.Uses.{Scope}
+use Rattle.semantics.specs.Tokens.{Item, Variable, Read, characterEnd, identifierEnd, spelled, reservedAt, freeEnd}
+use Rattle.semantics.specs.Tokens.{variableIn, variableAt}
+use Rattle.semantics.specs.Steps.{Token, Taken, stepAt}
 use Rattle.semantics.specs.Theorem.Results.{none-some, some-inj, option-cases}
 
 -- ---- Identifiers
@@ -45,6 +48,7 @@ abbrev pub ReadFits : List ℕ → Item → Type 0
 ReadFits text (Item.name place size) = place + size ≤ length text
 ReadFits text (Item.number n) = n < 2 ^ 64
 ReadFits text (Item.variable i kind) = Unit {0}
+ReadFits text (Item.declared depth index) = Unit {0}
 
 abbrev pub AddsFit : List ℕ → Option Item → Type 0
 AddsFit text none = Unit {0}
@@ -58,14 +62,52 @@ TakenFits text (Taken.list comma M close y) = Unit {0}
 TakenFits text (Taken.unopened y) = Unit {0}
 TakenFits text Taken.nothing = Unit {0}
 
-module _ (book : Book) (text : List ℕ) (x : ℕ) where
-  number-fits : (n : Number) → numberAt text (skipFrom text x) ≡ n → TakenFits text (stepAt book text Step.Number x)
+-- a variable fits: it is a starting name or a declared one
+variable-in-fits : (text : List ℕ) (names : List Entry) (d : ℕ) (scope : Scope) (spelling : List ℕ) (v : Variable) →
+    variableIn names d scope spelling ≡ some v → ReadFits text (v .item)
+unfolding variableIn
+variable-in-fits text names d [] spelling v e = by (lookupName names spelling) e
+  where
+    by : (f : Found) →
+        elim f [
+          | Found.Name i kind ↦ some (record { kind = kind; item = Item.variable i kind })
+          | Found.Nothing ↦ none
+        ] ≡ some v → ReadFits text (v .item)
+    by (Found.Name i kind) e = subst (λ (w : Variable). ReadFits text (w .item)) (some-inj e) tt
+    by Found.Nothing e = absurd (none-some e)
+variable-in-fits text names d (binder ∷ scope) spelling v e =
+    by (lookupName binder spelling) e (λ outer. variable-in-fits text names (suc d) scope spelling v outer)
+  where
+    by : (f : Found) →
+        elim f [
+          | Found.Name i kind ↦ some (record { kind = kind; item = Item.declared d i })
+          | Found.Nothing ↦ variableIn names (suc d) scope spelling
+        ] ≡ some v → (variableIn names (suc d) scope spelling ≡ some v → ReadFits text (v .item)) →
+        ReadFits text (v .item)
+    by (Found.Name i kind) e outer = subst (λ (w : Variable). ReadFits text (w .item)) (some-inj e) tt
+    by Found.Nothing e outer = outer e
+
+variable-fits : (book : Book) (text : List ℕ) (scope : Scope) (at : ℕ) (v : Read Variable) →
+    variableAt book text scope at ≡ some v → ReadFits text (v .value .item)
+unfolding variableAt
+variable-fits book text scope at v q =
+    option-cases (identifierEnd text at)
+    (λ e. absurd (none-some (rw (e, variableAt) at q)))
+    (λ end e.
+    option-cases (variableIn (book .names) 0 scope (spelled text at end))
+    (λ missing. absurd (none-some (rw (e, missing, variableAt) at q)))
+    (λ w there.
+    subst (λ (z : Read Variable). ReadFits text (z .value .item)) (some-inj (rw (e, there, variableAt) at q))
+    (variable-in-fits text (book .names) 0 scope (spelled text at end) w there)))
+
+module _ (book : Book) (text : List ℕ) (scope : Scope) (x : ℕ) where
+  number-fits : (n : Number) → numberAt text (skipFrom text x) ≡ n → TakenFits text (stepAt book text scope Step.Number x)
   unfolding stepAt
   number-fits (Number.Value value end) e = rw (e, stepAt) (number-bounds text (skipFrom text x) value end e .2)
   number-fits Number.TooLarge e = rw (e, stepAt) tt
   number-fits Number.Nothing e = rw (e, stepAt) tt
 
-  step-fits : (step : Step) → TakenFits text (stepAt book text step x)
+  step-fits : (step : Step) → TakenFits text (stepAt book text scope step x)
   unfolding stepAt
   step-fits (Step.Character a) =
       option-cases (characterEnd text a x) (λ e. rw (e, stepAt) tt) (λ end e. rw (e, stepAt) tt)
@@ -81,13 +123,16 @@ module _ (book : Book) (text : List ℕ) (x : ℕ) where
       (λ end e. let w = free-end-within book text (skipFrom text x) end e in rw (e, stepAt) (omega (arith, w .0, w .1)))
   step-fits Step.Number = number-fits (numberAt text (skipFrom text x)) refl
   step-fits Step.Variable =
-      option-cases (variableAt book text (skipFrom text x)) (λ e. rw (e, stepAt) tt) (λ v e. rw (e, stepAt) tt)
+      option-cases (variableAt book text scope (skipFrom text x)) (λ e. rw (e, stepAt) tt)
+      (λ v e. rw (e, stepAt) (variable-fits book text scope (skipFrom text x) v e))
   step-fits (Step.VariableOfKind a) =
-      option-cases (variableAt book text (skipFrom text x))
+      option-cases (variableAt book text scope (skipFrom text x))
       (λ e. rw (e, stepAt) tt)
-      (λ v e. by-test (eqb (v .kind) a) (λ t. rw (e, t, stepAt) tt) (λ t. rw (e, t, stepAt) tt))
+      (λ v e. by-test (eqb (v .value .kind) a)
+      (λ t. rw (e, t, stepAt) (variable-fits book text scope (skipFrom text x) v e))
+      (λ t. rw (e, t, stepAt) tt))
   step-fits Step.RejectVariable =
-      option-cases (variableAt book text (skipFrom text x)) (λ e. rw (e, stepAt) tt) (λ v e. rw (e, stepAt) tt)
+      option-cases (variableAt book text scope (skipFrom text x)) (λ e. rw (e, stepAt) tt) (λ v e. rw (e, stepAt) tt)
   step-fits Step.RejectReserved =
       by-test (reservedAt book text (skipFrom text x)) (λ t. rw (t, stepAt) tt) (λ t. rw (t, stepAt) tt)
   step-fits (Step.Nonterminal M) = tt
@@ -99,5 +144,5 @@ module _ (book : Book) (text : List ℕ) (x : ℕ) where
   step-fits (Step.OptionalDelimited M b c) =
       option-cases (characterEnd text b x) (λ e. rw (e, stepAt) tt) (λ y e. rw (e, stepAt) tt)
 
-  pub token-fits : (step : Step) (t : Token) → stepAt book text step x ≡ Taken.token t → AddsFit text (t .item)
+  pub token-fits : (step : Step) (t : Token) → stepAt book text scope step x ≡ Taken.token t → AddsFit text (t .item)
   token-fits step t e = subst (TakenFits text) e (step-fits step)

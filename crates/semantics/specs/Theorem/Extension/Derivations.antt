@@ -10,7 +10,7 @@ use Rattle.characters.specs.Skipping.{skipFrom}
 use Rattle.book.specs.Book.{Book, nthNonterminal, nthVariant}
 use Rattle.book.specs.declared.records.Step.{Step}
 use Rattle.semantics.specs.Values.{Tree, Trees, Parse}
-use Rattle.semantics.specs.Uses.{Path, base}
+use Rattle.semantics.specs.Uses.{within, behind, Path, Scope, scopeOf}
 use Rattle.semantics.specs.Tokens.{reservedAt, freeEnd, variableAt, hasClaimant, claimed}
 use Rattle.semantics.specs.Steps.{stepAt, Todo, stepsOf}
 use Rattle.semantics.specs.Derivations.{Attempt, variantOf, inside, Derives, by-variant, by-governor}
@@ -38,34 +38,35 @@ module _ (book longer : Book) (text : List ℕ) (retains : Retains book longer) 
   unfolding freeEnd
   free-still at = rw (reserved-still at) refl
 
-  variable-still : (at : ℕ) → variableAt longer text at ≡ variableAt book text at
+  variable-still : (scope : Scope) (at : ℕ) → variableAt longer text scope at ≡ variableAt book text scope at
   unfolding variableAt
-  variable-still at = rw (retains .names) refl
+  variable-still scope at = rw (retains .names) refl
 
-  claimant-still : (P : Path) (scope u : ℕ) → hasClaimant longer text P scope u ≡ hasClaimant book text P scope u
+  claimant-still : (P : Path) (u : ℕ) → hasClaimant longer text P u ≡ hasClaimant book text P u
   unfolding hasClaimant
-  claimant-still [] scope u = refl
-  claimant-still (f ∷ P) scope u = rw (retains .marks (f .nonterminal), claimant-still P scope u) refl
+  claimant-still [] u = refl
+  claimant-still (behind names ∷ P) u = refl
+  claimant-still (within f ∷ P) u = rw (retains .marks (f .nonterminal), claimant-still P u) refl
 
-  claimed-still : (P : Path) (scope u : ℕ) → claimed longer text P scope u ≡ claimed book text P scope u
-  claimed-still P scope u = rw (variable-still u, claimant-still P scope u) refl
+  claimed-still : (P : Path) (u : ℕ) → claimed longer text P u ≡ claimed book text P u
+  claimed-still P u = rw (variable-still (scopeOf P) u, claimant-still P u) refl
 
-  step-still : (s : Step) (x : ℕ) → stepAt longer text s x ≡ stepAt book text s x
+  step-still : (scope : Scope) (s : Step) (x : ℕ) → stepAt longer text scope s x ≡ stepAt book text scope s x
   unfolding stepAt
-  step-still (Step.Character a) x = refl
-  step-still (Step.Word a) x = rw (retains .words) refl
-  step-still Step.Identifier x = rw (free-still (skipFrom text x), stepAt) refl
-  step-still Step.Number x = refl
-  step-still Step.Variable x = rw (variable-still (skipFrom text x), stepAt) refl
-  step-still (Step.VariableOfKind a) x = rw (variable-still (skipFrom text x), stepAt) refl
-  step-still Step.RejectVariable x = rw (variable-still (skipFrom text x), stepAt) refl
-  step-still Step.RejectReserved x = rw (reserved-still (skipFrom text x)) refl
-  step-still (Step.Nonterminal M) x = refl
-  step-still (Step.Optional M) x = refl
-  step-still (Step.Many M) x = refl
-  step-still (Step.CommaList M) x = refl
-  step-still (Step.Delimited M b c) x = refl
-  step-still (Step.OptionalDelimited M b c) x = refl
+  step-still scope (Step.Character a) x = refl
+  step-still scope (Step.Word a) x = rw (retains .words) refl
+  step-still scope Step.Identifier x = rw (free-still (skipFrom text x), stepAt) refl
+  step-still scope Step.Number x = refl
+  step-still scope Step.Variable x = rw (variable-still scope (skipFrom text x), stepAt) refl
+  step-still scope (Step.VariableOfKind a) x = rw (variable-still scope (skipFrom text x), stepAt) refl
+  step-still scope Step.RejectVariable x = rw (variable-still scope (skipFrom text x), stepAt) refl
+  step-still scope Step.RejectReserved x = rw (reserved-still (skipFrom text x)) refl
+  step-still scope (Step.Nonterminal M) x = refl
+  step-still scope (Step.Optional M) x = refl
+  step-still scope (Step.Many M) x = refl
+  step-still scope (Step.CommaList M) x = refl
+  step-still scope (Step.Delimited M b c) x = refl
+  step-still scope (Step.OptionalDelimited M b c) x = refl
 
   -- ---- Derivations
   -- the variant of an attempt is the shorter book's
@@ -91,19 +92,19 @@ module _ (book longer : Book) (text : List ℕ) (retains : Retains book longer) 
         (rw (j, same, retains .steps (variantOf book N i)) (through-still same t))
     derives-still (by-governor e d c) = by-governor e (derives-still d) c
     derives-still (by-identifier {P = P} {N = N} {u = u} e mark free end v) =
-        by-identifier e (rw (retains .marks N) mark) (claimed-still P base u ∙ free) (free-still u ∙ end) v
+        by-identifier e (rw (retains .marks N) mark) (claimed-still P u ∙ free) (free-still u ∙ end) v
 
     through-still : {a : Attempt} {todo : List (Todo Trees)} {x : ℕ} {items : Trees} → Same a →
         Through book text a todo x items → Through longer text a todo x items
     through-still same (done e) = done (rw (sym same) at e)
-    through-still same (by-token e t) = by-token (step-still _ _ ∙ e) (through-still same t)
+    through-still same (by-token e t) = by-token (step-still _ _ _ ∙ e) (through-still same t)
     through-still same (by-child {a = a} e d t) =
-        by-child (step-still _ _ ∙ e) (child-still a same (derives-still d)) (through-still same t)
-    through-still same (by-absent e t) = by-absent (step-still _ _ ∙ e) (through-still same t)
+        by-child (step-still _ _ _ ∙ e) (child-still a same (derives-still d)) (through-still same t)
+    through-still same (by-absent e t) = by-absent (step-still _ _ _ ∙ e) (through-still same t)
     through-still same (by-one {a = a} e d t) =
-        by-one (step-still _ _ ∙ e) (child-still a same (derives-still d)) (through-still same t)
-    through-still same (by-list e t) = by-list (step-still _ _ ∙ e) (through-still same t)
-    through-still same (by-unopened e t) = by-unopened (step-still _ _ ∙ e) (through-still same t)
+        by-one (step-still _ _ _ ∙ e) (child-still a same (derives-still d)) (through-still same t)
+    through-still same (by-list e t) = by-list (step-still _ _ _ ∙ e) (through-still same t)
+    through-still same (by-unopened e t) = by-unopened (step-still _ _ _ ∙ e) (through-still same t)
     through-still same (by-stop t) = by-stop (through-still same t)
     through-still same (by-more {a = a} d e t) = by-more (child-still a same (derives-still d)) e (through-still same t)
     through-still same (by-last {a = a} d e t) = by-last (child-still a same (derives-still d)) e (through-still same t)

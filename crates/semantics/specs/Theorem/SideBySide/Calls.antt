@@ -9,9 +9,7 @@ use Rattle.characters.specs.Cases.{by-test}
 use Rattle.book.specs.Book.{Book, nthVariant}
 use Rattle.semantics.specs.Numbers.{mostRounds, tooManyParses}
 use Rattle.semantics.specs.Values.{Parse}
-use Rattle.semantics.specs.Uses.{base}
-use Rattle.semantics.specs.Tokens.{when, freeEnd, claimed}
-use Rattle.semantics.specs.Steps.{Item}
+use Rattle.semantics.specs.Tokens.{Item, when, freeEnd, claimed}
 use Rattle.semantics.specs.Cells.{Cell}
 use Rattle.semantics.specs.Errors.{Error}
 use Rattle.semantics.specs.Run.{Result, ok, _>>=_, Parsed, parsed, Call, withMine, Runner, allIn, newest, others}
@@ -154,7 +152,7 @@ module _ {book : Book} {text : List ℕ} (L : Laws book text) where
   unfolding runIdentifier named failedCall
   identifier-alike {k} c s =
       rw (L .claims k (c .first) (c .second) (c .start) (c .around) (c .place))
-      (by-test (claimed book text (c .first .path) base (c .start))
+      (by-test (claimed book text (c .first .path) (c .start))
       (λ b. rw b (set-done L s [] _ (good-none (L .Place))))
       (λ b. option-cases (freeEnd book text (c .start))
       (λ missing. rw (b, missing) (set-done L s [] _ (good-none (L .Place))))

@@ -19,7 +19,7 @@ use Rattle.book.specs.Book.{Book}
 use Rattle.book.specs.declared.records.Step.{Step}
 use Rattle.semantics.specs.Numbers.{mostParses, tooDeep, tooManyParses}
 use Rattle.semantics.specs.Values.{Parse}
-use Rattle.semantics.specs.Uses.{Use, Path, base, useOf, minimum, same-start, governor, keeps}
+use Rattle.semantics.specs.Uses.{Use, Path, Scope, scopeOf, within, useOf, minimum, same-start, governor, keeps}
 use Rattle.semantics.specs.Tokens.{freeEnd, claimed}
 use Rattle.semantics.specs.Steps.{Token, Taken, stepAt, goes, halts, afterElement, closed, Todo}
 use Rattle.semantics.specs.Cells.{Cell}
@@ -65,15 +65,15 @@ pub record Context : Type 0 where
 
 -- around a child at v: its parent too, a use of N at u with variant j and this stored set
 abbrev pub inside : Book → ℕ → ℕ → ℕ → ℕ → List (Parse ℕ) → Context → Context
-inside book N u j v mine A = record { path = useOf book N u j v ∷ A .path; stored = mine ∷ A .stored }
+inside book N u j v mine A = record { path = within (useOf book N u j v) ∷ A .path; stored = mine ∷ A .stored }
 
 -- what the governors of a use say in two contexts: the same minimum; or the same stored parses of one call, for which
 -- both ask. Q₁ and Q₂ are what is around the governors, which a run does not look at
 pub data Governed (Place : ℕ → Type 0) (States : State → State → Type 0) (A₁ A₂ : Context) (N u : ℕ) : Type 0 where
-  minimums : (m : ℕ) → governor (A₁ .path) base N u ≡ minimum m → governor (A₂ .path) base N u ≡ minimum m →
+  minimums : (m : ℕ) → governor (A₁ .path) N u ≡ minimum m → governor (A₂ .path) N u ≡ minimum m →
       Governed Place States A₁ A₂ N u
   reentries : (i : ℕ) (f : Use) (Q₁ Q₂ : Path) →
-      governor (A₁ .path) base N u ≡ same-start i f Q₁ → governor (A₂ .path) base N u ≡ same-start i f Q₂ →
+      governor (A₁ .path) N u ≡ same-start i f Q₁ → governor (A₂ .path) N u ≡ same-start i f Q₂ →
       getD (A₂ .stored) i [] ≡ getD (A₁ .stored) i [] → Good Place (getD (A₁ .stored) i []) →
       ((s₁ s₂ : State) → States s₁ s₂ →
       States (withAsked s₁ (ask i (s₁ .asked))) (withAsked s₂ (ask i (s₂ .asked)))) →
@@ -115,21 +115,24 @@ pub record Laws (book : Book) (text : List ℕ) : Type 1 where
   pub newests : (k : ℕ) (s₁ s₂ : State) → States (suc k) s₁ s₂ → newest (s₂ .asked) ≡ newest (s₁ .asked)
   pub closes : (k : ℕ) (s₁ s₂ : State) → States (suc k) s₁ s₂ →
       States k (withAsked s₁ (others (s₁ .asked))) (withAsked s₂ (others (s₂ .asked)))
-  -- what is around: one call more, a use's governor, and its claim
+  -- what is around: one call more, a use's governor, its scope, and its claim
   pub within : (k : ℕ) (A₁ A₂ : Context) (N u j v : ℕ) (mine : List (Parse ℕ)) → Around k A₁ A₂ →
       Place u → Place v → Good Place mine →
       Around (suc k) (inside book N u j v mine A₁) (inside book N u j v mine A₂)
   pub governed : (k : ℕ) (A₁ A₂ : Context) (N u : ℕ) → Around k A₁ A₂ → Place u →
       Governed Place (States k) A₁ A₂ N u
+  pub scopes : (k : ℕ) (A₁ A₂ : Context) → Around k A₁ A₂ → scopeOf (A₂ .path) ≡ scopeOf (A₁ .path)
   pub claims : (k : ℕ) (A₁ A₂ : Context) (u : ℕ) → Around k A₁ A₂ → Place u →
-      claimed book text (A₂ .path) base u ≡ claimed book text (A₁ .path) base u
+      claimed book text (A₂ .path) u ≡ claimed book text (A₁ .path) u
   -- from a place that is followed the text leads to such places
   pub skips : (x : ℕ) → Place x → Place (skipFrom text x)
   pub frees : (x y : ℕ) → Place x → freeEnd book text x ≡ some y → Place y
-  pub takes : (step : Step) (x : ℕ) (t : Token) → Place x → stepAt book text step x ≡ Taken.token t → Place (t .next)
-  pub lists : (step : Step) (x : ℕ) (comma : Bool) (M : ℕ) (close : Option ℕ) (y : ℕ) → Place x →
-      stepAt book text step x ≡ Taken.list comma M close y → Place y
-  pub unopens : (step : Step) (x y : ℕ) → Place x → stepAt book text step x ≡ Taken.unopened y → Place y
+  pub takes : (scope : Scope) (step : Step) (x : ℕ) (t : Token) → Place x →
+      stepAt book text scope step x ≡ Taken.token t → Place (t .next)
+  pub lists : (scope : Scope) (step : Step) (x : ℕ) (comma : Bool) (M : ℕ) (close : Option ℕ) (y : ℕ) → Place x →
+      stepAt book text scope step x ≡ Taken.list comma M close y → Place y
+  pub unopens : (scope : Scope) (step : Step) (x y : ℕ) → Place x →
+      stepAt book text scope step x ≡ Taken.unopened y → Place y
   pub goes-on : (comma : Bool) (x y : ℕ) → Place x → afterElement text comma x ≡ goes y → Place y
   pub halts-at : (comma : Bool) (x y : ℕ) → Place x → afterElement text comma x ≡ halts y → Place y
   pub closes-at : (close : Option ℕ) (x y : ℕ) → Place x → closed text close x ≡ some y → Place y

@@ -1,5 +1,6 @@
 -- Two runs side by side: what follows a parse, one level of nesting with the steps of a variant, and so the runners.
 -- A level is alike if the level inside it is; the whole is by the levels of nesting.
+use mathlib.Core.Path.{_≡_}
 use mathlib.Core.Bool.{Bool}
 use mathlib.Core.List.{List, [], _∷_}
 use mathlib.Core.Option.{Option, none, some}
@@ -13,7 +14,7 @@ use Rattle.book.specs.Book.{Book, stepNumber}
 use Rattle.book.specs.declared.records.Step.{Step}
 use Rattle.semantics.specs.Numbers.{tooDeep}
 use Rattle.semantics.specs.Values.{Parse}
-use Rattle.semantics.specs.Uses.{hasMark}
+use Rattle.semantics.specs.Uses.{scopeOf, hasMark}
 use Rattle.semantics.specs.Steps.{stepAt, afterElement, closed, Todo, taking, elements, ending}
 use Rattle.semantics.specs.Cells.{Cell}
 use Rattle.semantics.specs.Errors.{Error}
@@ -196,18 +197,21 @@ module _ {book : Book} {text : List ℕ} (L : Laws book text) where
       taking-alike : (step : Step) (rest : List (Todo ℕ)) → StepsAlike rest → StepsAlike (taking step ∷ rest)
       unfolding steps
       taking-alike step rest h x items set s place good =
+          let same : scopeOf (secondCall L c .path) ≡ scopeOf (firstCall L c .path) =
+          L .scopes k (c .first) (c .second) (c .around) in
           state-then L s _ _ (step-unit-alike step s) (λ t.
-          taken-cases (stepAt book text step x)
-          (λ is. rw is (set-done L t set _ good))
-          (λ a is. rw is (cell-then L t _ _ (with-token-alike L j items (a .item) t)
-          (λ n r. h (a .next) n set r (L .takes step x a place is) good)))
-          (λ M is. rw is (set-then L t _ _ (enter-child-alike c j M x t place)
+          let scope = scopeOf (firstCall L c .path) in
+          taken-cases (stepAt book text scope step x)
+          (λ is. rw (same, is, same) (set-done L t set _ good))
+          (λ a is. rw (same, is) (cell-then L t _ _ (with-token-alike L j items (a .item) t)
+          (λ n r. h (a .next) n set r (L .takes scope step x a place is) good)))
+          (λ M is. rw (same, is) (set-then L t _ _ (enter-child-alike c j M x t place)
           (λ found e r good-r. followed-alike _ _ (plain-next-alike c j rest items) set found e r good good-r)))
-          (λ M is. rw is (or-absent-alike M rest _ _ h x items set t place good))
-          (λ comma M close y is. rw is
-          (listing-alike comma M close rest _ _ h y items set t (L .lists step x comma M close y place is) good))
-          (λ y is. rw is (cell-then L t _ _ (make-alike L t Cell.empty)
-          (λ e r. stops-alike j e none _ _ h y items set r (L .unopens step x y place is) good))))
+          (λ M is. rw (same, is) (or-absent-alike M rest _ _ h x items set t place good))
+          (λ comma M close y is. rw (same, is)
+          (listing-alike comma M close rest _ _ h y items set t (L .lists scope step x comma M close y place is) good))
+          (λ y is. rw (same, is) (cell-then L t _ _ (make-alike L t Cell.empty)
+          (λ e r. stops-alike j e none _ _ h y items set r (L .unopens scope step x y place is) good))))
 
       todo-alike : (todo : List (Todo ℕ)) → StepsAlike todo
       unfolding steps
