@@ -1,6 +1,7 @@
 -- Document 01, "The book": what a book holds, section by section.
-use mathlib.Core.Bool.{Bool, false, cond, _&&_, _||_}
+use mathlib.Core.Bool.{Bool, true, false, cond, _&&_, _||_}
 use mathlib.Core.List.{List, [], _∷_}
+use mathlib.Core.Option.{Option, none, some}
 use Prim.Native.Nat.{ℕ, suc}
 use lib.Dec.{eqb}
 use lib.ListN.{getD}
@@ -60,6 +61,12 @@ lookupFrom found i (n ∷ ns) spelling =
 
 abbrev pub lookupName : List Entry → List ℕ → Found
 lookupName names spelling = lookupFrom Found.Nothing 0 names spelling
+
+-- "the word whose number is its kind, .. (the least if alike)", among words numbered from i
+unfoldable pub leastWord : ℕ → List Entry → List ℕ → Option ℕ
+leastWord i [] spelling = none
+leastWord i (w ∷ ws) spelling =
+    elim (same spelling (w .spelling)) [ true ↦ some i | false ↦ leastWord (suc i) ws spelling ]
 
 -- ---- Numbers of document 01
 -- "Mark 0 plain; 1 calls `try_claim_as_var` first; 2 is `identifier_nonterminal`"

@@ -1,22 +1,22 @@
 -- Document 01, "Derivations": what a text's derivations are. Nothing here speaks of a run.
 use mathlib.Core.Path.{_≡_}
 use mathlib.Core.Bool.{true, false, cond}
-use mathlib.Core.List.{List, [], _∷_}
+use mathlib.Core.List.{List, [], _∷_, _++_}
 use mathlib.Core.Option.{Option, none, some}
 use Prim.Native.Nat.{ℕ, _+_, _<_}
 use lib.Dec.{leb}
 use Rattle.characters.specs.Skipping.{skipFrom}
 use Rattle.characters.specs.Spelling.{partOf}
-use Rattle.book.specs.Book.{Book, nthNonterminal, nthVariant}
+use Rattle.book.specs.Book.{Entry, Book, nthNonterminal, nthVariant}
 use Rattle.book.specs.declared.records.Associativity.{Associativity}
 use Rattle.book.specs.declared.records.Step.{Step}
 use Rattle.book.specs.Numbers.{defaultLevel}
 use Rattle.semantics.specs.Values.{Tree, Trees, no-trees, _▸_, variant, name, number, variable, declared}
 use Rattle.semantics.specs.Values.{absent, list, Parse}
-use Rattle.semantics.specs.Uses.{Path, scopeOf, within, useOf, hasMark, minimum, same-start, governor, keeps}
-use Rattle.semantics.specs.Tokens.{Item, freeEnd, spelled, claimed}
+use Rattle.semantics.specs.Uses.{Path, scopeOf, within, behind, useOf, hasMark, minimum, same-start, governor, keeps}
+use Rattle.semantics.specs.Tokens.{Item, Read, characterEnd, freeEnd, spelled, claimed, declarationAt}
 use Rattle.semantics.specs.Steps.{Taken, stepAt, goes, halts, afterElement, closed, Todo, taking, elements}
-use Rattle.semantics.specs.Steps.{ending, todoOf}
+use Rattle.semantics.specs.Steps.{ending, naming, closing, todoOf}
 
 -- the last item; a passing variant has just one
 unfoldable pub lastOf : Trees → Tree
@@ -94,7 +94,8 @@ module _ (book : Book) (text : List ℕ) where
           p ≡ identifierParse text u end → Derives P N u p
 
     -- an attempt, with this left to do at a place, after these items, comes to its parse. "Kinds 2 to 5 and 8 to 13 add
-    -- one item, others none"
+    -- one item, others none"; of kind 14 "Its items are the kinds as a list of numbers, absent without the opening, and
+    -- the body"
     pub data Through : Attempt → List (Todo Trees) → ℕ → Trees → Type 0 where
       done : {a : Attempt} {x items : _} → a .parse ≡ parseOf book (a .variant) x items → Through a [] x items
       by-token : {a s t rest x items : _} → takes a s x ≡ Taken.token t →
@@ -128,6 +129,28 @@ module _ (book : Book) (text : List ℕ) where
           Through a (elements comma M values close ∷ rest) x items
       by-ending : {a values close y rest x items : _} → closed text close x ≡ some y →
           Through a rest y (items ▸ list values) → Through a (ending values close ∷ rest) x items
+      by-names : {a s close M y rest x items : _} → takes a s x ≡ Taken.names close M y →
+          Through a (naming [] no-trees close M ∷ rest) y items → Through a (taking s ∷ rest) x items
+      by-body : {a s M q rest x items : _} → takes a s x ≡ Taken.body M →
+          Derives (inside book a (skipFrom text x)) M (skipFrom text x) q →
+          Through a rest (q .rest) (items ▸ absent ▸ q .value) → Through a (taking s ∷ rest) x items
+      -- "a comma list of names": it may stop; after one more it goes on, or, without a comma, it halts
+      by-no-name : {a names kinds close M rest x items : _} →
+          Through a (closing names kinds close M ∷ rest) x items →
+          Through a (naming names kinds close M ∷ rest) x items
+      by-name : {a names kinds close M d y rest x items : _} →
+          declarationAt book text (skipFrom text x) ≡ some d → afterElement text true (d .end) ≡ goes y →
+          Through a (naming (names ++ (d .value ∷ [])) (kinds ▸ number (d .value .label)) close M ∷ rest) y items →
+          Through a (naming names kinds close M ∷ rest) x items
+      by-last-name : {a names kinds close M d y rest x items : _} →
+          declarationAt book text (skipFrom text x) ≡ some d → afterElement text true (d .end) ≡ halts y →
+          Through a (closing (names ++ (d .value ∷ [])) (kinds ▸ number (d .value .label)) close M ∷ rest) y items →
+          Through a (naming names kinds close M ∷ rest) x items
+      -- "The body is read in a new scope"
+      by-opening : {a names kinds close M q y rest x items : _} → characterEnd text close x ≡ some y →
+          Derives (behind names ∷ inside book a (skipFrom text y)) M (skipFrom text y) q →
+          Through a rest (q .rest) (items ▸ list kinds ▸ q .value) →
+          Through a (closing names kinds close M ∷ rest) x items
 
   -- "A text's derivations are the start's from place 0, with an empty path, by finitely many of these rules"; a use
   -- begins at a skipped place

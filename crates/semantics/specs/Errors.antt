@@ -5,15 +5,16 @@ use mathlib.Core.Option.{Option, none, some}
 use Prim.Native.Nat.{ℕ}
 use lib.Dec.{leb, ltb, eqb}
 use lib.ListN.{length}
+use Rattle.characters.specs.Skipping.{skipFrom}
 use Rattle.characters.specs.Lexemes.{numberAt}
 use Rattle.characters.specs.declared.lexemes.Number.{Number}
 use Rattle.book.specs.Book.{Book}
 use Rattle.book.specs.declared.records.Step.{Step}
 use Rattle.semantics.specs.Numbers.{characterWanted, wordWanted, identifierWanted, textEnded, variableFound}
 use Rattle.semantics.specs.Numbers.{reservedFound, unknownName, wrongKind, digitsWanted, tooLarge}
-use Rattle.semantics.specs.Numbers.{nonterminalWanted, moreWanted}
+use Rattle.semantics.specs.Numbers.{nonterminalWanted, moreWanted, declaredName}
 use Rattle.semantics.specs.Uses.{Scope}
-use Rattle.semantics.specs.Tokens.{identifierEnd, reservedAt, variableAt, isSome, when}
+use Rattle.semantics.specs.Tokens.{identifierEnd, reservedAt, variableAt, kindAt, isSome, when}
 
 pub record Error : Type 0 where
   pub place : ℕ
@@ -63,6 +64,15 @@ module _ (book : Book) (text : List ℕ) where
       when (eqb at (length text)) (λ _. error at textEnded 0)
       (λ _. when (reservedAt book text at) (λ _. error at reservedFound 0)
       (λ _. elim (identifierEnd text at) [ some end ↦ other | none ↦ error at identifierWanted 0 ]))
+
+  -- a declared name was wanted: "its error 11 has argument 32"; behind the word of its kind an identifier, as in kind 2
+  unfoldable pub declarationError : ℕ → Error
+  declarationError at =
+      elim (kindAt book text at) [
+        | some k ↦
+            let after = skipFrom text (k .end) in identifierError after (error after identifierWanted 0)
+        | none ↦ error at nonterminalWanted declaredName
+      ]
 
   -- at a skipped place. Kinds 8 to 11 and 13 always take something and are never asked for
   unfoldable pub stepError : Scope → Step → ℕ → Error

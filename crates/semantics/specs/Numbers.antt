@@ -1,7 +1,8 @@
 -- Document 01's numbers, each by a name: sizes and limits, refusals, kinds of errors, forms of cells. Those of the
 -- book, with its refusals 3 to 8 and refusal 1, are the crate book's.
-use mathlib.Core.Bool.{Bool}
+use mathlib.Core.Bool.{Bool, _||_}
 use Prim.Native.Nat.{ℕ, _^_}
+use lib.Dec.{eqb}
 use Rattle.characters.specs.Classes.{between}
 use Rattle.book.specs.Numbers.{shortLists}
 
@@ -45,6 +46,14 @@ mostParses = 64
 -- each run of a call but the last adds a parse to its set, so that after this many there is none left to add
 abbrev pub mostRounds : ℕ
 mostRounds = 65
+
+-- "a 65th declared name would be open"
+abbrev pub mostDeclared : ℕ
+mostDeclared = 64
+
+-- "the word whose number is its kind, 0 to 7"
+abbrev pub kindWords : ℕ
+kindWords = 8
 
 -- "a 4,097th cell"
 abbrev pub mostCells : ℕ
@@ -99,13 +108,17 @@ noneWhole = 31
 abbrev pub differentValues : ℕ
 differentValues = 32
 
+-- document 02 d: "a 65th declared name would be open"
+abbrev pub tooManyNames : ℕ
+tooManyNames = 41
+
 -- "1 to 11 (not accepted)"
 abbrev pub notAccepted : ℕ → Bool
 notAccepted refusal = between shortLists highByte refusal
 
--- "limit met (20 to 23)"
+-- "limit met (20 to 23)"; 41, "a further limit of the run, counted in demands 2 and 3 with document 01's"
 abbrev pub isLimit : ℕ → Bool
-isLimit refusal = between noUnit tooManyCells refusal
+isLimit refusal = between noUnit tooManyCells refusal || eqb refusal tooManyNames
 
 -- ---- Kinds of errors
 -- "1 character (its code)"
@@ -151,6 +164,10 @@ tooLarge = 10
 -- "11 nonterminal wanted (number)"
 abbrev pub nonterminalWanted : ℕ
 nonterminalWanted = 11
+
+-- of a declared name, "its error 11 has argument 32": no nonterminal has this number
+abbrev pub declaredName : ℕ
+declaredName = 32
 
 -- "12 more wanted (the variant's nonterminal)"
 abbrev pub moreWanted : ℕ

@@ -6,25 +6,27 @@
 use mathlib.Core.Bool.{Bool, true, false, cond, _&&_}
 use mathlib.Core.List.{List, [], _∷_, _++_}
 use mathlib.Core.Option.{Option, none, some}
-use Prim.Native.Nat.{ℕ, zero, suc, _-_, _/_, _%_}
+use Prim.Native.Nat.{ℕ, zero, suc, _+_, _-_, _/_, _%_}
 use lib.Dec.{leb, ltb, eqb}
 use lib.ListN.{length, getD}
 use Rattle.characters.specs.Classes.{between}
 use Rattle.characters.specs.Skipping.{skipFrom}
-use Rattle.book.specs.Book.{Book, nthNonterminal, nthVariant, associativityNumber, stepNumber}
+use Rattle.book.specs.Book.{Entry, Book, nthNonterminal, nthVariant, associativityNumber, stepNumber}
 use Rattle.book.specs.declared.records.Associativity.{Associativity}
 use Rattle.book.specs.declared.records.Step.{Step}
 use Rattle.book.specs.Numbers.{defaultLevel}
-use Rattle.semantics.specs.Numbers.{mostNesting, mostParses, mostRounds, mostCells, half}
-use Rattle.semantics.specs.Numbers.{noUnit, tooDeep, tooManyParses, tooManyCells, characterWanted}
-use Rattle.semantics.specs.Numbers.{nonterminalWanted}
+use Rattle.semantics.specs.Numbers.{mostNesting, mostParses, mostRounds, mostCells, mostDeclared, half}
+use Rattle.semantics.specs.Numbers.{noUnit, tooDeep, tooManyParses, tooManyCells, tooManyNames}
+use Rattle.semantics.specs.Numbers.{characterWanted, nonterminalWanted}
 use Rattle.semantics.specs.Values.{Parse}
-use Rattle.semantics.specs.Uses.{Use, Path, scopeOf, within, useOf, hasMark, minimum, same-start, governor, keeps}
-use Rattle.semantics.specs.Tokens.{Item, when, freeEnd, claimed}
+use Rattle.semantics.specs.Uses.{Use, useOf, hasMark, within, Path, behindAny, Scope, scopeOf, minimum}
+use Rattle.semantics.specs.Uses.{same-start, governor, keeps}
+use Rattle.semantics.specs.Tokens.{Item, Read, when, characterEnd, freeEnd, claimed, declarationAt}
 use Rattle.semantics.specs.Steps.{Taken, stepAt, goes, halts, afterElement, closed, Todo, taking, elements}
-use Rattle.semantics.specs.Steps.{ending, todoOf}
+use Rattle.semantics.specs.Steps.{ending, naming, closing, todoOf}
 use Rattle.semantics.specs.Cells.{Cell, findCell}
 use Rattle.semantics.specs.Errors.{Error, error, join, joinWith, beyond, choiceError, stepError}
+use Rattle.semantics.specs.Errors.{declarationError}
 
 -- a limit met, with its number and the units left; or a result
 pub data Result (A : Type 0) : Type 0 where
@@ -165,6 +167,18 @@ itemCell (Item.name place size) = Cell.name place size
 itemCell (Item.number n) = Cell.number (n / half) (n % half)
 itemCell (Item.variable i kind) = Cell.variable i kind
 itemCell (Item.declared depth index) = Cell.declared depth index
+
+-- ---- Scopes
+-- the names that are declared in a scope
+unfoldable pub declaredNames : Scope → ℕ
+declaredNames [] = 0
+declaredNames (binder ∷ scope) = length binder + declaredNames scope
+
+-- "when a body's scope opens, .. and a 65th declared name would be open"; without an opening no scope opens
+unfoldable pub openScope : Option (List Entry) → Scope → State → Result State
+openScope none scope s = ok s
+openScope (some names) scope s =
+    when (leb (declaredNames (names ∷ scope)) mostDeclared) (λ _. ok s) (λ _. met tooManyNames (s .units))
 
 -- ---- Errors
 -- "With none, a call gives 11 at its start"
@@ -328,11 +342,12 @@ module _ (book : Book) (text : List ℕ) (inner : Option Runner) where
     ]
 
   -- ---- "a variant runs its steps; a step calls a nonterminal again"
-  -- the call of a child at a place
-  unfoldable pub enterChild : Call → ℕ → ℕ → ℕ → State → Result Parsed
-  enterChild c j M x s =
+  -- the call of a child at a place, behind an opening that was read or behind none
+  unfoldable pub enterChild : Option (List Entry) → Call → ℕ → ℕ → ℕ → State → Result Parsed
+  enterChild opening c j M x s =
       let at = skipFrom text x in
-      enter (within (useOf book (c .nonterminal) (c .start) j at) ∷ c .path) (c .mine ∷ c .stored) M at s
+      enter (behindAny opening (within (useOf book (c .nonterminal) (c .start) j at) ∷ c .path)) (c .mine ∷ c .stored)
+      M at s
 
   -- what follows each parse of a child, one level further in; of the errors so far, if all failed, one is handed on
   unfoldable pub followMore : Next → List (Parse ℕ) → List (Parse ℕ) → Option Error → State → Result Parsed
@@ -362,7 +377,7 @@ module _ (book : Book) (text : List ℕ) (inner : Option Runner) where
     absent ← make text Cell.absent s
     m ← withCell book text j items (absent .cell) (absent .state)
     a ← go x (m .cell) set (m .state)
-    r ← enterChild c j M x (a .state)
+    r ← enterChild none c j M x (a .state)
     b ← followed (plainNext book text c j rest items) (a .set) r
     ok (chosen c (skipFrom text x) (a .failure) b)
 
@@ -371,7 +386,7 @@ module _ (book : Book) (text : List ℕ) (inner : Option Runner) where
   choice c j comma M values close rest go x items set s₀ = do
     s ← spend s₀
     a ← stops book text j values close go x items set s
-    r ← enterChild c j M x (a .state)
+    r ← enterChild none c j M x (a .state)
     b ← followed (listNext book text c j comma M values close rest items) (a .set) r
     ok (chosen c (skipFrom text x) (a .failure) b)
 
@@ -380,22 +395,70 @@ module _ (book : Book) (text : List ℕ) (inner : Option Runner) where
   listing c j comma M close rest go x items set s =
       make text Cell.empty s >>= (λ e. choice c j comma M (e .cell) close rest go x items set (e .state))
 
+  -- ---- Binders
+  -- the item in front of a body, then the body, behind its opening or behind none
+  unfoldable pub bodyAfter : Option (List Entry) → Call → ℕ → ℕ → ℕ → List (Todo ℕ) → Go
+  bodyAfter opening c j M item rest x items set s₀ = do
+    m ← withCell book text j items item s₀
+    s ← openScope opening (scopeOf (c .path)) (m .state)
+    r ← enterChild opening c j M x s
+    followed (plainNext book text c j rest (m .cell)) set r
+
+  -- the names stop: the cell of their kinds, then the closing, then the body behind the opening
+  unfoldable pub opens : Call → ℕ → List Entry → ℕ → ℕ → ℕ → List (Todo ℕ) → Go
+  opens c j names kinds close M rest x items set s = do
+    l ← make text (Cell.list kinds) s
+    elim (characterEnd text close x) [
+      | none ↦ ok (parsed set (some (error (skipFrom text x) characterWanted close)) (l .state))
+      | some y ↦ bodyAfter (some names) c j M (l .cell) rest y items set (l .state)
+    ]
+
+  -- a declared name and what follows it, both one level further in: "Reading one counts as a call of a committed variant
+  -- without counted steps (..; its kind's cell is made last)"
+  unfoldable pub declares : Call → ℕ → List Entry → ℕ → ℕ → ℕ → List (Todo ℕ) → Go
+  declares c j names kinds close M rest x items set s₀ = do
+    s ← spend s₀
+    nested s (λ run. elim (declarationAt book text (skipFrom text x)) [
+      | none ↦ ok (parsed set (some (declarationError book text (skipFrom text x))) s)
+      | some d ↦ do
+        k ← make text (Cell.number 0 (d .value .label)) s
+        m ← make text (Cell.chain kinds (k .cell)) (k .state)
+        elim (afterElement text true (d .end)) [
+          | goes y ↦ run c j (naming (names ++ (d .value ∷ [])) (m .cell) close M ∷ rest) y items set (m .state)
+          | halts y ↦ run c j (closing (names ++ (d .value ∷ [])) (m .cell) close M ∷ rest) y items set (m .state)
+        ]
+    ])
+
+  -- "a comma list of names": stop comes before one more
+  unfoldable pub nameChoice : Call → ℕ → List Entry → ℕ → ℕ → ℕ → List (Todo ℕ) → Go
+  nameChoice c j names kinds close M rest x items set s₀ = do
+    s ← spend s₀
+    a ← opens c j names kinds close M rest x items set s
+    b ← declares c j names kinds close M rest x items (a .set) (a .state)
+    ok (chosen c (skipFrom text x) (a .failure) b)
+
   unfoldable pub steps : Runner
   steps c j [] x items set s = complete book text j x items set s
   steps c j (elements comma M values close ∷ rest) x items set s =
       choice c j comma M values close rest (steps c j rest) x items set s
   steps c j (ending values close ∷ rest) x items set s = stops book text j values close (steps c j rest) x items set s
+  steps c j (naming names kinds close M ∷ rest) x items set s =
+      nameChoice c j names kinds close M rest x items set s
+  steps c j (closing names kinds close M ∷ rest) x items set s = opens c j names kinds close M rest x items set s
   steps c j (taking step ∷ rest) x items set s₀ = do
     s ← stepUnit step s₀
     elim (stepAt book text (scopeOf (c .path)) step x) [
       | Taken.nothing ↦ ok (parsed set (some (stepError book text (scopeOf (c .path)) step (skipFrom text x))) s)
       | Taken.token t ↦
           withToken book text j items (t .item) s >>= (λ m. steps c j rest (t .next) (m .cell) set (m .state))
-      | Taken.child M ↦ enterChild c j M x s >>= (λ r. followed (plainNext book text c j rest items) set r)
+      | Taken.child M ↦ enterChild none c j M x s >>= (λ r. followed (plainNext book text c j rest items) set r)
       | Taken.optional M ↦ orAbsent c j M rest (steps c j rest) x items set s
       | Taken.list comma M close y ↦ listing c j comma M close rest (steps c j rest) y items set s
       | Taken.unopened y ↦
           make text Cell.empty s >>= (λ e. stops book text j (e .cell) none (steps c j rest) y items set (e .state))
+      | Taken.names close M y ↦
+          make text Cell.empty s >>= (λ e. nameChoice c j [] (e .cell) close M rest y items set (e .state))
+      | Taken.body M ↦ make text Cell.absent s >>= (λ a. bodyAfter none c j M (a .cell) rest x items set (a .state))
     ]
 
 module _ (book : Book) (text : List ℕ) where

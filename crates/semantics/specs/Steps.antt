@@ -10,7 +10,7 @@ use Rattle.characters.specs.Skipping.{skipFrom}
 use Rattle.characters.specs.Spelling.{same}
 use Rattle.characters.specs.Lexemes.{numberAt}
 use Rattle.characters.specs.declared.lexemes.Number.{Number}
-use Rattle.book.specs.Book.{Book, nthEntry}
+use Rattle.book.specs.Book.{Entry, Book, nthEntry}
 use Rattle.book.specs.declared.records.Step.{Step}
 use Rattle.book.specs.declared.records.Variant.{Variant}
 use Rattle.semantics.specs.Uses.{Scope}
@@ -32,6 +32,10 @@ pub data Taken : Type 0 where
   list : Bool → ℕ → Option ℕ → ℕ → Taken
   -- kind 13 without its opening: the empty list, at a place
   unopened : ℕ → Taken
+  -- kind 14: names begin, up to a closing, for a body of a nonterminal, at a place; without the opening, "the body
+  -- alone"
+  names : ℕ → ℕ → ℕ → Taken
+  body : ℕ → Taken
   -- no such token, or no opening of kind 12
   nothing : Taken
 
@@ -102,11 +106,13 @@ module _ (text : List ℕ) where
 
 -- ---- What is left to do
 -- a step; the elements of a list, with or without commas, of a nonterminal, after those already read, up to a
--- closing; or the end of such a list
+-- closing; or the end of such a list; the names of a binder, after those already read, with the values of their kinds,
+-- up to a closing and then for a body of a nonterminal; or the end of such names
 pub data Todo (Values : Type 0) : Type 0 where
   taking : Step → Todo Values
   elements : Bool → ℕ → Values → Option ℕ → Todo Values
   ending : Values → Option ℕ → Todo Values
+  naming closing : List Entry → Values → ℕ → ℕ → Todo Values
 
 -- the steps of a variant
 abbrev pub stepsOf : Book → Variant → List Step

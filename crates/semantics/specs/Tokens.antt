@@ -5,13 +5,14 @@ use mathlib.Core.List.{List, [], _∷_}
 use mathlib.Core.Option.{Option, none, some}
 use Prim.Native.Nat.{ℕ, suc, _+_, _-_}
 use lib.Dec.{ltb, eqb}
-use lib.ListN.{length, getD}
+use lib.ListN.{length, getD, take}
 use Rattle.characters.specs.Skipping.{skipFrom}
 use Rattle.characters.specs.Spelling.{partOf}
 use Rattle.characters.specs.Lexemes.{identifierAt}
 use Rattle.characters.specs.declared.lexemes.Identifier.{Identifier}
-use Rattle.book.specs.Book.{Entry, Book, isReserved, lookupName}
+use Rattle.book.specs.Book.{Entry, Book, isReserved, lookupName, leastWord}
 use Rattle.book.specs.declared.names.Found.{Found}
+use Rattle.semantics.specs.Numbers.{kindWords}
 use Rattle.semantics.specs.Uses.{within, behind, Path, Scope, scopeOf, hasMark}
 
 -- a branch waits for its test
@@ -101,3 +102,27 @@ module _ (book : Book) (text : List ℕ) where
   -- "unless an enclosing mark-1 use at the same place and scope could read a variable there"
   abbrev pub claimed : Path → ℕ → Bool
   claimed path u = isSome (variableAt (scopeOf path) u) && hasClaimant path u
+
+  -- ---- Declared names. "A declared name is the word whose number is its kind, 0 to 7 (the least if alike), then an
+  -- identifier"
+  -- the kind's word at a place, reserved or not
+  unfoldable pub kindAt : ℕ → Option (Read ℕ)
+  kindAt at =
+      elim (identifierEnd text at) [
+        | some end ↦ elim (leastWord 0 (take kindWords (book .words)) (spelled text at end)) [
+          | some kind ↦ some (record { end = end; value = kind })
+          | none ↦ none
+        ]
+        | none ↦ none
+      ]
+
+  -- a name of a kind, at a place
+  unfoldable pub nameOfKind : ℕ → ℕ → Option (Read Entry)
+  nameOfKind kind at =
+      elim (freeEnd at) [
+        | some end ↦ some (record { end = end; value = record { label = kind; spelling = spelled text at end } })
+        | none ↦ none
+      ]
+
+  unfoldable pub declarationAt : ℕ → Option (Read Entry)
+  declarationAt at = elim (kindAt at) [ some k ↦ nameOfKind (k .value) (skipFrom text (k .end)) | none ↦ none ]

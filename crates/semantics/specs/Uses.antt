@@ -1,6 +1,7 @@
 -- Document 01, "Derivations": uses, paths and governors.
 use mathlib.Core.Bool.{Bool, true, false, _&&_}
 use mathlib.Core.List.{List, [], _∷_}
+use mathlib.Core.Option.{Option, none, some}
 use Prim.Native.Nat.{ℕ, zero, suc}
 use lib.Dec.{leb, ltb, eqb}
 use Rattle.book.specs.Book.{Entry, Book, nthNonterminal, nthVariant, markNumber}
@@ -34,6 +35,11 @@ pub data Enclosing : Type 0 where
 -- "Its path lists the enclosing uses", the nearest first, and among them the openings that were read
 abbrev pub Path : Type 0
 Path = List Enclosing
+
+-- the path of a body: behind its opening, or, without one, as it is
+abbrev pub behindAny : Option (List Entry) → Path → Path
+behindAny none path = path
+behindAny (some names) path = behind names ∷ path
 
 -- The scope of a use: the names declared in the openings around it, the innermost binder first
 abbrev pub Scope : Type 0

@@ -128,6 +128,8 @@ module _ (book : Book) (text : List ℕ) where
   TakenOn x (Taken.optional M) = Unit {0}
   TakenOn x (Taken.list comma M close y) = x ≤ y
   TakenOn x (Taken.unopened y) = x ≤ y
+  TakenOn x (Taken.names close M y) = x ≤ y
+  TakenOn x (Taken.body M) = Unit {0}
   TakenOn x Taken.nothing = Unit {0}
 
   module _ (scope : Scope) (x : ℕ) where

@@ -70,13 +70,16 @@ after-cases (halts y) f g = g y refl
 pub taken-cases : {X : Type 0} (k : Taken) → (k ≡ Taken.nothing → X) → ((t : Token) → k ≡ Taken.token t → X) →
     ((M : ℕ) → k ≡ Taken.child M → X) → ((M : ℕ) → k ≡ Taken.optional M → X) →
     ((comma : Bool) (M : ℕ) (close : Option ℕ) (y : ℕ) → k ≡ Taken.list comma M close y → X) →
-    ((y : ℕ) → k ≡ Taken.unopened y → X) → X
-taken-cases Taken.nothing n t c o l u = n refl
-taken-cases (Taken.token a) n t c o l u = t a refl
-taken-cases (Taken.child M) n t c o l u = c M refl
-taken-cases (Taken.optional M) n t c o l u = o M refl
-taken-cases (Taken.list comma M close y) n t c o l u = l comma M close y refl
-taken-cases (Taken.unopened y) n t c o l u = u y refl
+    ((y : ℕ) → k ≡ Taken.unopened y → X) → ((close M y : ℕ) → k ≡ Taken.names close M y → X) →
+    ((M : ℕ) → k ≡ Taken.body M → X) → X
+taken-cases Taken.nothing n t c o l u m b = n refl
+taken-cases (Taken.token a) n t c o l u m b = t a refl
+taken-cases (Taken.child M) n t c o l u m b = c M refl
+taken-cases (Taken.optional M) n t c o l u m b = o M refl
+taken-cases (Taken.list comma M close y) n t c o l u m b = l comma M close y refl
+taken-cases (Taken.unopened y) n t c o l u m b = u y refl
+taken-cases (Taken.names close M y) n t c o l u m b = m close M y refl
+taken-cases (Taken.body M) n t c o l u m b = b M refl
 
 -- ---- Parts of the run
 -- what is nested ran one level further in

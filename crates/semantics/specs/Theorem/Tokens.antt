@@ -60,6 +60,8 @@ TakenFits text (Taken.child M) = Unit {0}
 TakenFits text (Taken.optional M) = Unit {0}
 TakenFits text (Taken.list comma M close y) = Unit {0}
 TakenFits text (Taken.unopened y) = Unit {0}
+TakenFits text (Taken.names close M y) = Unit {0}
+TakenFits text (Taken.body M) = Unit {0}
 TakenFits text Taken.nothing = Unit {0}
 
 -- a variable fits: it is a starting name or a declared one
