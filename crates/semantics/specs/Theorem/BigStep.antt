@@ -2,18 +2,18 @@
 -- It knows nothing of work, nesting, cells and errors.
 use mathlib.Core.Path.{_≡_}
 use mathlib.Core.Bool.{Bool, true, false, cond}
-use mathlib.Core.List.{List, [], _∷_}
+use mathlib.Core.List.{List, [], _∷_, _++_}
 use mathlib.Core.Option.{Option, none, some}
 use Prim.Native.Nat.{ℕ, zero, suc}
 use lib.Dec.{leb}
 use Rattle.characters.specs.Skipping.{skipFrom}
-use Rattle.book.specs.Book.{Book, nthNonterminal, nthVariant}
+use Rattle.book.specs.Book.{Entry, Book, nthNonterminal, nthVariant}
 use Rattle.book.specs.declared.records.Step.{Step}
-use Rattle.semantics.specs.Values.{Tree, Trees, no-trees, _▸_, absent, list, Parse}
-use Rattle.semantics.specs.Uses.{Use, Path, scopeOf, within, useOf, hasMark, minimum, same-start, governor, keeps}
-use Rattle.semantics.specs.Tokens.{freeEnd, claimed}
+use Rattle.semantics.specs.Values.{Tree, Trees, no-trees, _▸_, number, absent, list, Parse}
+use Rattle.semantics.specs.Uses.{Use, Path, scopeOf, within, behind, useOf, hasMark, minimum, same-start, governor, keeps}
+use Rattle.semantics.specs.Tokens.{Read, characterEnd, freeEnd, claimed, declarationAt}
 use Rattle.semantics.specs.Steps.{Token, Taken, stepAt, After, goes, halts, afterElement, closed, Todo, taking}
-use Rattle.semantics.specs.Steps.{elements, ending, todoOf}
+use Rattle.semantics.specs.Steps.{elements, ending, naming, closing, todoOf}
 use Rattle.semantics.specs.Derivations.{parseOf, identifierParse, withItem}
 use Rattle.semantics.specs.Run.{ask, newest, others}
 use Rattle.semantics.specs.Theorem.Lists.{_∈_, sift, nth, Joins}
@@ -56,6 +56,19 @@ module _ (book : Book) (text : List ℕ) where
       record { todo = elements comma M (values ▸ v) close ∷ rest; place = y; items = items }
   onward (halts y) v comma M values close rest items =
       record { todo = ending (values ▸ v) close ∷ rest; place = y; items = items }
+
+  -- after a declared name
+  abbrev pub withName : After → Entry → List Entry → Trees → ℕ → ℕ → List (Todo Trees) → Trees → Left
+  withName (goes y) n names kinds close M rest items = record {
+    todo = naming (names ++ (n ∷ [])) (kinds ▸ number (n .label)) close M ∷ rest;
+    place = y;
+    items = items;
+  }
+  withName (halts y) n names kinds close M rest items = record {
+    todo = closing (names ++ (n ∷ [])) (kinds ▸ number (n .label)) close M ∷ rest;
+    place = y;
+    items = items;
+  }
 
   abbrev pub resume : Follows → Parse Tree → Left
   resume (plain rest items) q = record { todo = rest; place = q .rest; items = items ▸ q .value }
@@ -154,6 +167,34 @@ module _ (book : Book) (text : List ℕ) where
       s-ending : {o : Open} {j x y : ℕ} {values : Trees} {close : Option ℕ} {rest : List (Todo Trees)} {items : Trees}
           {B B′ : List Bool} {R : List (Parse Tree)} → closed text close x ≡ some y →
           Steps o j rest y (items ▸ list values) B R B′ → Steps o j (ending values close ∷ rest) x items B R B′
+
+      s-names : {o : Open} {j x close M y : ℕ} {s : Step} {rest : List (Todo Trees)} {items : Trees}
+          {B B′ : List Bool} {R : List (Parse Tree)} → stepAt book text (scopeOf (o .path)) s x ≡ Taken.names close M y →
+          Steps o j (naming [] no-trees close M ∷ rest) y items B R B′ → Steps o j (taking s ∷ rest) x items B R B′
+      s-body : {o : Open} {j x M : ℕ} {s : Step} {rest : List (Todo Trees)} {items : Trees} {B B₁ B′ : List Bool}
+          {Q R : List (Parse Tree)} → stepAt book text (scopeOf (o .path)) s x ≡ Taken.body M →
+          Enters (inside o j (skipFrom text x)) (around o) B M (skipFrom text x) Q B₁ →
+          Each o j (plain rest (items ▸ absent)) Q B₁ R B′ → Steps o j (taking s ∷ rest) x items B R B′
+      s-no-name : {o : Open} {j x close M : ℕ} {names : List Entry} {kinds : Trees} {rest : List (Todo Trees)}
+          {items : Trees} {B B′ : List Bool} {R : List (Parse Tree)} →
+          declarationAt book text (skipFrom text x) ≡ none →
+          Steps o j (closing names kinds close M ∷ rest) x items B R B′ →
+          Steps o j (naming names kinds close M ∷ rest) x items B R B′
+      s-name : {o : Open} {j x close M : ℕ} {names : List Entry} {kinds : Trees} {rest : List (Todo Trees)}
+          {items : Trees} {d : Read Entry} {l : Left} {B B₁ B′ : List Bool} {R R₁ R₂ : List (Parse Tree)} →
+          declarationAt book text (skipFrom text x) ≡ some d →
+          withName (afterElement text true (d .end)) (d .value) names kinds close M rest items ≡ l →
+          Steps o j (closing names kinds close M ∷ rest) x items B R₁ B₁ →
+          Steps o j (l .todo) (l .place) (l .items) B₁ R₂ B′ → Joins R₁ R₂ R →
+          Steps o j (naming names kinds close M ∷ rest) x items B R B′
+      s-unopening : {o : Open} {j x close M : ℕ} {names : List Entry} {kinds : Trees} {rest : List (Todo Trees)}
+          {items : Trees} {B : List Bool} → characterEnd text close x ≡ none →
+          Steps o j (closing names kinds close M ∷ rest) x items B [] B
+      s-opening : {o : Open} {j x y close M : ℕ} {names : List Entry} {kinds : Trees} {rest : List (Todo Trees)}
+          {items : Trees} {B B₁ B′ : List Bool} {Q R : List (Parse Tree)} → characterEnd text close x ≡ some y →
+          Enters (behind names ∷ inside o j (skipFrom text y)) (around o) B M (skipFrom text y) Q B₁ →
+          Each o j (plain rest (items ▸ list kinds)) Q B₁ R B′ →
+          Steps o j (closing names kinds close M ∷ rest) x items B R B′
 
     -- what follows each parse of a child
     pub data Each : Open → ℕ → Follows → List (Parse Tree) → List Bool → List (Parse Tree) → List Bool → Type 0 where

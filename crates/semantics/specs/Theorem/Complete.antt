@@ -16,13 +16,14 @@ use Prim.Native.Nat.{ℕ, zero, suc, _+_, _<_}
 use native.Mathlib.Omega.{arith}
 use lib.Dec.{leb}
 use Rattle.characters.specs.Skipping.{skipFrom}
-use Rattle.book.specs.Book.{Book, nthNonterminal, nthVariant}
+use Rattle.book.specs.Book.{Entry, Book, nthNonterminal, nthVariant}
 use Rattle.book.specs.declared.records.Step.{Step}
 use Rattle.semantics.specs.Values.{Tree, Trees, no-trees, _▸_, absent, list, Parse}
-use Rattle.semantics.specs.Uses.{Use, Path, scopeOf, within, useOf, hasMark, Governor, minimum, same-start, governor, keeps}
-use Rattle.semantics.specs.Tokens.{freeEnd, claimed}
+use Rattle.semantics.specs.Uses.{Use, within, behind, Path, behindAny, scopeOf, useOf, hasMark, Governor, minimum}
+use Rattle.semantics.specs.Uses.{same-start, governor, keeps}
+use Rattle.semantics.specs.Tokens.{Read, characterEnd, freeEnd, claimed, declarationAt}
 use Rattle.semantics.specs.Steps.{Taken, stepAt, After, afterElement, closed, Todo, taking, elements, ending}
-use Rattle.semantics.specs.Steps.{todoOf}
+use Rattle.semantics.specs.Steps.{naming, closing, todoOf}
 use Rattle.semantics.specs.Derivations.{parseOf, withItem, attempt}
 use Rattle.semantics.specs.Run.{newest, others}
 use Rattle.semantics.specs.Theorem.Lists.{_∈_, sift-in, nth, flag, flag-ask, flag-newest, flag-others, Le}
@@ -33,12 +34,14 @@ use Rattle.semantics.specs.Theorem.BigStep.{Enters, again, identifier, q
 use Rattle.semantics.specs.Theorem.BigStep.{last, more, Variants, no-more, too-low, taken}
 use Rattle.semantics.specs.Theorem.BigStep.{Steps, s-done, s-nothing, s-token, s-child, s-optional, s-list}
 use Rattle.semantics.specs.Theorem.BigStep.{s-unopened, s-elements, s-unclosed, s-ending}
+use Rattle.semantics.specs.Theorem.BigStep.{s-names, s-body, s-no-name, s-name, s-unopening, s-opening, withName}
 use Rattle.semantics.specs.Theorem.BigStep.{Each, e-none, e-one}
 use Rattle.semantics.specs.Theorem.Heights.{Der, h-variant, h-governor, h-identifier, der-zero, raise}
 use Rattle.semantics.specs.Theorem.Heights.{DThrough, h-done, h-token, h-child, h-absent, h-one, h-list}
-use Rattle.semantics.specs.Theorem.Heights.{h-unopened, h-stop, h-more, h-last, h-ending}
-use Rattle.semantics.specs.Theorem.Sound.{At, here, there, gov-at}
-use Rattle.semantics.specs.Theorem.Marks.{m-enters, m-variants, m-each}
+use Rattle.semantics.specs.Theorem.Heights.{h-unopened, h-stop, h-more, h-last, h-ending, h-names, h-body, h-no-name}
+use Rattle.semantics.specs.Theorem.Heights.{h-name, h-last-name, h-opening}
+use Rattle.semantics.specs.Theorem.Sound.{At, here, there, past, gov-at}
+use Rattle.semantics.specs.Theorem.Marks.{m-enters, m-variants, m-steps, m-each}
 
 -- a mark-2 nonterminal has no variants: the run reads an identifier for it, and tries no variant
 abbrev pub PlainBook : Book → Type 0
@@ -65,6 +68,16 @@ module _ (book : Book) (text : List ℕ) where
   in-le : {h : ℕ} {o : Open} {A B : List Bool} → Le A B → FullIn h o B → FullIn h o A
   in-le l F = record { inner = λ j x. full-le l (F .inner j x) }
 
+  -- behind an opening the calls around are the same
+  full-behind : {h : ℕ} (opening : Option (List Entry)) {P : Path} {S : Sets} {A : List Bool} → Full h P S A →
+      Full h (behindAny opening P) S A
+  full-behind none F = F
+  full-behind {h} (some names) {P} {S} {A} F = record { holds = behind-holds }
+    where
+      behind-holds : (i : ℕ) (f : Use) (Q : Path) → At (behind names ∷ P) i f Q → flag A i ≡ true →
+          HoldsAll h Q (f .nonterminal) (f .start) (nth S i)
+      behind-holds i f Q (past a) e = F .holds i f Q a e
+
   full-down : {h : ℕ} {P : Path} {S : Sets} {A : List Bool} → Full (suc h) P S A → Full h P S A
   full-down {h} F = record { holds = λ i f Q a e p d. F .holds i f Q a e p (raise book text d (suc h) (omega arith)) }
 
@@ -82,12 +95,13 @@ module _ (book : Book) (text : List ℕ) where
   own-full P S N u T B t F = record { inner = λ j x. record { holds = own-holds P S N u T B t F j x } }
 
   -- ---- Runs, taken apart
-  -- a child's call, and what follows each of its parses
-  record Child (o : Open) (j : ℕ) (c : Follows) (M x : ℕ) (B : List Bool) (R : List (Parse Tree))
-      (B′ : List Bool) : Type 0 where
+  -- a child's call, behind an opening or none, and what follows each of its parses
+  record Child (opening : Option (List Entry)) (o : Open) (j : ℕ) (c : Follows) (M x : ℕ) (B : List Bool)
+      (R : List (Parse Tree)) (B′ : List Bool) : Type 0 where
     B₁ : List Bool
     Q : List (Parse Tree)
-    entered : Enters book text (inside book text o j (skipFrom text x)) (around o) B M (skipFrom text x) Q B₁
+    entered : Enters book text (behindAny opening (inside book text o j (skipFrom text x))) (around o) B M
+        (skipFrom text x) Q B₁
     each : Each book text o j c Q B₁ R B′
 
   -- going on without a child, and with it
@@ -98,18 +112,21 @@ module _ (book : Book) (text : List ℕ) where
     R₁ : List (Parse Tree)
     R₂ : List (Parse Tree)
     without : Steps book text o j todo x items B R₁ B₁
-    with′ : Child o j c M x B₁ R₂ B′
+    with′ : Child none o j c M x B₁ R₂ B′
     joins : Joins R₁ R₂ R
 
   -- the run of a step, by what the step takes
   abbrev Ran : Open → ℕ → List (Todo Trees) → ℕ → Trees → List Bool → List (Parse Tree) → List Bool → Taken → Type 0
   Ran o j rest x items B R B′ (Taken.token t) =
       Steps book text o j rest (t .next) (withItem text items (t .item)) B R B′
-  Ran o j rest x items B R B′ (Taken.child M) = Child o j (plain rest items) M x B R B′
+  Ran o j rest x items B R B′ (Taken.child M) = Child none o j (plain rest items) M x B R B′
   Ran o j rest x items B R B′ (Taken.optional M) = Choice o j rest (items ▸ absent) (plain rest items) M x B R B′
   Ran o j rest x items B R B′ (Taken.list comma M close y) =
       Steps book text o j (elements comma M no-trees close ∷ rest) y items B R B′
   Ran o j rest x items B R B′ (Taken.unopened y) = Steps book text o j rest y (items ▸ list no-trees) B R B′
+  Ran o j rest x items B R B′ (Taken.names close M y) =
+      Steps book text o j (naming [] no-trees close M ∷ rest) y items B R B′
+  Ran o j rest x items B R B′ (Taken.body M) = Child none o j (plain rest (items ▸ absent)) M x B R B′
   Ran o j rest x items B R B′ Taken.nothing = Unit {0}
 
   -- the run of a list's end, by where its closing ends
@@ -124,7 +141,8 @@ module _ (book : Book) (text : List ℕ) where
 
   inv-take : {o : Open} {j : ℕ} {s : Step} {rest : List (Todo Trees)} {x : ℕ} {items : Trees} {B : List Bool}
       {R : List (Parse Tree)} {B′ : List Bool} →
-      Steps book text o j (taking s ∷ rest) x items B R B′ → Ran o j rest x items B R B′ (stepAt book text (scopeOf (o .path)) s x)
+      Steps book text o j (taking s ∷ rest) x items B R B′ →
+      Ran o j rest x items B R B′ (stepAt book text (scopeOf (o .path)) s x)
   inv-take (s-nothing {o} {j} {x} {rest = rest} {items = items} {B = B} e) =
       subst (Ran o j rest x items B [] B) (sym e) tt
   inv-take (s-token {o} {j} {x} {rest = rest} {items = items} {B = B} {B′ = B′} {R = R} e s) =
@@ -146,6 +164,11 @@ module _ (book : Book) (text : List ℕ) where
       subst (Ran o j rest x items B R B′) (sym e) s
   inv-take (s-unopened {o} {j} {x} {rest = rest} {items = items} {B = B} {B′ = B′} {R = R} e s) =
       subst (Ran o j rest x items B R B′) (sym e) s
+
+  inv-take (s-names {o} {j} {x} {rest = rest} {items = items} {B = B} {B′ = B′} {R = R} e s) =
+      subst (Ran o j rest x items B R B′) (sym e) s
+  inv-take (s-body {o} {j} {x} {rest = rest} {items = items} {B = B} {B₁ = B₁} {B′ = B′} {Q = Q} {R = R} e c es) =
+      subst (Ran o j rest x items B R B′) (sym e) (record { B₁ = B₁; Q = Q; entered = c; each = es })
 
   inv-elements : {o : Open} {j : ℕ} {comma : Bool} {M : ℕ} {values : Trees} {close : Option ℕ}
       {rest : List (Todo Trees)} {x : ℕ} {items : Trees} {B : List Bool} {R : List (Parse Tree)} {B′ : List Bool} →
@@ -170,10 +193,58 @@ module _ (book : Book) (text : List ℕ) where
   inv-ending (s-ending {o} {j} {values = values} {rest = rest} {items = items} {B = B} {B′ = B′} {R = R} e s) =
       subst (Closed o j rest values items B R B′) (sym e) s
 
+  -- the run of a binder's names: without one more, and with one that stands there
+  record Naming (o : Open) (j : ℕ) (names : List Entry) (kinds : Trees) (close M : ℕ) (rest : List (Todo Trees)) (x : ℕ)
+      (items : Trees) (B : List Bool) (R : List (Parse Tree)) (B′ : List Bool) (d : Read Entry) : Type 0 where
+    B₁ : List Bool
+    R₁ : List (Parse Tree)
+    R₂ : List (Parse Tree)
+    without : Steps book text o j (closing names kinds close M ∷ rest) x items B R₁ B₁
+    left : Left
+    is : withName book text (afterElement text true (d .end)) (d .value) names kinds close M rest items ≡ left
+    with′ : Steps book text o j (left .todo) (left .place) (left .items) B₁ R₂ B′
+    joins : Joins R₁ R₂ R
+
+  abbrev Named : Open → ℕ → List Entry → Trees → ℕ → ℕ → List (Todo Trees) → ℕ → Trees → List Bool →
+      List (Parse Tree) → List Bool → Option (Read Entry) → Type 0
+  Named o j names kinds close M rest x items B R B′ none =
+      Steps book text o j (closing names kinds close M ∷ rest) x items B R B′
+  Named o j names kinds close M rest x items B R B′ (some d) = Naming o j names kinds close M rest x items B R B′ d
+
+  inv-naming : {o : Open} {j : ℕ} {names : List Entry} {kinds : Trees} {close M : ℕ} {rest : List (Todo Trees)} {x : ℕ}
+      {items : Trees} {B : List Bool} {R : List (Parse Tree)} {B′ : List Bool} →
+      Steps book text o j (naming names kinds close M ∷ rest) x items B R B′ →
+      Named o j names kinds close M rest x items B R B′ (declarationAt book text (skipFrom text x))
+  inv-naming (s-no-name {o} {j} {x} {close} {M} {names} {kinds} {rest} {items} {B} {B′} {R} e s) =
+      subst (Named o j names kinds close M rest x items B R B′) (sym e) s
+  inv-naming (s-name {o} {j} {x} {close} {M} {names} {kinds} {rest} {items} {d} {l} {B} {B₁} {B′} {R} {R₁} {R₂}
+      e is s t u) =
+      subst (Named o j names kinds close M rest x items B R B′) (sym e)
+      (record { B₁ = B₁; R₁ = R₁; R₂ = R₂; without = s; left = l; is = is; with′ = t; joins = u })
+
+  -- the run of a binder's body, by where its closing ends
+  abbrev Opened : Open → ℕ → List Entry → Trees → ℕ → List (Todo Trees) → Trees → List Bool → List (Parse Tree) →
+      List Bool → Option ℕ → Type 0
+  Opened o j names kinds M rest items B R B′ none = Unit {0}
+  Opened o j names kinds M rest items B R B′ (some y) =
+      Child (some names) o j (plain rest (items ▸ list kinds)) M y B R B′
+
+  inv-closing : {o : Open} {j : ℕ} {names : List Entry} {kinds : Trees} {close M : ℕ} {rest : List (Todo Trees)} {x : ℕ}
+      {items : Trees} {B : List Bool} {R : List (Parse Tree)} {B′ : List Bool} →
+      Steps book text o j (closing names kinds close M ∷ rest) x items B R B′ →
+      Opened o j names kinds M rest items B R B′ (characterEnd text close x)
+  inv-closing (s-unopening {o} {j} {M = M} {names = names} {kinds = kinds} {rest = rest} {items = items} {B = B} e) =
+      subst (Opened o j names kinds M rest items B [] B) (sym e) tt
+  inv-closing (s-opening {o} {j} {M = M} {names = names} {kinds = kinds} {rest = rest} {items = items} {B = B} {B₁ = B₁}
+      {B′ = B′} {Q = Q} {R = R} e c es) =
+      subst (Opened o j names kinds M rest items B R B′) (sym e)
+      (record { B₁ = B₁; Q = Q; entered = c; each = es })
+
   -- where it is known what a step takes, or where a list's closing ends
   ran : {o : Open} {j : ℕ} {s : Step} {rest : List (Todo Trees)} {x : ℕ} {items : Trees} {B : List Bool}
       {R : List (Parse Tree)} {B′ : List Bool} {t : Taken} →
-      stepAt book text (scopeOf (o .path)) s x ≡ t → Steps book text o j (taking s ∷ rest) x items B R B′ → Ran o j rest x items B R B′ t
+      stepAt book text (scopeOf (o .path)) s x ≡ t → Steps book text o j (taking s ∷ rest) x items B R B′ →
+      Ran o j rest x items B R B′ t
   ran {o} {j} {s} {rest} {x} {items} {B} {R} {B′} e r = subst (Ran o j rest x items B R B′) e (inv-take r)
 
   ended : {o : Open} {j : ℕ} {values : Trees} {close : Option ℕ} {rest : List (Todo Trees)} {x y : ℕ} {items : Trees}
@@ -263,12 +334,13 @@ module _ (book : Book) (text : List ℕ) where
     c-each (e-one s es u) F {q} {p} (List·Memᴰ·tail m) k = u .second p (c-each es F m k)
 
     child-ok : {o : Open} {j : ℕ} {c : Follows} {M x : ℕ} {B : List Bool} {R : List (Parse Tree)} {B′ : List Bool}
-        {q p : Parse Tree} → Der book text h (inside book text o j (skipFrom text x)) M (skipFrom text x) q →
-        FindsLeft h o j (resume book text c q) p → Child o j c M x B R B′ → FullIn h o B′ → p ∈ R
-    child-ok {o} {j} {M = M} {x = x} {B = B} {q = q} d k y F =
-        let F′ = full-le (m-each book text (y .each)) (F .inner j (skipFrom text x)) in
+        {q p : Parse Tree} (opening : Option (List Entry)) →
+        Der book text h (behindAny opening (inside book text o j (skipFrom text x))) M (skipFrom text x) q →
+        FindsLeft h o j (resume book text c q) p → Child opening o j c M x B R B′ → FullIn h o B′ → p ∈ R
+    child-ok {o} {j} {M = M} {x = x} {B = B} {q = q} opening d k y F =
+        let F′ = full-behind opening (full-le (m-each book text (y .each)) (F .inner j (skipFrom text x))) in
         c-each (y .each) F
-        (below (inside book text o j (skipFrom text x)) (around o) B M (skipFrom text x) (y .Q)
+        (below (behindAny opening (inside book text o j (skipFrom text x))) (around o) B M (skipFrom text x) (y .Q)
         (y .B₁) (y .entered) F′ q d) k
 
     without-ok : {o : Open} {j : ℕ} {todo : List (Todo Trees)} {items : Trees} {c : Follows} {M x : ℕ} {B : List Bool}
@@ -282,7 +354,42 @@ module _ (book : Book) (text : List ℕ) where
         {R : List (Parse Tree)} {B′ : List Bool}
         {q p : Parse Tree} → Der book text h (inside book text o j (skipFrom text x)) M (skipFrom text x) q →
         FindsLeft h o j (resume book text c q) p → Choice o j todo items c M x B R B′ → FullIn h o B′ → p ∈ R
-    with-ok {p = p} d k y F = y .joins .second p (child-ok d k (y .with′) F)
+    with-ok {p = p} d k y F = y .joins .second p (child-ok none d k (y .with′) F)
+
+    -- a binder's names, without one more
+    no-name-ok : {o : Open} {j : ℕ} {names : List Entry} {kinds : Trees} {close M : ℕ} {rest : List (Todo Trees)}
+        {x : ℕ} {items : Trees} {B : List Bool} {R : List (Parse Tree)} {B′ : List Bool} {p : Parse Tree} →
+        Finds h o j (closing names kinds close M ∷ rest) x items p →
+        Steps book text o j (naming names kinds close M ∷ rest) x items B R B′ → FullIn h o B′ → p ∈ R
+    no-name-ok {o} {j} {names} {kinds} {close} {M} {rest} {x} {items} {B} {R} {B′} {p} k s F =
+        by (declarationAt book text (skipFrom text x)) (inv-naming s)
+      where
+        by : (d : Option (Read Entry)) → Named o j names kinds close M rest x items B R B′ d → p ∈ R
+        by none y = k B R B′ y F
+        by (some d) y = y .joins .first p (k B (y .R₁) (y .B₁) (y .without) (in-le (m-steps book text (y .with′)) F))
+
+    -- a name that stands there, where it is known whether the names go on
+    name-ok : {o : Open} {j : ℕ} {names : List Entry} {kinds : Trees} {close M : ℕ} {rest : List (Todo Trees)}
+        {x : ℕ} {items : Trees} {B : List Bool} {R : List (Parse Tree)} {B′ : List Bool} {p : Parse Tree}
+        {d : Read Entry} {z : After} → declarationAt book text (skipFrom text x) ≡ some d →
+        afterElement text true (d .end) ≡ z →
+        FindsLeft h o j (withName book text z (d .value) names kinds close M rest items) p →
+        Steps book text o j (naming names kinds close M ∷ rest) x items B R B′ → FullIn h o B′ → p ∈ R
+    name-ok {o} {j} {names} {kinds} {close} {M} {rest} {x} {items} {B} {R} {B′} {p} {d} e g k s F =
+        let y : Naming o j names kinds close M rest x items B R B′ d =
+        subst (Named o j names kinds close M rest x items B R B′) e (inv-naming s) in
+        let here = ap (λ w. withName book text w (d .value) names kinds close M rest items) (sym g) ∙ y .is in
+        y .joins .second p ((subst (λ l. FindsLeft h o j l p) here k) (y .B₁) (y .R₂) B′ (y .with′) F)
+
+    -- the body behind a closing that stands there
+    opening-ok : {o : Open} {j : ℕ} {names : List Entry} {kinds : Trees} {close M : ℕ} {rest : List (Todo Trees)}
+        {x y : ℕ} {items : Trees} {B : List Bool} {R : List (Parse Tree)} {B′ : List Bool} {q p : Parse Tree} →
+        characterEnd text close x ≡ some y →
+        Der book text h (behind names ∷ inside book text o j (skipFrom text y)) M (skipFrom text y) q →
+        FindsLeft h o j (resume book text (plain rest (items ▸ list kinds)) q) p →
+        Steps book text o j (closing names kinds close M ∷ rest) x items B R B′ → FullIn h o B′ → p ∈ R
+    opening-ok {o} {j} {names} {kinds} {close} {M} {rest} {items = items} {B = B} {R = R} {B′ = B′} e d k s F =
+        child-ok (some names) d k (subst (Opened o j names kinds M rest items B R B′) e (inv-closing s)) F
 
     -- an element of a list, where it is known whether the list goes on
     element-ok : {o : Open} {j : ℕ} {comma : Bool} {M : ℕ} {values : Trees} {close : Option ℕ}
@@ -301,7 +408,7 @@ module _ (book : Book) (text : List ℕ) where
         (S : Sets) (T : List (Parse Tree)) → Finds h (open′ P S N u T) j todo x items p
     c-steps (h-done e) S T = λ B R B′ s F. only-in (inv-done s) e
     c-steps (h-token e t) S T = λ B R B′ s F. c-steps t S T B R B′ (ran e s) F
-    c-steps (h-child e d t) S T = λ B R B′ s F. child-ok d (c-steps t S T) (ran e s) F
+    c-steps (h-child e d t) S T = λ B R B′ s F. child-ok none d (c-steps t S T) (ran e s) F
     c-steps (h-absent e t) S T = λ B R B′ s F. without-ok (c-steps t S T) (ran e s) F
     c-steps (h-one e d t) S T = λ B R B′ s F. with-ok d (c-steps t S T) (ran e s) F
     c-steps (h-list e t) S T = λ B R B′ s F. c-steps t S T B R B′ (ran e s) F
@@ -310,6 +417,12 @@ module _ (book : Book) (text : List ℕ) where
     c-steps (h-more d e t) S T = λ B R B′ s F. element-ok d e (c-steps t S T) (inv-elements s) F
     c-steps (h-last d e t) S T = λ B R B′ s F. element-ok d e (c-steps t S T) (inv-elements s) F
     c-steps (h-ending e t) S T = λ B R B′ s F. c-steps t S T B R B′ (ended e s) F
+    c-steps (h-names e t) S T = λ B R B′ s F. c-steps t S T B R B′ (ran e s) F
+    c-steps (h-body e d t) S T = λ B R B′ s F. child-ok none d (c-steps t S T) (ran e s) F
+    c-steps (h-no-name t) S T = λ B R B′ s F. no-name-ok (c-steps t S T) s F
+    c-steps (h-name e g t) S T = λ B R B′ s F. name-ok e g (c-steps t S T) s F
+    c-steps (h-last-name e g t) S T = λ B R B′ s F. name-ok e g (c-steps t S T) s F
+    c-steps (h-opening e d t) S T = λ B R B′ s F. opening-ok e d (c-steps t S T) s F
 
     -- variant k, number i of n from j on, is among those tried
     c-variants : {o : Open} {m n j : ℕ} {B : List Bool} {R : List (Parse Tree)} {B′ : List Bool} →

@@ -6,7 +6,7 @@
 -- level of nesting takes the law of the level inside it.
 use mathlib.Core.Path.{_≡_, refl, sym, _∙_, ap, subst}
 use mathlib.Core.Bool.{Bool, true}
-use mathlib.Core.List.{List, [], _∷_, List·Memᴰ·head, List·Memᴰ·tail}
+use mathlib.Core.List.{List, [], _∷_, _++_, List·Memᴰ·head, List·Memᴰ·tail}
 use mathlib.Core.Option.{Option, none, some}
 use Prim.Native.Nat.{ℕ, zero, suc, _-_, _≤_}
 use native.Mathlib.Omega.{arith}
@@ -15,13 +15,14 @@ use lib.ListN.{length}
 use Rattle.characters.specs.Cases.{by-test}
 use Rattle.characters.specs.Classes.{between}
 use Rattle.characters.specs.Skipping.{skipFrom}
-use Rattle.book.specs.Book.{Book, nthNonterminal, nthVariant, stepNumber}
+use Rattle.book.specs.Book.{Entry, Book, nthNonterminal, nthVariant, stepNumber}
 use Rattle.book.specs.declared.records.Step.{Step}
+use Rattle.semantics.specs.Numbers.{mostDeclared}
 use Rattle.semantics.specs.Values.{Parse}
 use Rattle.semantics.specs.Uses.{Path, Scope, scopeOf, hasMark, governor}
-use Rattle.semantics.specs.Tokens.{freeEnd, claimed}
+use Rattle.semantics.specs.Tokens.{characterEnd, freeEnd, claimed, declarationAt}
 use Rattle.semantics.specs.Steps.{Token, Taken, stepAt, afterElement, closed, Todo, taking, elements, ending}
-use Rattle.semantics.specs.Steps.{stepsOf, todoOf}
+use Rattle.semantics.specs.Steps.{naming, closing, stepsOf, todoOf}
 use Rattle.semantics.specs.Cells.{Cell}
 use Rattle.semantics.specs.Errors.{Error}
 use Rattle.semantics.specs.Run.{Result, ok, _>>=_, State, Parsed, Call, call, withMine, Runner, Go, Next, allIn}
@@ -29,19 +30,21 @@ use Rattle.semantics.specs.Run.{kept, newest, spend, make, chosen}
 use Rattle.semantics.specs.Run.{withToken, variants, oneRun, rounds, runCall, named, runIdentifier, plainNext}
 use Rattle.semantics.specs.Run.{listNext, stops}
 use Rattle.semantics.specs.Run.{nested, reentry, enter, enterChild, followMore, follow, followed, stepUnit}
-use Rattle.semantics.specs.Run.{orAbsent, choice, listing, steps, runner, run}
+use Rattle.semantics.specs.Run.{orAbsent, choice, listing, declaredNames, openScope, bodyAfter, opens, declares}
+use Rattle.semantics.specs.Run.{nameChoice, steps, runner, run}
 use Rattle.semantics.specs.Theorem.Lists.{_∈_, nth}
 use Rattle.semantics.specs.Theorem.Results.{met-ok, ok-inj, none-some, after, option-cases, list-cases}
 use Rattle.semantics.specs.Theorem.Results.{governor-cases, after-cases, some-inj, taken-cases, nested-run}
 use Rattle.semantics.specs.Theorem.Results.{chosen-same}
-use Rattle.semantics.specs.Theorem.Tokens.{AddsFit, free-end-within, token-fits}
+use Rattle.semantics.specs.Theorem.Tokens.{AddsFit, free-end-within, declared-kind, token-fits}
 use Rattle.semantics.specs.Theorem.Sets.{Distinct}
 use Rattle.semantics.specs.Theorem.Table.{Table, no-cells, Item, Prefix, prefix-refl, prefix-then, item-still}
 use Rattle.semantics.specs.Theorem.Table.{chain-still}
 use Rattle.semantics.specs.Theorem.Holding.{Tabled, Grown, Held, Gives, Ready, Left, Wants, List-left, grown-refl}
 use Rattle.semantics.specs.Theorem.Holding.{grown-then, gives-from, gives-ok}
 use Rattle.semantics.specs.Theorem.Holding.{holds-still, ready-still, ready-after, gives-set, left-still}
-use Rattle.semantics.specs.Theorem.Holding.{wants-still, wants-take, list-still}
+use Rattle.semantics.specs.Theorem.Holding.{wants-still, wants-take, list-still, Binder-left, binder-still}
+use Rattle.semantics.specs.Theorem.Holding.{naming-left, closing-left, left-naming, left-closing, new-kind}
 use Rattle.semantics.specs.Theorem.Holding.{elements-left, ending-left, left-elements, left-ending, holds-none}
 use Rattle.semantics.specs.Theorem.Holding.{holds-one, holds-kept, holds-all}
 use Rattle.semantics.specs.Theorem.Holding.{new-empty, new-link, new-list, new-absent, new-name}
@@ -57,6 +60,12 @@ pub record Kept (text : List ℕ) (r : Parsed) : Type 0 where
 
 child-token : {M : ℕ} {t : Token} → Taken.child M ≡ Taken.token t → ⊥
 child-token e = let z : _≡_ {A = ℕ} 0 1 = cc in omega arith
+
+child-names : {M close N y : ℕ} → Taken.child M ≡ Taken.names close N y → ⊥
+child-names e = let z : _≡_ {A = ℕ} 0 1 = cc in omega arith
+
+child-body : {M N : ℕ} → Taken.child M ≡ Taken.body N → ⊥
+child-body e = let z : _≡_ {A = ℕ} 0 1 = cc in omega arith
 
 -- ---- States and results that differ in nothing that is held
 spend-grown : {text : List ℕ} (s t : State) → Tabled text (s .cells) → spend s ≡ ok t → Grown text (s .cells) (t .cells)
@@ -294,12 +303,12 @@ module _ (book : Book) (text : List ℕ)
         (λ fine. follow-gives C c next good (a .set) set (a .state) r p h (k .values) (rw fine at e))
         (λ d failed. gives-ok (rw failed at e) (gives-set h))
 
-    child-gives : (C : List Cell) (c : Call) (j M x : ℕ) (next : Next) → GoodNext C c next →
-        (set : List (Parse ℕ)) (s : State) (a r : Parsed) →
-        Prefix C (s .cells) → Ready text (s .cells) c set → enterChild book text inner c j M x s ≡ ok a →
+    child-gives : (C : List Cell) (opening : Option (List Entry)) (c : Call) (j M x : ℕ) (next : Next) →
+        GoodNext C c next → (set : List (Parse ℕ)) (s : State) (a r : Parsed) →
+        Prefix C (s .cells) → Ready text (s .cells) c set → enterChild book text inner opening c j M x s ≡ ok a →
         followed book text inner next set a ≡ ok r → Gives text (s .cells) r
     unfolding enterChild
-    child-gives C c j M x next good set s a r p h entered e =
+    child-gives C opening c j M x next good set s a r p h entered e =
         let g = enter-gives _ (c .mine ∷ c .stored) M (skipFrom text x) s a (h .tabled) (around c h) entered in
         gives-from (g .grown)
         (followed-gives C c next good set a r (prefix-then p (g .grown .prefix)) (ready-still (g .grown) h) (g .set) e)
@@ -307,13 +316,14 @@ module _ (book : Book) (text : List ℕ)
     -- both sides of a choice: one side has the result a, and then a child is tried
     sides-give : (c : Call) (j M x : ℕ) (next : Next) (set : List (Parse ℕ)) (s : State) (a b d : Parsed) →
         GoodNext (s .cells) c next →
-        Ready text (s .cells) c set → Gives text (s .cells) a → enterChild book text inner c j M x (a .state) ≡ ok b →
+        Ready text (s .cells) c set → Gives text (s .cells) a →
+        enterChild book text inner none c j M x (a .state) ≡ ok b →
         followed book text inner next (a .set) b ≡ ok d →
         Gives text (s .cells) (chosen c (skipFrom text x) (a .failure) d)
     sides-give c j M x next set s a b d good h g entered e =
         chosen-gives c (skipFrom text x) (a .failure) d
         (gives-from (g .grown)
-        (child-gives (s .cells) c j M x next good (a .set) (a .state) b d (g .grown .prefix)
+        (child-gives (s .cells) none c j M x next good (a .set) (a .state) b d (g .grown .prefix)
         (ready-after h g) entered e))
 
     -- ---- Steps
@@ -385,14 +395,137 @@ module _ (book : Book) (text : List ℕ)
           let o = with-token-onward book text j rest items (t .item) s m (h .tabled) w not-passing fits linked in
           gives-from (o .grown) (good (t .next) (m .cell) set (m .state) r (ready-still (o .grown) h) (o .left) ran))
 
-    -- the one step of a passing variant takes no token
-    not-passing : {C : List Cell} (j : ℕ) (scope : Scope) (step : Step) (rest : List (Todo ℕ)) (x items : ℕ) (t : Token) →
-        Left book text C j (taking step ∷ rest) items →
-        stepAt book text scope step x ≡ Taken.token t → nthVariant book j .passing ≡ true → ⊥
+    -- ---- Binders
+    open-grown : (opening : Option (List Entry)) (scope : Scope) (s t : State) → Tabled text (s .cells) →
+        openScope opening scope s ≡ ok t → Grown text (s .cells) (t .cells)
+    unfolding openScope
+    open-grown none scope s t h e = subst (λ (z : State). Grown text (s .cells) (z .cells)) (ok-inj e) (grown-refl h)
+    open-grown (some names) scope s t h e =
+        by-test (leb (declaredNames (names ∷ scope)) mostDeclared)
+        (λ p. subst (λ (z : State). Grown text (s .cells) (z .cells)) (ok-inj (rw p at e)) (grown-refl h))
+        (λ p. absurd (met-ok (rw p at e)))
+
+    module _ (c : Call) (j : ℕ) (rest : List (Todo ℕ)) where
+      body-gives : (opening : Option (List Entry)) (M item x items : ℕ) (set : List (Parse ℕ)) (s : State) (r : Parsed) →
+          Ready text (s .cells) c set → Wants book text (s .cells) j rest items → Item text (s .cells) item →
+          (nthVariant book j .passing ≡ true → ⊥) →
+          bodyAfter book text inner opening c j M item rest x items set s ≡ ok r → Gives text (s .cells) r
+      unfolding bodyAfter
+      body-gives opening M item x items set s r h w i not-passing e =
+          after _ _ e (λ m linked e₁. after _ _ e₁ (λ t opened e₂. after _ _ e₂ (λ a entered next.
+          let o = with-cell-onward book text j rest items item s m (h .tabled) w i linked in
+          let way = open-grown opening (scopeOf (c .path)) (m .state) t (o .grown .tabled) opened in
+          let l = left-still rest (m .cell) (way .prefix) (o .left) in
+          let w′ : Wants book text (t .cells) j rest (m .cell) =
+          record { values = l .values; plain = l .plain; passing = λ p. absurd (not-passing p) } in
+          let all = grown-then (o .grown) way in
+          gives-from all
+          (child-gives (t .cells) opening c j M x _ (plain-next-good (t .cells) c j rest (m .cell) w′) set t a r
+          (prefix-refl (t .cells)) (ready-still all h) entered next))))
+
+      opens-give : (names : List Entry) (kinds close M x items : ℕ) (set : List (Parse ℕ)) (s : State) (r : Parsed) →
+          Ready text (s .cells) c set → Binder-left book text (s .cells) j kinds rest items →
+          opens book text inner c j names kinds close M rest x items set s ≡ ok r → Gives text (s .cells) r
+      unfolding opens
+      opens-give names kinds close M x items set s r h l e =
+          after _ _ e (λ a listed next.
+          let new = new-list s a (h .tabled) kinds (l .chain) listed in
+          let h′ = ready-still (new .grown) h in
+          gives-from (new .grown)
+          (option-cases (characterEnd text close x)
+          (λ unclosed. gives-ok (rw unclosed at next) (gives-set h′))
+          (λ y there.
+          body-gives (some names) M (a .cell) y items set (a .state) r h′
+          (wants-still rest items (new .grown .prefix) (l .wants)) (new .item) (l .not-passing) (rw there at next))))
+
+      declares-give : (names : List Entry) (kinds close M x items : ℕ) (set : List (Parse ℕ)) (s : State) (r : Parsed) →
+          Ready text (s .cells) c set → Binder-left book text (s .cells) j kinds rest items →
+          declares book text inner c j names kinds close M rest x items set s ≡ ok r → Gives text (s .cells) r
+      unfolding declares
+      declares-give names kinds close M x items set s₀ r h₀ l₀ e =
+          after _ _ e (λ s spent e₁. nested-run book text inner s _ e₁ (λ f there ran.
+          let way = spend-grown s₀ s (h₀ .tabled) spent in
+          let h = ready-still way h₀ in
+          let l = binder-still rest items (way .prefix) l₀ in
+          gives-from way
+          (option-cases (declarationAt book text (skipFrom text x))
+          (λ missing. gives-ok (rw missing at ran) (gives-set h))
+          (λ d declared. after _ _ (rw declared at ran) (λ k numbered e₂. after _ _ e₂ (λ m linked more.
+          let kind = new-kind s k (h .tabled) (d .value .label)
+          (declared-kind book text (skipFrom text x) d declared) numbered in
+          let new =
+          new-link (k .state) m (kind .grown .tabled) kinds (k .cell)
+          (chain-still text (kind .grown .prefix) kinds (l .chain)) (kind .item) linked in
+          let all = grown-then (kind .grown) (new .grown) in
+          let h′ = ready-still all h in
+          let l′ : Binder-left book text (m .state .cells) j (m .cell) rest items = record {
+            chain = new .chain;
+            wants = wants-still rest items (all .prefix) (l .wants);
+            not-passing = l .not-passing;
+          } in
+          gives-from all
+          (after-cases (afterElement text true (d .end))
+          (λ y on.
+          goods f there c j (naming (names ++ (d .value ∷ [])) (m .cell) close M ∷ rest) y items set (m .state) r h′
+          (left-naming l′) (rw on at more))
+          (λ y on.
+          goods f there c j (closing (names ++ (d .value ∷ [])) (m .cell) close M ∷ rest) y items set (m .state) r h′
+          (left-closing l′) (rw on at more)))))))))
+
+      name-choice-gives : (names : List Entry) (kinds close M x items : ℕ) (set : List (Parse ℕ)) (s : State)
+          (r : Parsed) → Ready text (s .cells) c set → Binder-left book text (s .cells) j kinds rest items →
+          nameChoice book text inner c j names kinds close M rest x items set s ≡ ok r → Gives text (s .cells) r
+      unfolding nameChoice
+      name-choice-gives names kinds close M x items set s₀ r h₀ l₀ e =
+          after _ _ e (λ s spent e₁. after _ _ e₁ (λ a opened e₂. after _ _ e₂ (λ b declared is.
+          let way = spend-grown s₀ s (h₀ .tabled) spent in
+          let h = ready-still way h₀ in
+          let l = binder-still rest items (way .prefix) l₀ in
+          let g = opens-give names kinds close M x items set s a h l opened in
+          gives-ok is
+          (gives-from way
+          (chosen-gives c (skipFrom text x) (a .failure) b
+          (gives-from (g .grown)
+          (declares-give names kinds close M x items (a .set) (a .state) b (ready-after h g)
+          (binder-still rest items (g .grown .prefix) l) declared)))))))
+
+      names-give : (close M y items : ℕ) (set : List (Parse ℕ)) (s : State) (r : Parsed) →
+          Ready text (s .cells) c set → Wants book text (s .cells) j rest items →
+          (nthVariant book j .passing ≡ true → ⊥) →
+          (make text Cell.empty s
+          >>= (λ m. nameChoice book text inner c j [] (m .cell) close M rest y items set (m .state))) ≡ ok r →
+          Gives text (s .cells) r
+      names-give close M y items set s r h w not-passing e =
+          after _ _ e (λ m begun next.
+          let new = new-empty s m (h .tabled) begun in
+          gives-from (new .grown)
+          (name-choice-gives [] (m .cell) close M y items set (m .state) r (ready-still (new .grown) h)
+          (record {
+            chain = new .chain;
+            wants = wants-still rest items (new .grown .prefix) w;
+            not-passing = not-passing;
+          }) next))
+
+      body-alone-gives : (M x items : ℕ) (set : List (Parse ℕ)) (s : State) (r : Parsed) →
+          Ready text (s .cells) c set → Wants book text (s .cells) j rest items →
+          (nthVariant book j .passing ≡ true → ⊥) →
+          (make text Cell.absent s
+          >>= (λ m. bodyAfter book text inner none c j M (m .cell) rest x items set (m .state))) ≡ ok r →
+          Gives text (s .cells) r
+      body-alone-gives M x items set s r h w not-passing e =
+          after _ _ e (λ m missing next.
+          let new = new-absent s m (h .tabled) missing in
+          gives-from (new .grown)
+          (body-gives none M (m .cell) x items set (m .state) r (ready-still (new .grown) h)
+          (wants-still rest items (new .grown .prefix) w) (new .item) not-passing next))
+
+    -- the one step of a passing variant is a child
+    passing-child : {C : List Cell} (j : ℕ) (scope : Scope) (step : Step) (rest : List (Todo ℕ)) (x items : ℕ) →
+        Left book text C j (taking step ∷ rest) items → nthVariant book j .passing ≡ true →
+        (M : ℕ) × (stepAt book text scope step x ≡ Taken.child M)
     unfolding stepAt
-    not-passing j scope step rest x items t l e passing =
-        let k = l .passing passing .0 in
-        child-token (sym (ap (λ (z : Step). stepAt book text scope z x) (k .1)) ∙ e)
+    passing-child j scope step rest x items l passing =
+        let k = l .passing passing .0 in (k .0, ap (λ (z : Step). stepAt book text scope z x) (k .1))
 
     unit-grown : (step : Step) (s t : State) → Tabled text (s .cells) → stepUnit book text inner step s ≡ ok t →
         Grown text (s .cells) (t .cells)
@@ -416,14 +549,23 @@ module _ (book : Book) (text : List ℕ)
         (taken-cases (stepAt book text (scopeOf (c .path)) step x)
         (λ takes. gives-ok (rw takes at ran) (gives-set h))
         (λ t takes.
-        token-gives c j rest _ good t items set s r h w (not-passing j (scopeOf (c .path)) step rest x items t l takes)
+        token-gives c j rest _ good t items set s r h w
+        (λ p. child-token (sym (passing-child j (scopeOf (c .path)) step rest x items l p .1) ∙ takes))
         (token-fits book text (scopeOf (c .path)) x step t takes) (rw takes at ran))
         (λ M takes. after _ _ (rw takes at ran) (λ a entered next.
-        child-gives (s .cells) c j M x _ (plain-next-good (s .cells) c j rest items w) set s a r
+        child-gives (s .cells) none c j M x _ (plain-next-good (s .cells) c j rest items w) set s a r
         (prefix-refl (s .cells)) h entered next))
         (λ M takes. or-absent-gives c j rest _ good M x items set s r h w (rw takes at ran))
         (λ comma M close y takes. listing-gives c j rest _ good comma M close y items set s r h w (rw takes at ran))
-        (λ y takes. unopened-gives c j rest _ good y items set s r h w (rw takes at ran))))
+        (λ y takes. unopened-gives c j rest _ good y items set s r h w (rw takes at ran))
+        (λ close M y takes.
+        names-give c j rest close M y items set s r h w
+        (λ p. child-names (sym (passing-child j (scopeOf (c .path)) step rest x items l p .1) ∙ takes))
+        (rw takes at ran))
+        (λ M takes.
+        body-alone-gives c j rest M x items set s r h w
+        (λ p. child-body (sym (passing-child j (scopeOf (c .path)) step rest x items l p .1) ∙ takes))
+        (rw takes at ran))))
 
     steps-give : Good (steps book text inner)
     unfolding steps
@@ -434,6 +576,10 @@ module _ (book : Book) (text : List ℕ)
     steps-give c j (ending values close ∷ rest) x items set s r h l e =
         stops-give c j values close rest (steps book text inner c j rest) (steps-give c j rest) x items
         set s r h (ending-left l) e
+    steps-give c j (naming names kinds close M ∷ rest) x items set s r h l e =
+        name-choice-gives c j rest names kinds close M x items set s r h (naming-left l) e
+    steps-give c j (closing names kinds close M ∷ rest) x items set s r h l e =
+        opens-give c j rest names kinds close M x items set s r h (closing-left l) e
     steps-give c j (taking step ∷ rest) x items set s r h l e =
         take-gives c j step rest (steps-give c j rest) x items set s r h l e
 

@@ -2,22 +2,23 @@
 -- than the use that has it, and what is left to do of a variant counts as high as its highest child.
 use mathlib.Core.Path.{_≡_}
 use mathlib.Core.Bool.{true, false}
-use mathlib.Core.List.{List, [], _∷_}
+use mathlib.Core.List.{List, [], _∷_, _++_}
 use mathlib.Core.Option.{some}
 use Prim.Native.Nat.{ℕ, zero, suc, _+_, _<_, _≤_}
 use native.Mathlib.Omega.{arith}
 use lib.Dec.{leb}
 use Rattle.characters.specs.Skipping.{skipFrom}
 use Rattle.book.specs.Book.{Book, nthNonterminal, nthVariant}
-use Rattle.semantics.specs.Values.{Tree, Trees, no-trees, _▸_, absent, list, Parse}
-use Rattle.semantics.specs.Uses.{Path, hasMark, minimum, same-start, governor, keeps}
-use Rattle.semantics.specs.Tokens.{freeEnd, claimed}
+use Rattle.semantics.specs.Values.{Tree, Trees, no-trees, _▸_, number, absent, list, Parse}
+use Rattle.semantics.specs.Uses.{behind, Path, hasMark, minimum, same-start, governor, keeps}
+use Rattle.semantics.specs.Tokens.{Read, characterEnd, freeEnd, claimed, declarationAt}
 use Rattle.semantics.specs.Steps.{Taken, goes, halts, afterElement, closed, Todo, taking, elements}
-use Rattle.semantics.specs.Steps.{ending, todoOf}
+use Rattle.semantics.specs.Steps.{ending, naming, closing, todoOf}
 use Rattle.semantics.specs.Derivations.{parseOf, identifierParse, withItem, Attempt, attempt, variantOf, inside}
 use Rattle.semantics.specs.Derivations.{takes, Derives, by-variant, by-governor, by-identifier}
 use Rattle.semantics.specs.Derivations.{Through, done, by-token, by-child, by-absent, by-one, by-list}
 use Rattle.semantics.specs.Derivations.{by-unopened, by-stop, by-more, by-last, by-ending}
+use Rattle.semantics.specs.Derivations.{by-names, by-body, by-no-name, by-name, by-last-name, by-opening}
 
 module _ (book : Book) (text : List ℕ) where
   -- the rules of derivations once more, with a height
@@ -63,6 +64,26 @@ module _ (book : Book) (text : List ℕ) where
           DThrough h a (elements comma M values close ∷ rest) x items
       h-ending : {h a values close y rest x items : _} → closed text close x ≡ some y →
           DThrough h a rest y (items ▸ list values) → DThrough h a (ending values close ∷ rest) x items
+      h-names : {h a s close M y rest x items : _} → takes book text a s x ≡ Taken.names close M y →
+          DThrough h a (naming [] no-trees close M ∷ rest) y items → DThrough h a (taking s ∷ rest) x items
+      h-body : {h a s M q rest x items : _} → takes book text a s x ≡ Taken.body M →
+          Der h (inside book a (skipFrom text x)) M (skipFrom text x) q →
+          DThrough h a rest (q .rest) (items ▸ absent ▸ q .value) → DThrough h a (taking s ∷ rest) x items
+      h-no-name : {h a names kinds close M rest x items : _} →
+          DThrough h a (closing names kinds close M ∷ rest) x items →
+          DThrough h a (naming names kinds close M ∷ rest) x items
+      h-name : {h a names kinds close M d y rest x items : _} →
+          declarationAt book text (skipFrom text x) ≡ some d → afterElement text true (d .end) ≡ goes y →
+          DThrough h a (naming (names ++ (d .value ∷ [])) (kinds ▸ number (d .value .label)) close M ∷ rest) y items →
+          DThrough h a (naming names kinds close M ∷ rest) x items
+      h-last-name : {h a names kinds close M d y rest x items : _} →
+          declarationAt book text (skipFrom text x) ≡ some d → afterElement text true (d .end) ≡ halts y →
+          DThrough h a (closing (names ++ (d .value ∷ [])) (kinds ▸ number (d .value .label)) close M ∷ rest) y items →
+          DThrough h a (naming names kinds close M ∷ rest) x items
+      h-opening : {h a names kinds close M q y rest x items : _} → characterEnd text close x ≡ some y →
+          Der h (behind names ∷ inside book a (skipFrom text y)) M (skipFrom text y) q →
+          DThrough h a rest (q .rest) (items ▸ list kinds ▸ q .value) →
+          DThrough h a (closing names kinds close M ∷ rest) x items
 
   pub der-zero : {P : Path} {N u : ℕ} {p : Parse Tree} → Der zero P N u p → ⊥
   der-zero d = elim d [ ]
@@ -89,6 +110,12 @@ module _ (book : Book) (text : List ℕ) where
     raise-through (h-more d e t) k l = h-more (raise d k l) e (raise-through t k l)
     raise-through (h-last d e t) k l = h-last (raise d k l) e (raise-through t k l)
     raise-through (h-ending e t) k l = h-ending e (raise-through t k l)
+    raise-through (h-names e t) k l = h-names e (raise-through t k l)
+    raise-through (h-body e d t) k l = h-body e (raise d k l) (raise-through t k l)
+    raise-through (h-no-name t) k l = h-no-name (raise-through t k l)
+    raise-through (h-name e g t) k l = h-name e g (raise-through t k l)
+    raise-through (h-last-name e g t) k l = h-last-name e g (raise-through t k l)
+    raise-through (h-opening e d t) k l = h-opening e (raise d k l) (raise-through t k l)
 
   -- a child and what follows it, at one height
   record Both (P : Path) (M v : ℕ) (q : Parse Tree) (a : Attempt) (todo : List (Todo Trees)) (x : ℕ)
@@ -127,3 +154,11 @@ module _ (book : Book) (text : List ℕ) where
     height-through (by-last d e t) =
         let r = both (height d) (height-through t) in (r .top, h-last (r .child) e (r .way))
     height-through (by-ending e t) = let r = height-through t in (r .0, h-ending e (r .1))
+    height-through (by-names e t) = let r = height-through t in (r .0, h-names e (r .1))
+    height-through (by-body e d t) =
+        let r = both (height d) (height-through t) in (r .top, h-body e (r .child) (r .way))
+    height-through (by-no-name t) = let r = height-through t in (r .0, h-no-name (r .1))
+    height-through (by-name e g t) = let r = height-through t in (r .0, h-name e g (r .1))
+    height-through (by-last-name e g t) = let r = height-through t in (r .0, h-last-name e g (r .1))
+    height-through (by-opening e d t) =
+        let r = both (height d) (height-through t) in (r .top, h-opening e (r .child) (r .way))

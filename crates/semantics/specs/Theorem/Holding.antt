@@ -9,18 +9,19 @@ use mathlib.Core.Path.{_≡_, refl, sym, _∙_, subst}
 use mathlib.Core.Bool.{Bool, true, false, cond}
 use mathlib.Core.List.{List, [], _∷_, map, List·Memᴰ·not-nil, List·Memᴰ·eq-of-singleton}
 use mathlib.Core.Option.{Option, none, some}
-use Prim.Native.Nat.{ℕ, suc, _+_, _/_, _%_, _^_, _≤_}
+use Prim.Native.Nat.{ℕ, suc, _+_, _/_, _%_, _^_, _≤_, _<_}
 use native.Mathlib.Nat.{mod-lt}
 use native.Mathlib.Omega.{arith}
 use lib.ListN.{length}
 use lib.Pow.{pow-pos}
 use Rattle.characters.specs.Cases.{by-test, clash}
-use Rattle.book.specs.Book.{Book, nthVariant}
+use Rattle.book.specs.Book.{Entry, Book, nthVariant}
 use Rattle.book.specs.declared.records.Step.{Step}
 use Rattle.semantics.specs.Values.{Tree, Trees, Parse}
+use Rattle.semantics.specs.Numbers.{kindWords}
 use Rattle.semantics.specs.Uses.{Use, keeps}
 use Rattle.semantics.specs.Tokens.{Item as Read, when}
-use Rattle.semantics.specs.Steps.{Todo, taking, elements, ending, stepsOf, todoOf}
+use Rattle.semantics.specs.Steps.{Todo, taking, elements, ending, naming, closing, stepsOf, todoOf}
 use Rattle.semantics.specs.Cells.{Cell, one, several, meaningOf, meanings}
 use Rattle.semantics.specs.Errors.{Error}
 use Rattle.semantics.specs.Run.{ok, State, Parsed, parsed, Made, made, Call, kept, add, addAll, make, itemCell}
@@ -69,13 +70,17 @@ Values text C [] = Unit {0}
 Values text C (taking step ∷ rest) = Values text C rest
 Values text C (elements comma M values close ∷ rest) = Chain text C values × Values text C rest
 Values text C (ending values close ∷ rest) = Chain text C values × Values text C rest
+Values text C (naming names kinds close M ∷ rest) = Chain text C kinds × Values text C rest
+Values text C (closing names kinds close M ∷ rest) = Chain text C kinds × Values text C rest
 
 -- what is sure to add an item if it goes on: of the steps a child, the only one that a passing variant has, and every
--- list
+-- list. A passing variant is no binder
 abbrev pub Adds : Todo ℕ → Type 0
 Adds (taking step) = (M : ℕ) × (step ≡ Step.Nonterminal M)
 Adds (elements comma M values close) = Unit {0}
 Adds (ending values close) = Unit {0}
+Adds (naming names kinds close M) = ⊥
+Adds (closing names kinds close M) = ⊥
 
 -- a passing variant has its one item still before it, whatever its items are so far; or its items are the cell of that
 -- item, which is its value
@@ -142,6 +147,10 @@ values-still text (taking step ∷ rest) p h = values-still text rest p h
 values-still text (elements comma M values close ∷ rest) p h =
     (chain-still text p values (h .0), values-still text rest p (h .1))
 values-still text (ending values close ∷ rest) p h = (chain-still text p values (h .0), values-still text rest p (h .1))
+values-still text (naming names kinds close M ∷ rest) p h =
+    (chain-still text p kinds (h .0), values-still text rest p (h .1))
+values-still text (closing names kinds close M ∷ rest) p h =
+    (chain-still text p kinds (h .0), values-still text rest p (h .1))
 
 passing-still : (text : List ℕ) {C C′ : List Cell} (todo : List (Todo ℕ)) (items : ℕ) → Prefix C C′ →
     Passing text C todo items → Passing text C′ todo items
@@ -214,6 +223,59 @@ module _ {book : Book} {text : List ℕ} {C : List Cell} {j values : ℕ} {rest 
     values = (h .chain, h .wants .values);
     plain = h .wants .plain;
     passing = λ t. (tt, h .wants .passing t);
+  }
+
+-- a binder's names under way, with the chain of their kinds, and what is behind its body: no passing variant has one
+pub record Binder-left (book : Book) (text : List ℕ) (C : List Cell) (j kinds : ℕ) (rest : List (Todo ℕ))
+    (items : ℕ) : Type 0 where
+  pub chain : Chain text C kinds
+  pub wants : Wants book text C j rest items
+  pub not-passing : nthVariant book j .passing ≡ true → ⊥
+
+pub binder-still : {book : Book} {text : List ℕ} {C C′ : List Cell} {j kinds : ℕ} (rest : List (Todo ℕ)) (items : ℕ) →
+    Prefix C C′ → Binder-left book text C j kinds rest items → Binder-left book text C′ j kinds rest items
+binder-still {text = text} {kinds = kinds} rest items p h = record {
+  chain = chain-still text p kinds (h .chain);
+  wants = wants-still rest items p (h .wants);
+  not-passing = h .not-passing;
+}
+
+module _ {book : Book} {text : List ℕ} {C : List Cell} {j kinds : ℕ} {rest : List (Todo ℕ)} {items : ℕ}
+    {names : List Entry} {close M : ℕ} where
+  pub naming-left : Left book text C j (naming names kinds close M ∷ rest) items →
+      Binder-left book text C j kinds rest items
+  unfolding Values
+  naming-left h = record {
+    chain = h .values .0;
+    wants = record { values = h .values .1; plain = h .plain; passing = λ t. h .passing t .1 };
+    not-passing = λ t. h .passing t .0;
+  }
+
+  pub closing-left : Left book text C j (closing names kinds close M ∷ rest) items →
+      Binder-left book text C j kinds rest items
+  unfolding Values
+  closing-left h = record {
+    chain = h .values .0;
+    wants = record { values = h .values .1; plain = h .plain; passing = λ t. h .passing t .1 };
+    not-passing = λ t. h .passing t .0;
+  }
+
+  pub left-naming : Binder-left book text C j kinds rest items →
+      Left book text C j (naming names kinds close M ∷ rest) items
+  unfolding Values
+  left-naming h = record {
+    values = (h .chain, h .wants .values);
+    plain = h .wants .plain;
+    passing = λ t. absurd (h .not-passing t);
+  }
+
+  pub left-closing : Binder-left book text C j kinds rest items →
+      Left book text C j (closing names kinds close M ∷ rest) items
+  unfolding Values
+  left-closing h = record {
+    values = (h .chain, h .wants .values);
+    plain = h .wants .plain;
+    passing = λ t. absurd (h .not-passing t);
   }
 
 -- ---- Sets
@@ -340,6 +402,11 @@ module _ {text : List ℕ} (s : State) (m : Made) (tabled : Tabled text (s .cell
       make-item (Cell.number (n / 2 ^ 32) (n % 2 ^ 32)) _ refl (omega arith, mod-lt n (pow-pos 32)) e
   new-read (Read.variable i kind) fits e = make-item (Cell.variable i kind) _ refl tt e
   new-read (Read.declared depth index) fits e = make-item (Cell.declared depth index) _ refl tt e
+
+  -- the kind of a declared name
+  pub new-kind : (kind : ℕ) → kind < kindWords → make text (Cell.number 0 kind) s ≡ ok m → NewItem text (s .cells) m
+  unfolding meaningOf Fits
+  new-kind kind below e = make-item (Cell.number 0 kind) _ refl (omega arith, omega arith) e
 
 -- ---- The cells of a variant
 steps-values : (text : List ℕ) (C : List Cell) (l : List Step) → Values text C (map taking l)

@@ -16,7 +16,7 @@ use Rattle.book.specs.declared.records.Step.{Step}
 use Rattle.semantics.specs.Values.{Tree, Trees, no-trees, Parse}
 use Rattle.semantics.specs.Uses.{Use, Path, hasMark, minimum, same-start, governor, keeps}
 use Rattle.semantics.specs.Tokens.{freeEnd, claimed}
-use Rattle.semantics.specs.Steps.{Todo, taking, elements, ending, stepsOf, todoOf}
+use Rattle.semantics.specs.Steps.{Todo, taking, elements, ending, naming, closing, stepsOf, todoOf}
 use Rattle.semantics.specs.Cells.{Cell}
 use Rattle.semantics.specs.Errors.{Error}
 use Rattle.semantics.specs.Run.{ok, State, Parsed, parsed, Made, Call, call, withMine, Runner, allIn, kept, ask}
@@ -55,6 +55,8 @@ module _ (text : List ℕ) (Cf : List Cell) where
   todoFor (taking s) = taking s
   todoFor (elements comma M values close) = elements comma M (treesFor text Cf values) close
   todoFor (ending values close) = ending (treesFor text Cf values) close
+  todoFor (naming names kinds close M) = naming names (treesFor text Cf kinds) close M
+  todoFor (closing names kinds close M) = closing names (treesFor text Cf kinds) close M
 
   abbrev pub openFor : Call → Open
   openFor c = open′ (c .path) (map trees (c .stored)) (c .nonterminal) (c .start) (trees (c .mine))

@@ -4,6 +4,7 @@ use mathlib.Core.Path.{_≡_, refl, _∙_, ap, subst}
 use mathlib.Core.Bool.{true, false}
 use mathlib.Core.List.{List}
 use mathlib.Core.Option.{Option, none, some}
+use native.Mathlib.Omega.{arith}
 use Prim.Native.Nat.{ℕ, _/_, _%_, _^_}
 use lib.Pow.{split}
 use Rattle.characters.specs.Cases.{by-test, clash}
@@ -83,6 +84,13 @@ module _ (text : List ℕ) (Cf : List Cell) (table : Table text Cf) where
     made-item (Item.variable i kind) e b = ap treeIn (make-means text Cf table (Cell.variable i kind) s m e b)
     made-item (Item.declared depth index) e b =
         ap treeIn (make-means text Cf table (Cell.declared depth index) s m e b)
+
+    -- the kind of a declared name
+    pub made-kind : (kind : ℕ) → make text (Cell.number 0 kind) s ≡ ok m → Before Cf (m .state) →
+        treeFor text Cf (m .cell) ≡ Tree.number kind
+    unfolding meaningOf treeIn
+    made-kind kind e b =
+        ap treeIn (make-means text Cf table (Cell.number 0 kind) s m e b) ∙ ap Tree.number (omega arith)
 
   module _ (book : Book) (j : ℕ) where
     -- the items of a variant under way, as a cell and as trees. A passing variant has the cell of its last item

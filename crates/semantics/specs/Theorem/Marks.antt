@@ -15,6 +15,7 @@ use Rattle.semantics.specs.Theorem.BigStep.{Enters, again, identifier, q
 use Rattle.semantics.specs.Theorem.BigStep.{last, more, Variants, no-more, too-low, taken}
 use Rattle.semantics.specs.Theorem.BigStep.{Steps, s-done, s-nothing, s-token, s-child, s-optional, s-list}
 use Rattle.semantics.specs.Theorem.BigStep.{s-unopened, s-elements, s-unclosed, s-ending}
+use Rattle.semantics.specs.Theorem.BigStep.{s-names, s-body, s-no-name, s-name, s-unopening, s-opening}
 use Rattle.semantics.specs.Theorem.BigStep.{Each, e-none, e-one}
 
 -- marks that come to be equal to others
@@ -59,6 +60,12 @@ module _ (book : Book) (text : List ℕ) where
     m-steps (s-elements s c es j) = le-then (m-steps s) (le-then (m-enters c) (m-each es))
     m-steps (s-unclosed e) = le-refl
     m-steps (s-ending e s) = m-steps s
+    m-steps (s-names e s) = m-steps s
+    m-steps (s-body e c es) = le-then (m-enters c) (m-each es)
+    m-steps (s-no-name e s) = m-steps s
+    m-steps (s-name e l s t j) = le-then (m-steps s) (m-steps t)
+    m-steps (s-unopening e) = le-refl
+    m-steps (s-opening e c es) = le-then (m-enters c) (m-each es)
 
     pub m-each : {o : Open} {j : ℕ} {c : Follows} {Q : List (Parse Tree)} {B : List Bool} {R : List (Parse Tree)}
         {B′ : List Bool} → Each book text o j c Q B R B′ → Le B B′

@@ -1,7 +1,7 @@
 -- What the run finds has a derivation. Recursion on the run: a call finds parses of its use if the stored sets of the
 -- open calls around it hold parses of theirs, and in each of its rounds the call's own stored set does too. Of the
 -- governor this takes one fact: it stands in the path.
-use mathlib.Core.Path.{_≡_, refl, subst}
+use mathlib.Core.Path.{_≡_, refl, sym, subst}
 use mathlib.Core.Bool.{Bool, true, false, cond, _&&_}
 use mathlib.Core.List.{List, [], _∷_, List·Memᴰ·head, List·Memᴰ·tail, List·Memᴰ·not-nil, List·Memᴰ·eq-of-singleton}
 use mathlib.Core.Option.{Option, none, some}
@@ -13,11 +13,12 @@ use Rattle.book.specs.Book.{Entry, Book, nthNonterminal, nthVariant}
 use Rattle.semantics.specs.Values.{Tree, Trees, no-trees, Parse}
 use Rattle.semantics.specs.Uses.{Use, Path, within, behind, useOf, hasMark, Governor, minimum, same-start, outwards, govern}
 use Rattle.semantics.specs.Uses.{governor, keeps}
-use Rattle.semantics.specs.Tokens.{freeEnd, claimed}
-use Rattle.semantics.specs.Steps.{After, goes, halts, afterElement, Todo, elements, todoOf}
+use Rattle.semantics.specs.Tokens.{Read, freeEnd, claimed, declarationAt}
+use Rattle.semantics.specs.Steps.{After, goes, halts, afterElement, Todo, elements, naming, todoOf}
 use Rattle.semantics.specs.Derivations.{attempt, Derives, by-variant, by-governor, by-identifier}
 use Rattle.semantics.specs.Derivations.{Through, done, by-token, by-child, by-absent, by-one, by-list}
 use Rattle.semantics.specs.Derivations.{by-unopened, by-stop, by-more, by-last, by-ending}
+use Rattle.semantics.specs.Derivations.{by-names, by-body, by-no-name, by-name, by-last-name, by-opening}
 use Rattle.semantics.specs.Theorem.Lists.{_∈_, sift-out, nth, only, either}
 use Rattle.semantics.specs.Theorem.BigStep.{Sets, Open, open′, around, inside, Follows, Left, onward, resume}
 use Rattle.semantics.specs.Theorem.BigStep.{named}
@@ -25,6 +26,7 @@ use Rattle.semantics.specs.Theorem.BigStep.{Enters, again, identifier, q
 use Rattle.semantics.specs.Theorem.BigStep.{last, more, Variants, no-more, too-low, taken}
 use Rattle.semantics.specs.Theorem.BigStep.{Steps, s-done, s-nothing, s-token, s-child, s-optional, s-list}
 use Rattle.semantics.specs.Theorem.BigStep.{s-unopened, s-elements, s-unclosed, s-ending}
+use Rattle.semantics.specs.Theorem.BigStep.{s-names, s-body, s-no-name, s-name, s-unopening, s-opening, withName}
 use Rattle.semantics.specs.Theorem.BigStep.{Each, e-none, e-one}
 
 -- ---- A governor stands in the path
@@ -76,6 +78,10 @@ module _ (book : Book) (text : List ℕ) where
   truthful : (o : Open) (j x : ℕ) → Truthful (o .path) (o .sets) → Mine o → Truthful (inside book text o j x) (around o)
   truthful o j x h t zero f Q here p m = t p m
   truthful o j x h t (suc i) f Q (there a) p m = h i f Q a p m
+
+  -- behind an opening the calls around are the same
+  truthful-behind : (names : List Entry) (P : Path) (S : Sets) → Truthful P S → Truthful (behind names ∷ P) S
+  truthful-behind names P S h i f Q (past a) p m = h i f Q a p m
 
   nothing-stored : (P : Path) (S : Sets) (N u : ℕ) → Mine (open′ P S N u [])
   nothing-stored P S N u p m = absurd (List·Memᴰ·not-nil m)
@@ -145,6 +151,14 @@ module _ (book : Book) (text : List ℕ) where
   after-element d (goes y) e t = by-more d e t
   after-element d (halts y) e t = by-last d e t
 
+  after-name : {P : Path} {N u j x : ℕ} {d : Read Entry} {names : List Entry} {kinds : Trees} {close M : ℕ}
+      {p : Parse Tree} {rest : List (Todo Trees)} {items : Trees} →
+      declarationAt book text (skipFrom text x) ≡ some d → (z : After) → afterElement text true (d .end) ≡ z →
+      ThroughLeft P N u j (withName book text z (d .value) names kinds close M rest items) p →
+      Through book text (attempt P N u j p) (naming names kinds close M ∷ rest) x items
+  after-name e (goes y) g t = by-name e g t
+  after-name e (halts y) g t = by-last-name e g t
+
   mutual
     pub s-enters : {P : Path} {S : Sets} {A : List Bool} {N u : ℕ} {R : List (Parse Tree)} {A′ : List Bool} →
         Enters book text P S A N u R A′ → Truthful P S → (p : Parse Tree) → p ∈ R → Derives book text P N u p
@@ -203,6 +217,20 @@ module _ (book : Book) (text : List ℕ) where
         (afterElement text comma (f .q .rest)) refl (f .way))
     s-steps (s-unclosed e) h t p m = absurd (List·Memᴰ·not-nil m)
     s-steps (s-ending e s) h t p m = by-ending e (s-steps s h t p m)
+    s-steps (s-names e s) h t p m = by-names e (s-steps s h t p m)
+    s-steps (s-body {o} {j} {x} e c es) h t p m =
+        let f = s-each es h t p m in
+        by-body e (s-enters c (truthful o j (skipFrom text x) h t) (f .q) (f .found)) (f .way)
+    s-steps (s-no-name e s) h t p m = by-no-name (s-steps s h t p m)
+    s-steps (s-name {o} {j} {d = d} e l s r u) h t p m =
+        either (u .out p m) (λ n. by-no-name (s-steps s h t p n)) (λ n.
+        after-name e (afterElement text true (d .end)) refl
+        (subst (λ k. ThroughLeft (o .path) (o .nonterminal) (o .start) j k p) (sym l) (s-steps r h t p n)))
+    s-steps (s-unopening e) h t p m = absurd (List·Memᴰ·not-nil m)
+    s-steps (s-opening {o} {j} {y = y} {names = names} e c es) h t p m =
+        let f = s-each es h t p m in
+        by-opening e
+        (s-enters c (truthful-behind names _ _ (truthful o j (skipFrom text y) h t)) (f .q) (f .found)) (f .way)
 
     s-each : {o : Open} {j : ℕ} {c : Follows} {Q : List (Parse Tree)} {B : List Bool} {R : List (Parse Tree)}
         {B′ : List Bool} → Each book text o j c Q B R B′ →

@@ -6,7 +6,7 @@ use mathlib.Core.Option.{Option, none, some}
 use Prim.Native.Nat.{ℕ, suc, _+_, _^_, _≤_, _<_}
 use native.Mathlib.Omega.{arith}
 use lib.Dec.{eqb}
-use lib.ListN.{length}
+use lib.ListN.{length, take, length-take}
 use Rattle.characters.specs.Cases.{by-test}
 use Rattle.characters.specs.Skipping.{skipFrom}
 use Rattle.characters.specs.Spelling.{same}
@@ -14,12 +14,13 @@ use Rattle.characters.specs.Lexemes.{identifierAt, numberAt}
 use Rattle.characters.specs.LexemeLaws.{identifier-bounds, number-bounds}
 use Rattle.characters.specs.declared.lexemes.Identifier.{Identifier}
 use Rattle.characters.specs.declared.lexemes.Number.{Number}
-use Rattle.book.specs.Book.{Entry, Book, nthEntry, lookupName}
+use Rattle.book.specs.Book.{Entry, Book, nthEntry, lookupName, leastWord}
 use Rattle.book.specs.declared.names.Found.{Found}
 use Rattle.book.specs.declared.records.Step.{Step}
+use Rattle.semantics.specs.Numbers.{kindWords}
 use Rattle.semantics.specs.Uses.{Scope}
 use Rattle.semantics.specs.Tokens.{Item, Variable, Read, characterEnd, identifierEnd, spelled, reservedAt, freeEnd}
-use Rattle.semantics.specs.Tokens.{variableIn, variableAt}
+use Rattle.semantics.specs.Tokens.{variableIn, variableAt, kindAt, nameOfKind, declarationAt}
 use Rattle.semantics.specs.Steps.{Token, Taken, stepAt}
 use Rattle.semantics.specs.Theorem.Results.{none-some, some-inj, option-cases}
 
@@ -42,6 +43,47 @@ free-end-within book text at end q =
     by-test (reservedAt book text at)
     (λ t. absurd (none-some (rw (t, freeEnd) at q)))
     (λ t. identifier-within text at end (rw (t, freeEnd) at q))
+
+-- ---- Declared names
+-- the number of a word is one of those looked at
+least-below : (i : ℕ) (words : List Entry) (spelling : List ℕ) (kind : ℕ) → leastWord i words spelling ≡ some kind →
+    kind < i + length words
+unfolding leastWord
+least-below i [] spelling kind e = absurd (none-some e)
+least-below i (w ∷ words) spelling kind e =
+    by-test (same spelling (w .spelling))
+    (λ t. let is : i ≡ kind = some-inj (rw (t, leastWord) at e) in omega arith)
+    (λ t. let k = least-below (suc i) words spelling kind (rw (t, leastWord) at e) in omega arith)
+
+module _ (book : Book) (text : List ℕ) where
+  kind-below : (at : ℕ) (k : Read ℕ) → kindAt book text at ≡ some k → k .value < kindWords
+  unfolding kindAt
+  kind-below at k q =
+      option-cases (identifierEnd text at)
+      (λ e. absurd (none-some (rw (e, kindAt) at q)))
+      (λ end e.
+      let words = take kindWords (book .words) in
+      let few : length words ≤ kindWords = rw (length-take kindWords (book .words)) (omega arith) in
+      option-cases (leastWord 0 words (spelled text at end))
+      (λ missing. absurd (none-some (rw (e, missing, kindAt) at q)))
+      (λ kind there.
+      let is : kind ≡ k .value = ap (λ (z : Read ℕ). z .value) (some-inj (rw (e, there, kindAt) at q)) in
+      let below = least-below 0 words (spelled text at end) kind there in omega arith))
+
+  -- the kind of a declared name is the number of one of the words for kinds
+  pub declared-kind : (at : ℕ) (d : Read Entry) → declarationAt book text at ≡ some d → d .value .label < kindWords
+  unfolding declarationAt nameOfKind
+  declared-kind at d q =
+      option-cases (kindAt book text at)
+      (λ e. absurd (none-some (rw (e, declarationAt) at q)))
+      (λ k e.
+      let after = skipFrom text (k .end) in
+      option-cases (freeEnd book text after)
+      (λ missing. absurd (none-some (rw (e, missing, declarationAt, nameOfKind) at q)))
+      (λ end there.
+      let is : k .value ≡ d .value .label =
+      ap (λ (z : Read Entry). z .value .label) (some-inj (rw (e, there, declarationAt, nameOfKind) at q)) in
+      let below = kind-below at k e in omega arith))
 
 -- ---- What a step reads
 abbrev pub ReadFits : List ℕ → Item → Type 0
