@@ -10,22 +10,24 @@ use Rattle.characters.specs.Classes.{classOf}
 use Rattle.characters.specs.Skipping.{leading, spanEnd, commentAt, commentEnd, roundEnd, skipRounds, skipFrom}
 use Rattle.characters.specs.Lexemes.{identifierAt, decimal, numberOf, numberAt}
 use Rattle.characters.specs.Spelling.{same}
-use Rattle.book.specs.Book.{isReserved, lookupFrom}
+use Rattle.book.specs.Book.{isReserved, lookupFrom, leastWord}
 use Rattle.book.specs.Check.{checked, records, spelling, entry, nonterminal, variant, stepOf, step, allPass, ended}
 use Rattle.book.specs.Check.{entireBook}
 use Rattle.book.specs.Check.{checkBook}
 use Rattle.semantics.specs.Uses.{scopeOf, outwards, govern, governor}
-use Rattle.semantics.specs.Tokens.{isSome, characterEnd, identifierEnd, reservedAt, freeEnd, variableIn, variableAt}
-use Rattle.semantics.specs.Tokens.{hasClaimant, when}
+use Rattle.semantics.specs.Tokens.{isSome, characterEnd, identifierEnd, reservedAt, freeEnd, variableIn}
+use Rattle.semantics.specs.Tokens.{variableAt, hasClaimant, kindAt, nameOfKind, declarationAt, when}
 use Rattle.semantics.specs.Steps.{stepAt, afterElement, closed}
 use Rattle.semantics.specs.Cells.{numbersOf, cellsIn, identityOf, findCell, treeIn, treesIn, meaningOf, meanings}
 use Rattle.semantics.specs.Cells.{treeAt}
-use Rattle.semantics.specs.Errors.{join, beyond, joinWith, choiceError, identifierError, stepError}
+use Rattle.semantics.specs.Errors.{join, beyond, joinWith, choiceError, identifierError, declarationError}
+use Rattle.semantics.specs.Errors.{stepError}
 use Rattle.semantics.specs.Run.{_>>=_, sameParse, has, allIn, kept, add, addAll, ask, newest, others, spend, make}
-use Rattle.semantics.specs.Run.{itemCell, withCell, withToken, nested, closingCode, begin, complete, counted}
-use Rattle.semantics.specs.Run.{variants, oneRun, rounds as roundsRun, failedCall, runCall, named, runIdentifier}
-use Rattle.semantics.specs.Run.{reentry, enter, enterChild, either, followMore, follow, followed, plainNext}
-use Rattle.semantics.specs.Run.{listNext, chosen, stops, stepUnit, orAbsent, choice, listing, steps, runner, run}
+use Rattle.semantics.specs.Run.{itemCell, declaredNames, openScope, withCell, withToken, nested, closingCode}
+use Rattle.semantics.specs.Run.{begin, complete, counted, variants, oneRun, rounds as roundsRun, failedCall}
+use Rattle.semantics.specs.Run.{runCall, named, runIdentifier, reentry, enter, enterChild, either, followMore}
+use Rattle.semantics.specs.Run.{follow, followed, plainNext, listNext, chosen, stops, stepUnit, orAbsent, choice}
+use Rattle.semantics.specs.Run.{listing, bodyAfter, opens, declares, nameChoice, steps, runner, run}
 use Rattle.semantics.specs.Answer.{cellNumbers, parseNumbers, written, wholeValues, allAre, firstHigh, byValues}
 use Rattle.semantics.specs.Answer.{atEnd, onBook, answerOf, Answered}
 
@@ -76,14 +78,15 @@ times a b = Tree.variant 2 (no-trees ▸ a ▸ b)
 -- what the rows compute with: every definition that is shut
 unfoldable pub computing : Unit {0}
 unfolding classOf leading spanEnd commentAt commentEnd roundEnd skipRounds skipFrom identifierAt decimal numberOf
-    numberAt same isReserved lookupFrom checked records spelling entry nonterminal variant stepOf step allPass ended
-    entireBook checkBook outwards govern governor isSome characterEnd identifierEnd reservedAt freeEnd scopeOf
-    variableIn variableAt stepAt hasClaimant afterElement closed numbersOf cellsIn identityOf findCell treeIn treesIn meaningOf meanings join
-    beyond joinWith choiceError identifierError stepError _>>=_ sameParse has allIn kept add addAll ask newest others
-    spend make itemCell withCell withToken nested closingCode begin complete counted variants oneRun roundsRun
+    numberAt same isReserved lookupFrom leastWord checked records spelling entry nonterminal variant stepOf step
+    allPass ended entireBook checkBook outwards govern governor isSome characterEnd identifierEnd reservedAt freeEnd
+    scopeOf variableIn variableAt stepAt hasClaimant kindAt nameOfKind declarationAt afterElement closed numbersOf
+    cellsIn identityOf findCell treeIn treesIn meaningOf meanings join beyond joinWith choiceError identifierError
+    declarationError stepError _>>=_ sameParse has allIn kept add addAll ask newest others spend make itemCell
+    declaredNames openScope withCell withToken nested closingCode begin complete counted variants oneRun roundsRun
     failedCall runCall named runIdentifier reentry enter enterChild either followMore follow followed plainNext
-    listNext chosen stops stepUnit orAbsent choice listing steps runner run cellNumbers parseNumbers written
-    wholeValues allAre firstHigh byValues atEnd onBook answerOf
+    listNext chosen stops stepUnit orAbsent choice listing bodyAfter opens declares nameChoice steps runner run
+    cellNumbers parseNumbers written wholeValues allAre firstHigh byValues atEnd onBook answerOf
 computing = tt
 
 pub record Rows : Type 0 where

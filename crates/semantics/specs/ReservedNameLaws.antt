@@ -21,8 +21,7 @@ use Rattle.book.specs.declared.names.Found.{Found}
 use Rattle.book.specs.declared.records.Step.{Step}
 use Rattle.semantics.specs.Numbers.{reservedFound, wrongKind}
 use Rattle.semantics.specs.Tokens.{Variable, Read, isSome, identifierEnd, spelled, reservedAt, freeEnd}
-use Rattle.semantics.specs.Tokens.{variableIn, variableAt}
-use Rattle.semantics.specs.Tokens.{claimed}
+use Rattle.semantics.specs.Tokens.{variableIn, variableAt, claimed}
 use Rattle.semantics.specs.Errors.{Error, error, identifierError, stepError}
 use Rattle.semantics.specs.Run.{ok, State, parsed, Call, failedCall, named, runIdentifier}
 use Rattle.semantics.specs.ReservedNames.{variableBefore, kindErrorBefore, NoReservedNameAt, NoReservedName}
@@ -42,7 +41,8 @@ module _ (book : Book) (text : List ℕ) where
   -- where an identifier stands, the text hasn't ended
   not-ended : (at end : ℕ) → identifierEnd text at ≡ some end → eqb at (length text) ≡ false
   not-ended at end e =
-      let within = identifier-within text at end e in ne-eqb at (length text) (λ is. omega (arith, within .0, within .1))
+      let within = identifier-within text at end e in
+      ne-eqb at (length text) (λ is. omega (arith, within .0, within .1))
 
   -- where one that isn't reserved stands, none is missing
   identifier-there : (at end : ℕ) (other : Error) → identifierEnd text at ≡ some end →
@@ -117,7 +117,8 @@ no-name-at book none-reserved text at reserved-there =
     (λ e. rw (e, variableAt))
     (λ end e.
     let reserved : isReserved (book .words) (spelled text at end) ≡ true = rw (e, reservedAt) at reserved-there in
-    rw (e, variableAt, variableIn, lookup-nothing (book .words) (book .names) 0 (spelled text at end) reserved none-reserved) refl)
+    let no-name = lookup-nothing (book .words) (book .names) 0 (spelled text at end) reserved none-reserved in
+    rw (e, variableAt, variableIn, no-name) refl)
 
 pub unmoved : Unmoved
 unmoved book none-reserved text at = unmoved-at book text at (no-name-at book none-reserved text at)

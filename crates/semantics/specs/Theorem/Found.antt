@@ -14,6 +14,7 @@ use Rattle.characters.specs.Classes.{between}
 use Rattle.characters.specs.Skipping.{skipFrom}
 use Rattle.book.specs.Book.{Book}
 use Rattle.book.specs.Check.{checkBook, Outcome}
+use Rattle.semantics.specs.Numbers.{isLimit}
 use Rattle.semantics.specs.Values.{Tree, Parse, whole}
 use Rattle.semantics.specs.Errors.{Error}
 use Rattle.semantics.specs.Derivations.{DerivesText}
@@ -264,7 +265,7 @@ module _ (cells parses bytes text : List ℕ) (start allowance : ℕ) (book : Bo
   result-cases (met number units) f g = g number units refl
 
   after-run :
-      between 20 23 (atEnd cells parses text allowance (run book text allowance start) .answer .refusal) ≡ false →
+      isLimit (atEnd cells parses text allowance (run book text allowance start) .answer .refusal) ≡ false →
       Exact book text start (atEnd cells parses text allowance (run book text allowance start))
   unfolding atEnd
   after-run no-limit =
@@ -296,4 +297,4 @@ found-is-exactly-derivable cells parses bytes text start allowance book accepted
     let same = by-run cells parses bytes text start allowance book accepted not-refused in
     subst (Exact book text start) (sym same)
     (after-run cells parses bytes text start allowance book accepted
-    (subst (λ (a : Answered). between 20 23 (a .answer .refusal) ≡ false) same no-limit))
+    (subst (λ (a : Answered). isLimit (a .answer .refusal) ≡ false) same no-limit))

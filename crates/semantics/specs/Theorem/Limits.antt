@@ -1,8 +1,8 @@
--- The run meets no other limit than 20 to 23. A part of the run is limited where no other number comes out of it. The
--- parts that meet a limit themselves are `spend` (20), `nested` (21), `add` and `rounds` (22) and `make` (23); every
--- other part hands on what it meets. So each is limited if what it runs is: the runner one level further in, what is
--- left on the same level (a `Go`), and what follows a parse (a `Next`). The law of a part has the part's own shape, and
--- the whole is by the levels of nesting.
+-- The run meets no other limit than 20 to 23 and 41. A part of the run is limited where no other number comes out of
+-- it. The parts that meet a limit themselves are `spend` (20), `nested` (21), `add` and `rounds` (22), `make` (23) and
+-- `openScope` (41); every other part hands on what it meets. So each is limited if what it runs is: the runner one
+-- level further in, what is left on the same level (a `Go`), and what follows a parse (a `Next`). The law of a part has
+-- the part's own shape, and the whole is by the levels of nesting.
 use mathlib.Core.Path.{_≡_, refl, sym, subst}
 use mathlib.Core.Bool.{Bool, true}
 use mathlib.Core.List.{List, [], _∷_}
@@ -12,33 +12,35 @@ use lib.Dec.{leb, ltb, eqb}
 use lib.ListN.{length}
 use Rattle.characters.specs.Cases.{by-test}
 use Rattle.characters.specs.Classes.{between}
-use Rattle.book.specs.Book.{Book, nthVariant, stepNumber}
+use Rattle.characters.specs.Skipping.{skipFrom}
+use Rattle.book.specs.Book.{Entry, Book, nthVariant, stepNumber}
 use Rattle.book.specs.declared.records.Step.{Step}
+use Rattle.semantics.specs.Numbers.{mostDeclared, tooManyNames, isLimit}
 use Rattle.semantics.specs.Values.{Parse}
-use Rattle.semantics.specs.Uses.{Path, scopeOf, hasMark, governor}
-use Rattle.semantics.specs.Tokens.{Item, freeEnd, claimed}
-use Rattle.semantics.specs.Steps.{stepAt, afterElement, closed, Todo, taking, elements, ending}
+use Rattle.semantics.specs.Uses.{Path, Scope, scopeOf, hasMark, governor}
+use Rattle.semantics.specs.Tokens.{Item, characterEnd, freeEnd, claimed, declarationAt}
+use Rattle.semantics.specs.Steps.{stepAt, afterElement, closed, Todo, taking, elements, ending, naming, closing}
 use Rattle.semantics.specs.Cells.{Cell, findCell}
 use Rattle.semantics.specs.Errors.{Error}
 use Rattle.semantics.specs.Run.{Result, met, ok, _>>=_, State, Parsed, Call, Runner, Go, Next, has, allIn, newest}
-use Rattle.semantics.specs.Run.{add, addAll, spend, make, begin, withCell}
+use Rattle.semantics.specs.Run.{add, addAll, spend, make, declaredNames, openScope, begin, withCell}
 use Rattle.semantics.specs.Run.{withToken, complete, variants, oneRun, rounds, runCall, named, runIdentifier}
 use Rattle.semantics.specs.Run.{plainNext, listNext, stops, nested, enter, enterChild}
-use Rattle.semantics.specs.Run.{followMore, follow, followed, stepUnit, orAbsent, choice, listing, steps, runner}
-use Rattle.semantics.specs.Run.{run}
+use Rattle.semantics.specs.Run.{followMore, follow, followed, stepUnit, orAbsent, choice, listing, bodyAfter}
+use Rattle.semantics.specs.Run.{opens, declares, nameChoice, steps, runner, run}
 use Rattle.semantics.specs.Theorem.Results.{met-ok, option-cases, list-cases, governor-cases, after-cases}
 use Rattle.semantics.specs.Theorem.Results.{taken-cases}
 
--- no other limit than 20 to 23
+-- no other limit than those of the run
 pub record Limited {A : Type 0} (x : Result A) : Type 0 where
-  pub limits : (number units : ℕ) → x ≡ met number units → between 20 23 number ≡ true
+  pub limits : (number units : ℕ) → x ≡ met number units → isLimit number ≡ true
 
 met-number : {A : Type 0} {n w number units : ℕ} → _≡_ {A = Result A} (met n w) (met number units) → n ≡ number
 met-number e = cc
 
--- a limit from 20 to 23
-meets : {A : Type 0} (n w : ℕ) → between 20 23 n ≡ true → Limited {A = A} (met n w)
-meets n w b = record { limits = λ number units e. subst (λ z. between 20 23 z ≡ true) (met-number e) b }
+-- a limit of the run
+meets : {A : Type 0} (n w : ℕ) → isLimit n ≡ true → Limited {A = A} (met n w)
+meets n w b = record { limits = λ number units e. subst (λ z. isLimit z ≡ true) (met-number e) b }
 
 -- a result is no limit
 done : {A : Type 0} {a : A} → Limited (ok a)
@@ -68,7 +70,7 @@ abbrev LimitedNext : Next → Type 0
 LimitedNext next =
     (q : Parse ℕ) (s : State) (f : Runner) (set : List (Parse ℕ)) → LimitedRunner f → Limited (next q s f set)
 
--- ---- Sets, units and cells
+-- ---- Sets, units, cells and scopes
 add-limited : (s : State) (set : List (Parse ℕ)) (p : Parse ℕ) → Limited (add s set p)
 unfolding add
 add-limited s set p =
@@ -90,6 +92,14 @@ make-limited text c s =
     by-test (eqb (findCell text c 1 (s .cells)) 0)
     (λ t. by-test (ltb (length (s .cells)) 4096) (λ u. rw (t, u) done) (λ u. rw (t, u) (meets 23 (s .units) refl)))
     (λ t. rw t done)
+
+open-scope-limited : (opening : Option (List Entry)) (scope : Scope) (s : State) → Limited (openScope opening scope s)
+unfolding openScope
+open-scope-limited none scope s = done
+open-scope-limited (some names) scope s =
+    by-test (leb (declaredNames (names ∷ scope)) mostDeclared)
+    (λ t. rw t done)
+    (λ t. rw t (meets tooManyNames (s .units) refl))
 
 module _ (book : Book) (text : List ℕ) where
   -- ---- A variant's cells
@@ -206,9 +216,10 @@ module _ (book : Book) (text : List ℕ) where
         (λ mark. rw mark (then _ _ (run-call-limited f h _ m _) (λ r. done))))))
         (λ i f Q gov. rw gov done))
 
-    enter-child-limited : (c : Call) (j M x : ℕ) (s : State) → Limited (enterChild book text inner c j M x s)
+    enter-child-limited : (opening : Option (List Entry)) (c : Call) (j M x : ℕ) (s : State) →
+        Limited (enterChild book text inner opening c j M x s)
     unfolding enterChild
-    enter-child-limited c j M x s = enter-limited _ _ M _ s
+    enter-child-limited opening c j M x s = enter-limited _ _ M _ s
 
     follow-more-limited : (next : Next) → LimitedNext next → (qs set : List (Parse ℕ)) (d : Option Error) (s : State) →
         Limited (followMore book text inner next qs set d s)
@@ -244,7 +255,7 @@ module _ (book : Book) (text : List ℕ) where
         then _ _ (make-limited text Cell.absent s) (λ absent.
         then _ _ (with-cell-limited j items (absent .cell) (absent .state)) (λ m.
         then _ _ (h x (m .cell) set (m .state)) (λ a.
-        then _ _ (enter-child-limited c j M x (a .state)) (λ r.
+        then _ _ (enter-child-limited none c j M x (a .state)) (λ r.
         then _ _ (followed-limited _ (plain-next-limited c j rest items) (a .set) r) (λ b. done)))))
 
     choice-limited :
@@ -254,7 +265,7 @@ module _ (book : Book) (text : List ℕ) where
     choice-limited c j comma M values close rest go h x items set s₀ =
         then _ _ (spend-limited s₀) (λ s.
         then _ _ (stops-limited j values close go h x items set s) (λ a.
-        then _ _ (enter-child-limited c j M x (a .state)) (λ r.
+        then _ _ (enter-child-limited none c j M x (a .state)) (λ r.
         then _ _ (followed-limited _ (list-next-limited c j comma M values close rest items) (a .set) r) (λ b. done))))
 
     listing-limited : (c : Call) (j : ℕ) (comma : Bool) (M : ℕ) (close : Option ℕ) (rest : List (Todo ℕ)) (go : Go) →
@@ -264,27 +275,82 @@ module _ (book : Book) (text : List ℕ) where
         then _ _ (make-limited text Cell.empty s)
         (λ e. choice-limited c j comma M (e .cell) close rest go h x items set (e .state))
 
-    steps-limited : LimitedRunner (steps book text inner)
+    -- a binder
+    module _ (c : Call) (j : ℕ) where
+      body-after-limited : (opening : Option (List Entry)) (M item : ℕ) (rest : List (Todo ℕ)) →
+          LimitedGo (bodyAfter book text inner opening c j M item rest)
+      unfolding bodyAfter
+      body-after-limited opening M item rest x items set s₀ =
+          then _ _ (with-cell-limited j items item s₀) (λ m.
+          then _ _ (open-scope-limited opening (scopeOf (c .path)) (m .state)) (λ s.
+          then _ _ (enter-child-limited opening c j M x s)
+          (λ r. followed-limited _ (plain-next-limited c j rest (m .cell)) set r)))
+
+      module _ (names : List Entry) (kinds close M : ℕ) (rest : List (Todo ℕ)) where
+        opens-limited : LimitedGo (opens book text inner c j names kinds close M rest)
+        unfolding opens
+        opens-limited x items set s =
+            then _ _ (make-limited text _ s) (λ l.
+            option-cases (characterEnd text close x)
+            (λ unclosed. rw unclosed done)
+            (λ y ends. rw ends (body-after-limited (some names) M (l .cell) rest y items set (l .state))))
+
+        declares-limited : LimitedGo (declares book text inner c j names kinds close M rest)
+        unfolding declares
+        declares-limited x items set s₀ =
+            then _ _ (spend-limited s₀) (λ s.
+            nested-limited inner limited s _ (λ f h.
+            option-cases (declarationAt book text (skipFrom text x))
+            (λ missing. rw missing done)
+            (λ d there. rw there (then _ _ (make-limited text _ s) (λ k.
+            then _ _ (make-limited text _ (k .state)) (λ m.
+            after-cases (afterElement text true (d .end))
+            (λ y on. rw on (h c j _ y items set (m .state)))
+            (λ y ends. rw ends (h c j _ y items set (m .state)))))))))
+
+        name-choice-limited : LimitedGo (nameChoice book text inner c j names kinds close M rest)
+        unfolding nameChoice
+        name-choice-limited x items set s₀ =
+            then _ _ (spend-limited s₀) (λ s.
+            then _ _ (opens-limited x items set s) (λ a.
+            then _ _ (declares-limited x items (a .set) (a .state)) (λ b. done)))
+
+    taking-limited : (c : Call) (j : ℕ) (step : Step) (rest : List (Todo ℕ)) →
+        LimitedGo (steps book text inner c j rest) → LimitedGo (steps book text inner c j (taking step ∷ rest))
     unfolding steps
-    steps-limited c j [] x items set s = complete-limited j x items set s
-    steps-limited c j (elements comma M values close ∷ rest) x items set s =
-        choice-limited c j comma M values close rest _ (λ y is u t. steps-limited c j rest y is u t) x items set s
-    steps-limited c j (ending values close ∷ rest) x items set s =
-        stops-limited j values close _ (λ y is u t. steps-limited c j rest y is u t) x items set s
-    steps-limited c j (taking step ∷ rest) x items set s₀ =
-        let go = steps book text inner c j rest in
-        let h : LimitedGo go = λ y is u t. steps-limited c j rest y is u t in
+    taking-limited c j step rest h x items set s₀ =
         then _ _ (step-unit-limited step s₀) (λ s.
         taken-cases (stepAt book text (scopeOf (c .path)) step x)
         (λ takes. rw takes done)
         (λ t takes.
         rw takes (then _ _ (with-token-limited j items (t .item) s) (λ m. h (t .next) (m .cell) set (m .state))))
         (λ M takes. rw takes
-        (then _ _ (enter-child-limited c j M x s) (λ r. followed-limited _ (plain-next-limited c j rest items) set r)))
-        (λ M takes. rw takes (or-absent-limited c j M rest go h x items set s))
-        (λ comma M close y takes. rw takes (listing-limited c j comma M close rest go h y items set s))
+        (then _ _ (enter-child-limited none c j M x s)
+        (λ r. followed-limited _ (plain-next-limited c j rest items) set r)))
+        (λ M takes. rw takes (or-absent-limited c j M rest _ h x items set s))
+        (λ comma M close y takes. rw takes (listing-limited c j comma M close rest _ h y items set s))
         (λ y takes. rw takes
-        (then _ _ (make-limited text Cell.empty s) (λ e. stops-limited j (e .cell) none go h y items set (e .state)))))
+        (then _ _ (make-limited text Cell.empty s) (λ e. stops-limited j (e .cell) none _ h y items set (e .state))))
+        (λ close M y takes. rw takes
+        (then _ _ (make-limited text Cell.empty s)
+        (λ e. name-choice-limited c j [] (e .cell) close M rest y items set (e .state))))
+        (λ M takes. rw takes
+        (then _ _ (make-limited text Cell.absent s)
+        (λ a. body-after-limited c j none M (a .cell) rest x items set (a .state)))))
+
+    steps-limited : LimitedRunner (steps book text inner)
+    unfolding steps
+    steps-limited c j [] x items set s = complete-limited j x items set s
+    steps-limited c j (elements comma M values close ∷ rest) x items set s =
+        choice-limited c j comma M values close rest _ (steps-limited c j rest) x items set s
+    steps-limited c j (ending values close ∷ rest) x items set s =
+        stops-limited j values close _ (steps-limited c j rest) x items set s
+    steps-limited c j (naming names kinds close M ∷ rest) x items set s =
+        name-choice-limited c j names kinds close M rest x items set s
+    steps-limited c j (closing names kinds close M ∷ rest) x items set s =
+        opens-limited c j names kinds close M rest x items set s
+    steps-limited c j (taking step ∷ rest) x items set s =
+        taking-limited c j step rest (steps-limited c j rest) x items set s
 
 -- ---- The whole run
 runner-limited : (book : Book) (text : List ℕ) (n : ℕ) → LimitedInner (runner book text n)
@@ -293,7 +359,7 @@ runner-limited book text zero = tt
 runner-limited book text (suc n) = steps-limited book text (runner book text n) (runner-limited book text n)
 
 pub run-limits : (book : Book) (text : List ℕ) (allowance start number units : ℕ) →
-    run book text allowance start ≡ met number units → between 20 23 number ≡ true
+    run book text allowance start ≡ met number units → isLimit number ≡ true
 unfolding run
 run-limits book text allowance start number units e =
     enter-limited book text (runner book text 200) (runner-limited book text 200) [] [] start _ _ .limits number units e

@@ -30,8 +30,8 @@ use Rattle.semantics.specs.Answer.{answer, cleared, atEnd, onBook, answe
 use Rattle.semantics.specs.Allowance.{SameUnderLarger}
 use Rattle.semantics.specs.Theorem.Results.{option-cases, governor-cases}
 use Rattle.semantics.specs.Theorem.SideBySide.Relations.{Kind, of-state, of-cell, of-set, Of, Seen, put, Good}
-use Rattle.semantics.specs.Theorem.SideBySide.Relations.{Known, Context, inside, Governed, minimums, reentries}
-use Rattle.semantics.specs.Theorem.SideBySide.Relations.{Laws, pair}
+use Rattle.semantics.specs.Theorem.SideBySide.Relations.{Known, Context, inside, behindOpening, Governed}
+use Rattle.semantics.specs.Theorem.SideBySide.Relations.{minimums, reentries, Laws, pair}
 use Rattle.semantics.specs.Theorem.SideBySide.Steps.{enter-alike, runner-alike}
 
 -- every place will do
@@ -127,6 +127,7 @@ module _ (d : ℕ) where
         newests = λ k s₁ s₂ e. ap (λ (s : State). newest (s .asked)) e;
         closes = λ k s₁ s₂ e. ap (λ (s : State). withAsked s (others (s .asked))) e;
         within = λ k A₁ A₂ N u j v mine e pu pv good. ap (inside book N u j v mine) e;
+        behind = λ k A₁ A₂ opening e. ap (behindOpening opening) e;
         governed = λ k A₁ A₂ N u e pu. governed-longer A₁ A₂ N u e;
         scopes = λ k A₁ A₂ e. ap (λ (A : Context). scopeOf (A .path)) e;
         claims = λ k A₁ A₂ u e pu. ap (λ (A : Context). claimed book text (A .path) u) e;
@@ -135,6 +136,8 @@ module _ (d : ℕ) where
         takes = λ scope step x t p e. tt;
         lists = λ scope step x comma M close y p e. tt;
         unopens = λ scope step x y p e. tt;
+        names-from = λ scope step x close M y p e. tt;
+        declares = λ x d p e. tt;
         goes-on = λ comma x y p e. tt;
         halts-at = λ comma x y p e. tt;
         closes-at = λ close x y p e. tt;

@@ -7,15 +7,18 @@ use Prim.Native.Nat.{ℕ, _≤_, _<_}
 use native.Mathlib.Omega.{arith}
 use lib.ListN.{length}
 use Rattle.characters.specs.Skipping.{skipFrom}
-use Rattle.book.specs.Book.{Book, nthNonterminal, nthVariant}
+use Rattle.book.specs.Book.{Entry, Book, nthNonterminal, nthVariant}
 use Rattle.book.specs.declared.records.Step.{Step}
 use Rattle.semantics.specs.Values.{Tree, Trees, Parse}
 use Rattle.semantics.specs.Uses.{within, behind, Path, Scope, scopeOf}
-use Rattle.semantics.specs.Tokens.{reservedAt, freeEnd, variableAt, hasClaimant, claimed}
+use Rattle.semantics.specs.Tokens.{reservedAt, freeEnd, variableAt, hasClaimant, claimed, kindAt, nameOfKind}
+use Rattle.semantics.specs.Tokens.{declarationAt}
 use Rattle.semantics.specs.Steps.{stepAt, Todo, stepsOf}
 use Rattle.semantics.specs.Derivations.{Attempt, variantOf, inside, Derives, by-variant, by-governor}
 use Rattle.semantics.specs.Derivations.{by-identifier, Through, done, by-token, by-child, by-absent, by-one}
-use Rattle.semantics.specs.Derivations.{by-list, by-unopened, by-stop, by-more, by-last, by-ending}
+use Rattle.semantics.specs.Derivations.{by-list, by-unopened, by-stop, by-more, by-last, by-ending, by-names}
+use Rattle.semantics.specs.Derivations.{by-body, by-no-name, by-name, by-last-name, by-opening}
+use Rattle.semantics.specs.Theorem.Results.{option-cases}
 
 -- what the rules ask of a book, and what of it a longer one retains
 pub record Retains (book longer : Book) : Type 0 where
@@ -51,6 +54,21 @@ module _ (book longer : Book) (text : List ℕ) (retains : Retains book longer) 
   claimed-still : (P : Path) (u : ℕ) → claimed longer text P u ≡ claimed book text P u
   claimed-still P u = rw (variable-still (scopeOf P) u, claimant-still P u) refl
 
+  kind-still : (at : ℕ) → kindAt longer text at ≡ kindAt book text at
+  unfolding kindAt
+  kind-still at = rw (retains .words) refl
+
+  name-still : (kind at : ℕ) → nameOfKind longer text kind at ≡ nameOfKind book text kind at
+  unfolding nameOfKind
+  name-still kind at = rw (free-still at, nameOfKind) refl
+
+  declaration-still : (at : ℕ) → declarationAt longer text at ≡ declarationAt book text at
+  unfolding declarationAt
+  declaration-still at =
+      option-cases (kindAt book text at)
+      (λ e. rw (kind-still at ∙ e, e, declarationAt) refl)
+      (λ k e. rw (kind-still at ∙ e, e, declarationAt) (name-still (k .value) (skipFrom text (k .end))))
+
   step-still : (scope : Scope) (s : Step) (x : ℕ) → stepAt longer text scope s x ≡ stepAt book text scope s x
   unfolding stepAt
   step-still scope (Step.Character a) x = refl
@@ -77,6 +95,12 @@ module _ (book longer : Book) (text : List ℕ) (retains : Retains book longer) 
   child-still : (a : Attempt) {at M : ℕ} {q : Parse Tree} → Same a →
       Derives longer text (inside book a at) M at q → Derives longer text (inside longer a at) M at q
   child-still a same d = rw same d
+
+  -- and so is that of a body behind an opening
+  body-still : (a : Attempt) {names : List Entry} {at M : ℕ} {q : Parse Tree} → Same a →
+      Derives longer text (behind names ∷ inside book a at) M at q →
+      Derives longer text (behind names ∷ inside longer a at) M at q
+  body-still a same d = rw same d
 
   variant-still : (N i : ℕ) → variantOf longer N i ≡ variantOf book N i
   variant-still N i = rw (retains .firsts N) refl
@@ -109,3 +133,11 @@ module _ (book longer : Book) (text : List ℕ) (retains : Retains book longer) 
     through-still same (by-more {a = a} d e t) = by-more (child-still a same (derives-still d)) e (through-still same t)
     through-still same (by-last {a = a} d e t) = by-last (child-still a same (derives-still d)) e (through-still same t)
     through-still same (by-ending e t) = by-ending e (through-still same t)
+    through-still same (by-names e t) = by-names (step-still _ _ _ ∙ e) (through-still same t)
+    through-still same (by-body {a = a} e d t) =
+        by-body (step-still _ _ _ ∙ e) (child-still a same (derives-still d)) (through-still same t)
+    through-still same (by-no-name t) = by-no-name (through-still same t)
+    through-still same (by-name e goes t) = by-name (declaration-still _ ∙ e) goes (through-still same t)
+    through-still same (by-last-name e halts t) = by-last-name (declaration-still _ ∙ e) halts (through-still same t)
+    through-still same (by-opening {a = a} e d t) =
+        by-opening e (body-still a same (derives-still d)) (through-still same t)

@@ -15,12 +15,13 @@ use lib.Dec.{ltb}
 use lib.ListN.{length, getD}
 use Rattle.characters.specs.Cases.{by-test}
 use Rattle.characters.specs.Skipping.{skipFrom}
-use Rattle.book.specs.Book.{Book}
+use Rattle.book.specs.Book.{Entry, Book}
 use Rattle.book.specs.declared.records.Step.{Step}
 use Rattle.semantics.specs.Numbers.{mostParses, tooDeep, tooManyParses}
 use Rattle.semantics.specs.Values.{Parse}
-use Rattle.semantics.specs.Uses.{Use, Path, Scope, scopeOf, within, useOf, minimum, same-start, governor, keeps}
-use Rattle.semantics.specs.Tokens.{freeEnd, claimed}
+use Rattle.semantics.specs.Uses.{Use, useOf, within, Path, behindAny, Scope, scopeOf, minimum, same-start}
+use Rattle.semantics.specs.Uses.{governor, keeps}
+use Rattle.semantics.specs.Tokens.{Read, freeEnd, claimed, declarationAt}
 use Rattle.semantics.specs.Steps.{Token, Taken, stepAt, goes, halts, afterElement, closed, Todo}
 use Rattle.semantics.specs.Cells.{Cell}
 use Rattle.semantics.specs.Errors.{Error}
@@ -66,6 +67,10 @@ pub record Context : Type 0 where
 -- around a child at v: its parent too, a use of N at u with variant j and this stored set
 abbrev pub inside : Book → ℕ → ℕ → ℕ → ℕ → List (Parse ℕ) → Context → Context
 inside book N u j v mine A = record { path = within (useOf book N u j v) ∷ A .path; stored = mine ∷ A .stored }
+
+-- around a body, too: the opening that it stands behind, if there is one
+abbrev pub behindOpening : Option (List Entry) → Context → Context
+behindOpening opening A = record { path = behindAny opening (A .path); stored = A .stored }
 
 -- what the governors of a use say in two contexts: the same minimum; or the same stored parses of one call, for which
 -- both ask. Q₁ and Q₂ are what is around the governors, which a run does not look at
@@ -115,10 +120,12 @@ pub record Laws (book : Book) (text : List ℕ) : Type 1 where
   pub newests : (k : ℕ) (s₁ s₂ : State) → States (suc k) s₁ s₂ → newest (s₂ .asked) ≡ newest (s₁ .asked)
   pub closes : (k : ℕ) (s₁ s₂ : State) → States (suc k) s₁ s₂ →
       States k (withAsked s₁ (others (s₁ .asked))) (withAsked s₂ (others (s₂ .asked)))
-  -- what is around: one call more, a use's governor, its scope, and its claim
+  -- what is around: one call more, or an opening that was read; a use's governor, its scope, and its claim
   pub within : (k : ℕ) (A₁ A₂ : Context) (N u j v : ℕ) (mine : List (Parse ℕ)) → Around k A₁ A₂ →
       Place u → Place v → Good Place mine →
       Around (suc k) (inside book N u j v mine A₁) (inside book N u j v mine A₂)
+  pub behind : (k : ℕ) (A₁ A₂ : Context) (opening : Option (List Entry)) → Around k A₁ A₂ →
+      Around k (behindOpening opening A₁) (behindOpening opening A₂)
   pub governed : (k : ℕ) (A₁ A₂ : Context) (N u : ℕ) → Around k A₁ A₂ → Place u →
       Governed Place (States k) A₁ A₂ N u
   pub scopes : (k : ℕ) (A₁ A₂ : Context) → Around k A₁ A₂ → scopeOf (A₂ .path) ≡ scopeOf (A₁ .path)
@@ -133,6 +140,9 @@ pub record Laws (book : Book) (text : List ℕ) : Type 1 where
       stepAt book text scope step x ≡ Taken.list comma M close y → Place y
   pub unopens : (scope : Scope) (step : Step) (x y : ℕ) → Place x →
       stepAt book text scope step x ≡ Taken.unopened y → Place y
+  pub names-from : (scope : Scope) (step : Step) (x close M y : ℕ) → Place x →
+      stepAt book text scope step x ≡ Taken.names close M y → Place y
+  pub declares : (x : ℕ) (d : Read Entry) → Place x → declarationAt book text x ≡ some d → Place (d .end)
   pub goes-on : (comma : Bool) (x y : ℕ) → Place x → afterElement text comma x ≡ goes y → Place y
   pub halts-at : (comma : Bool) (x y : ℕ) → Place x → afterElement text comma x ≡ halts y → Place y
   pub closes-at : (close : Option ℕ) (x y : ℕ) → Place x → closed text close x ≡ some y → Place y
@@ -277,6 +287,9 @@ module _ {book : Book} {text : List ℕ} (L : Laws book text) where
         Alike of-set s (m₁ >>= f₁) (m₂ >>= f₂)
     set-then f₁ f₂ m f =
         L .then k k of-set of-set _ _ _ _ f₁ f₂ m (λ w t₁ t₂ g t. f (w .0) (w .1) (pair t₁ t₂ t) g)
+
+    pub state-done : Alike of-state s (ok (s .first)) (ok (s .second))
+    state-done = L .done k of-state tt _ _ tt (s .alike)
 
     pub cell-done : (n : ℕ) → Alike of-cell s (ok (made n (s .first))) (ok (made n (s .second)))
     cell-done n = L .done k of-cell n _ _ tt (s .alike)

@@ -1,32 +1,35 @@
 -- Two runs side by side: what follows a parse, one level of nesting with the steps of a variant, and so the runners.
 -- A level is alike if the level inside it is; the whole is by the levels of nesting.
 use mathlib.Core.Path.{_≡_}
-use mathlib.Core.Bool.{Bool}
+use mathlib.Core.Bool.{Bool, true}
 use mathlib.Core.List.{List, [], _∷_}
 use mathlib.Core.Option.{Option, none, some}
 use Prim.Native.Nat.{ℕ, zero, suc, _≤_}
 use native.Mathlib.Omega.{arith}
+use lib.Dec.{leb}
 use lib.ListN.{getD}
 use Rattle.characters.specs.Cases.{by-test}
 use Rattle.characters.specs.Classes.{between}
 use Rattle.characters.specs.Skipping.{skipFrom}
-use Rattle.book.specs.Book.{Book, stepNumber}
+use Rattle.book.specs.Book.{Entry, Book, stepNumber}
 use Rattle.book.specs.declared.records.Step.{Step}
-use Rattle.semantics.specs.Numbers.{tooDeep}
+use Rattle.semantics.specs.Numbers.{mostDeclared, tooDeep, tooManyNames}
 use Rattle.semantics.specs.Values.{Parse}
-use Rattle.semantics.specs.Uses.{scopeOf, hasMark}
-use Rattle.semantics.specs.Steps.{stepAt, afterElement, closed, Todo, taking, elements, ending}
+use Rattle.semantics.specs.Uses.{Scope, scopeOf, hasMark}
+use Rattle.semantics.specs.Tokens.{characterEnd, declarationAt}
+use Rattle.semantics.specs.Steps.{stepAt, afterElement, closed, Todo, taking, elements, ending, naming, closing}
 use Rattle.semantics.specs.Cells.{Cell}
 use Rattle.semantics.specs.Errors.{Error}
-use Rattle.semantics.specs.Run.{Result, ok, Parsed, parsed, Runner, Go, Next, kept, chosen, plainNext, listNext}
-use Rattle.semantics.specs.Run.{stops, nested, reentry, enter, enterChild, followMore, follow, followed, stepUnit}
-use Rattle.semantics.specs.Run.{orAbsent, choice, listing, steps, runner}
+use Rattle.semantics.specs.Run.{Result, ok, Parsed, parsed, Runner, Go, Next, kept, declaredNames, openScope}
+use Rattle.semantics.specs.Run.{chosen, plainNext, listNext, stops, nested, reentry, enter, enterChild}
+use Rattle.semantics.specs.Run.{followMore, follow, followed, stepUnit, orAbsent, choice, listing, bodyAfter}
+use Rattle.semantics.specs.Run.{opens, declares, nameChoice, steps, runner}
 use Rattle.semantics.specs.Theorem.Results.{option-cases, after-cases, taken-cases}
 use Rattle.semantics.specs.Theorem.SideBySide.Relations.{of-state, of-set, Good, Context, minimums, reentries}
 use Rattle.semantics.specs.Theorem.SideBySide.Relations.{Laws, Pair, pair, Calls, calls, firstCall, secondCall}
 use Rattle.semantics.specs.Theorem.SideBySide.Relations.{Alike, AlikeRunner, AlikeInner, AlikeGo, AlikeNext}
 use Rattle.semantics.specs.Theorem.SideBySide.Relations.{good-none, good-kept, state-then, cell-then, set-then}
-use Rattle.semantics.specs.Theorem.SideBySide.Relations.{set-done, spend-alike, make-alike}
+use Rattle.semantics.specs.Theorem.SideBySide.Relations.{state-done, set-done, spend-alike, make-alike}
 use Rattle.semantics.specs.Theorem.SideBySide.Calls.{with-cell-alike, with-token-alike, complete-alike}
 use Rattle.semantics.specs.Theorem.SideBySide.Calls.{open-call-alike, identifier-alike}
 
@@ -72,6 +75,16 @@ module _ {book : Book} {text : List ℕ} (L : Laws book text) where
       (λ y ends. rw ends (cell-then L t _ _ (with-cell-alike L j items l t)
       (λ n r. h y n set r (L .closes-at close x y place ends) good))))
 
+  -- a scope opens, in both runs or in neither
+  open-scope-alike : {k : ℕ} (opening : Option (List Entry)) (scope : Scope) (s : Pair L k) →
+      Alike L of-state s (openScope opening scope (s .first)) (openScope opening scope (s .second))
+  unfolding openScope
+  open-scope-alike none scope s = state-done L s
+  open-scope-alike {k} (some names) scope s =
+      by-test (leb (declaredNames (names ∷ scope)) mostDeclared)
+      (λ t. rw t (state-done L s))
+      (λ t. rw t (L .limit k of-state tooManyNames _ _ (s .alike)))
+
   -- ---- One level of nesting
   nested-alike : (i₁ i₂ : Option Runner) → AlikeInner L i₁ i₂ → {k : ℕ} (s : Pair L k)
       (f₁ f₂ : Runner → Result Parsed) → ((f g : Runner) → AlikeRunner L f g → Alike L of-set s (f₁ f) (f₂ g)) →
@@ -108,15 +121,17 @@ module _ {book : Book} {text : List ℕ} (L : Laws book text) where
               (good-kept (L .Place) f _ good)))
         ])
 
-    enter-child-alike : {k : ℕ} (c : Calls L k) (j M x : ℕ) (s : Pair L (suc k)) → L .Place x →
-        Alike L of-set s (enterChild book text i₁ (firstCall L c) j M x (s .first))
-        (enterChild book text i₂ (secondCall L c) j M x (s .second))
+    enter-child-alike : {k : ℕ} (opening : Option (List Entry)) (c : Calls L k) (j M x : ℕ) (s : Pair L (suc k)) →
+        L .Place x →
+        Alike L of-set s (enterChild book text i₁ opening (firstCall L c) j M x (s .first))
+        (enterChild book text i₂ opening (secondCall L c) j M x (s .second))
     unfolding enterChild
-    enter-child-alike {k} c j M x s place =
+    enter-child-alike {k} opening c j M x s place =
         let v = L .skips x place in
         enter-alike _ _ M _
+        (L .behind (suc k) _ _ opening
         (L .within k (c .first) (c .second) (c .nonterminal) (c .start) j (skipFrom text x) (c .mine)
-        (c .around) (c .place) v (c .good))
+        (c .around) (c .place) v (c .good)))
         v s
 
     -- what follows each parse of a child
@@ -150,12 +165,15 @@ module _ {book : Book} {text : List ℕ} (L : Laws book text) where
     step-unit-alike : {k : ℕ} (step : Step) (s : Pair L k) →
         Alike L of-state s (stepUnit book text i₁ step (s .first)) (stepUnit book text i₂ step (s .second))
     unfolding stepUnit
-    step-unit-alike {k} step s =
+    step-unit-alike step s =
         by-test (between 10 11 (stepNumber step))
-        (λ t. rw t (L .done k of-state tt _ _ tt (s .alike)))
+        (λ t. rw t (state-done L s))
         (λ t. rw t (spend-alike L s))
 
     module _ {k : ℕ} (c : Calls L k) (j : ℕ) where
+      same-scope : scopeOf (secondCall L c .path) ≡ scopeOf (firstCall L c .path)
+      same-scope = L .scopes k (c .first) (c .second) (c .around)
+
       or-absent-alike : (M : ℕ) (rest : List (Todo ℕ)) (f g : Go) → AlikeGo L (suc k) f g →
           AlikeGo L (suc k) (orAbsent book text i₁ (firstCall L c) j M rest f)
           (orAbsent book text i₂ (secondCall L c) j M rest g)
@@ -164,7 +182,7 @@ module _ {book : Book} {text : List ℕ} (L : Laws book text) where
           cell-then L s _ _ (make-alike L s Cell.absent) (λ absent t.
           cell-then L t _ _ (with-cell-alike L j items absent t) (λ m v.
           set-then L v _ _ (h x m set v place good) (λ without d a good-a.
-          set-then L a _ _ (enter-child-alike c j M x a place) (λ found e r good-r.
+          set-then L a _ _ (enter-child-alike none c j M x a place) (λ found e r good-r.
           set-then L r _ _ (followed-alike _ _ (plain-next-alike c j rest items) without found e r good-a good-r)
           (λ all i b good-b. chosen-alike c (skipFrom text x) d all i b good-b)))))
 
@@ -176,7 +194,7 @@ module _ {book : Book} {text : List ℕ} (L : Laws book text) where
       choice-alike comma M values close rest f g h x items set s place good =
           state-then L s _ _ (spend-alike L s) (λ t.
           set-then L t _ _ (stops-alike j values close f g h x items set t place good) (λ stopped d a good-a.
-          set-then L a _ _ (enter-child-alike c j M x a place) (λ found e r good-r.
+          set-then L a _ _ (enter-child-alike none c j M x a place) (λ found e r good-r.
           set-then L r _ _
           (followed-alike _ _ (list-next-alike c j comma M values close rest items) stopped found e r good-a good-r)
           (λ all i b good-b. chosen-alike c (skipFrom text x) d all i b good-b))))
@@ -190,6 +208,56 @@ module _ {book : Book} {text : List ℕ} (L : Laws book text) where
           cell-then L s _ _ (make-alike L s Cell.empty)
           (λ e t. choice-alike comma M e close rest f g h x items set t place good)
 
+      -- a binder
+      body-after-alike : (opening : Option (List Entry)) (M item : ℕ) (rest : List (Todo ℕ)) →
+          AlikeGo L (suc k) (bodyAfter book text i₁ opening (firstCall L c) j M item rest)
+          (bodyAfter book text i₂ opening (secondCall L c) j M item rest)
+      unfolding bodyAfter
+      body-after-alike opening M item rest x items set s place good =
+          cell-then L s _ _ (with-cell-alike L j items item s) (λ m t.
+          rw same-scope (state-then L t _ _ (open-scope-alike opening _ t) (λ v.
+          set-then L v _ _ (enter-child-alike opening c j M x v place)
+          (λ found e r good-r. followed-alike _ _ (plain-next-alike c j rest m) set found e r good good-r))))
+
+      module _ (names : List Entry) (kinds close M : ℕ) (rest : List (Todo ℕ)) where
+        opens-alike :
+            AlikeGo L (suc k) (opens book text i₁ (firstCall L c) j names kinds close M rest)
+            (opens book text i₂ (secondCall L c) j names kinds close M rest)
+        unfolding opens closed
+        opens-alike x items set s place good =
+            cell-then L s _ _ (make-alike L s _) (λ l t.
+            option-cases (characterEnd text close x)
+            (λ unclosed. rw unclosed (set-done L t set _ good))
+            (λ y ends. rw ends
+            (body-after-alike (some names) M l rest y items set t (L .closes-at (some close) x y place ends) good)))
+
+        declares-alike :
+            AlikeGo L (suc k) (declares book text i₁ (firstCall L c) j names kinds close M rest)
+            (declares book text i₂ (secondCall L c) j names kinds close M rest)
+        unfolding declares
+        declares-alike x items set s place good =
+            state-then L s _ _ (spend-alike L s) (λ t.
+            nested-alike i₁ i₂ inner t _ _ (λ f g h.
+            option-cases (declarationAt book text (skipFrom text x))
+            (λ missing. rw missing (set-done L t set _ good))
+            (λ d there.
+            let ended = L .declares (skipFrom text x) d (L .skips x place) there in
+            rw there (cell-then L t _ _ (make-alike L t _) (λ kind v.
+            cell-then L v _ _ (make-alike L v _) (λ m r.
+            after-cases (afterElement text true (d .end))
+            (λ y on. rw on (h k c j _ y items set r (L .goes-on true (d .end) y ended on) good))
+            (λ y ends. rw ends (h k c j _ y items set r (L .halts-at true (d .end) y ended ends) good))))))))
+
+        name-choice-alike :
+            AlikeGo L (suc k) (nameChoice book text i₁ (firstCall L c) j names kinds close M rest)
+            (nameChoice book text i₂ (secondCall L c) j names kinds close M rest)
+        unfolding nameChoice
+        name-choice-alike x items set s place good =
+            state-then L s _ _ (spend-alike L s) (λ t.
+            set-then L t _ _ (opens-alike x items set t place good) (λ stopped d a good-a.
+            set-then L a _ _ (declares-alike x items stopped a place good-a)
+            (λ all i b good-b. chosen-alike c (skipFrom text x) d all i b good-b)))
+
       abbrev StepsAlike : List (Todo ℕ) → Type 0
       StepsAlike todo =
           AlikeGo L (suc k) (steps book text i₁ (firstCall L c) j todo) (steps book text i₂ (secondCall L c) j todo)
@@ -197,21 +265,24 @@ module _ {book : Book} {text : List ℕ} (L : Laws book text) where
       taking-alike : (step : Step) (rest : List (Todo ℕ)) → StepsAlike rest → StepsAlike (taking step ∷ rest)
       unfolding steps
       taking-alike step rest h x items set s place good =
-          let same : scopeOf (secondCall L c .path) ≡ scopeOf (firstCall L c .path) =
-          L .scopes k (c .first) (c .second) (c .around) in
           state-then L s _ _ (step-unit-alike step s) (λ t.
           let scope = scopeOf (firstCall L c .path) in
           taken-cases (stepAt book text scope step x)
-          (λ is. rw (same, is, same) (set-done L t set _ good))
-          (λ a is. rw (same, is) (cell-then L t _ _ (with-token-alike L j items (a .item) t)
+          (λ is. rw (same-scope, is, same-scope) (set-done L t set _ good))
+          (λ a is. rw (same-scope, is) (cell-then L t _ _ (with-token-alike L j items (a .item) t)
           (λ n r. h (a .next) n set r (L .takes scope step x a place is) good)))
-          (λ M is. rw (same, is) (set-then L t _ _ (enter-child-alike c j M x t place)
+          (λ M is. rw (same-scope, is) (set-then L t _ _ (enter-child-alike none c j M x t place)
           (λ found e r good-r. followed-alike _ _ (plain-next-alike c j rest items) set found e r good good-r)))
-          (λ M is. rw (same, is) (or-absent-alike M rest _ _ h x items set t place good))
-          (λ comma M close y is. rw (same, is)
+          (λ M is. rw (same-scope, is) (or-absent-alike M rest _ _ h x items set t place good))
+          (λ comma M close y is. rw (same-scope, is)
           (listing-alike comma M close rest _ _ h y items set t (L .lists scope step x comma M close y place is) good))
-          (λ y is. rw (same, is) (cell-then L t _ _ (make-alike L t Cell.empty)
-          (λ e r. stops-alike j e none _ _ h y items set r (L .unopens scope step x y place is) good))))
+          (λ y is. rw (same-scope, is) (cell-then L t _ _ (make-alike L t Cell.empty)
+          (λ e r. stops-alike j e none _ _ h y items set r (L .unopens scope step x y place is) good)))
+          (λ close M y is. rw (same-scope, is) (cell-then L t _ _ (make-alike L t Cell.empty)
+          (λ e r. name-choice-alike [] e close M rest y items set r (L .names-from scope step x close M y place is)
+          good)))
+          (λ M is. rw (same-scope, is) (cell-then L t _ _ (make-alike L t Cell.absent)
+          (λ absent r. body-after-alike none M absent rest x items set r place good))))
 
       todo-alike : (todo : List (Todo ℕ)) → StepsAlike todo
       unfolding steps
@@ -220,6 +291,10 @@ module _ {book : Book} {text : List ℕ} (L : Laws book text) where
           choice-alike comma M values close rest _ _ (todo-alike rest) x items set s place good
       todo-alike (ending values close ∷ rest) x items set s place good =
           stops-alike j values close _ _ (todo-alike rest) x items set s place good
+      todo-alike (naming names kinds close M ∷ rest) x items set s place good =
+          name-choice-alike names kinds close M rest x items set s place good
+      todo-alike (closing names kinds close M ∷ rest) x items set s place good =
+          opens-alike names kinds close M rest x items set s place good
       todo-alike (taking step ∷ rest) x items set s place good =
           taking-alike step rest (todo-alike rest) x items set s place good
 
