@@ -25,13 +25,17 @@ use Rattle.run_model.specs.Model.{spendRows, nestedRows}
 -- ---- Rows that differ in little
 abbrev pub lessMark : Row → Row
 lessMark r =
-    row (r .live) (r .nonterminal) (r .scope) (r .start) (r .level) (r .associativity) (r .child) 0 (r .set) (r .run)
+    row (r .live) (r .nonterminal) (r .binder) (r .start) (r .level) (r .associativity) (r .child) 0 (r .kind)
+    (r .place) (r .size) (r .set) (r .run)
 
 abbrev pub lessRun : Row → Row
-lessRun r = row (r .live) (r .nonterminal) (r .scope) (r .start) (r .level) (r .associativity) 0 0 (r .set) []
+lessRun r =
+    row (r .live) (r .nonterminal) (r .binder) (r .start) (r .level) (r .associativity) 0 0 (r .kind) (r .place)
+    (r .size) (r .set) []
 
 abbrev pub lessVariant : Row → Row
-lessVariant r = row (r .live) (r .nonterminal) (r .scope) (r .start) 0 0 0 0 (r .set) []
+lessVariant r =
+    row (r .live) (r .nonterminal) (r .binder) (r .start) 0 0 0 0 (r .kind) (r .place) (r .size) (r .set) []
 
 -- in the mark at most
 abbrev pub Same : Row → Row → Type 0

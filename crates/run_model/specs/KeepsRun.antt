@@ -20,7 +20,7 @@ use Rattle.semantics.specs.Cells.{Cell}
 use Rattle.semantics.specs.Errors.{Error}
 use Rattle.semantics.specs.Run.{Result, ok, _>>=_, allIn, addAll, begin}
 use Rattle.run_model.specs.Rows.{Row, opened, ended, withChild, wasAsked, withSet, withRun, copied, rowOf, onRow}
-use Rattle.run_model.specs.Rows.{governorOf}
+use Rattle.run_model.specs.Rows.{inherited, scopeIn, governorOf}
 use Rattle.run_model.specs.Model.{RowState, rowState, Outcome, RowRunner, RowGo, RowNext, unmarked, atRow}
 use Rattle.run_model.specs.Model.{spendRows, addRun, completeRows, takeVariant, variantsRows, oneRunRows, settle}
 use Rattle.run_model.specs.Model.{roundsRows, settleFirst, runCallRows, namedRows, runIdentifierRows}
@@ -109,16 +109,16 @@ module _ (book : Book) (text : List ℕ) (m : ℕ) (S : RowRunner) (keeping : Ke
       (λ o a. called-then (keeps-then k (keeps-put n U (copied r))) a))
       (on-ok (Calls n T) over))
 
-  pub keeps-run-call : (N u : ℕ) (s : RowState) → length (s .rows) ≡ 201 →
-      On (Calls n (s .rows)) (runCallRows book text S n N u least s)
+  pub keeps-run-call : (binder N u : ℕ) (s : RowState) → length (s .rows) ≡ 201 →
+      On (Calls n (s .rows)) (runCallRows book text S n binder N u least s)
   unfolding runCallRows
-  keeps-run-call N u s h =
-      let U = onRow (s .rows) n (opened N u) in
-      let size : length U ≡ 201 = length-set (s .rows) n (opened N u (rowOf (s .rows) n)) ∙ h in
-      on-bind (Ran n U) (Calls n (s .rows)) _ _ (keeps-one-run (atRow n (opened N u) s) size)
+  keeps-run-call binder N u s h =
+      let U = onRow (s .rows) n (opened binder N u) in
+      let size : length U ≡ 201 = length-set (s .rows) n (opened binder N u (rowOf (s .rows) n)) ∙ h in
+      on-bind (Ran n U) (Calls n (s .rows)) _ _ (keeps-one-run (atRow n (opened binder N u) s) size)
       (λ o a.
       keeps-first (s .rows) _ o (a .above .size ∙ size)
-      (keeps-then (keeps-put n (s .rows) (opened N u (rowOf (s .rows) n))) (a .above))
+      (keeps-then (keeps-put n (s .rows) (opened binder N u (rowOf (s .rows) n))) (a .above))
       (λ t g. keeps-rounds 65 t g))
 
 -- ---- A use of mark 2
@@ -130,10 +130,10 @@ keeps-named book text n N u T s h c (some end) =
     on-makes (Calls n T) _ s _
     (λ cell units cells. on-ok (Calls n T) (called-put n T (s .rows) _ h (c .above) (c .shut)))
 
-keeps-identifier : (book : Book) (text : List ℕ) (n N u : ℕ) (s : RowState) → n < length (s .rows) →
-    On (Calls n (s .rows)) (runIdentifierRows book text n N u s)
+keeps-identifier : (book : Book) (text : List ℕ) (n binder N u : ℕ) (s : RowState) → n < length (s .rows) →
+    On (Calls n (s .rows)) (runIdentifierRows book text n binder N u s)
 unfolding runIdentifierRows
-keeps-identifier book text n N u s h =
+keeps-identifier book text n binder N u s h =
     let r = ended (withSet [] (rowOf (s .rows) n)) in
     let l : length (set (s .rows) n r) ≡ length (s .rows) = length-set (s .rows) n r in
     keeps-named book text n N u (s .rows) (atRow n (λ r. ended (withSet [] r)) s) (omega arith)
@@ -149,17 +149,18 @@ module _ (book : Book) (text : List ℕ) (n : ℕ) (inner : Option RowRunner)
       length-set (s .rows) g (wasAsked (rowOf (s .rows) g)) in
       called-put n (s .rows) (onRow (s .rows) g wasAsked) _ (omega arith) (keeps-mark (suc n) g (s .rows)) refl
 
-  pub keeps-enter : (N u : ℕ) (s : RowState) → length (s .rows) ≡ 201 →
-      On (Calls n (s .rows)) (enterRows book text inner n N u s)
+  pub keeps-enter : (binder N u : ℕ) (s : RowState) → length (s .rows) ≡ 201 →
+      On (Calls n (s .rows)) (enterRows book text inner n binder N u s)
   unfolding enterRows storedRows
-  keeps-enter N u s h =
+  keeps-enter binder N u s h =
       let Q = Calls n (s .rows) in
       on-spend Q s _
-      (λ units cells. on-governor Q (governorOf (s .rows) n N u) _ _
+      (λ units cells. on-governor Q (governorOf (s .rows) n binder N u) _ _
       (λ least. on-nested Q book text n inner inners _ _
       (λ m S e keeping.
-      on-when Q (hasMark book 2 N) _ _ (keeps-identifier book text n N u (rowState units cells (s .rows)) (omega arith))
-      (keeps-run-call book text m S keeping n e room least N u (rowState units cells (s .rows)) h)))
+      on-when Q (hasMark book 2 N) _ _
+      (keeps-identifier book text n binder N u (rowState units cells (s .rows)) (omega arith))
+      (keeps-run-call book text m S keeping n e room least binder N u (rowState units cells (s .rows)) h)))
       (λ g. on-ok Q (keeps-stored g (rowState units cells (s .rows)) h)))
 
   -- ---- Steps of the call of row c
@@ -172,7 +173,7 @@ module _ (book : Book) (text : List ℕ) (n : ℕ) (inner : Option RowRunner)
         On (Calls n (onRow (s .rows) c (withChild (skipFrom text x)))) (enterChildRows book text inner n c M x s)
     unfolding enterChildRows
     keeps-child M x s h =
-        keeps-enter M (skipFrom text x) (atRow c (withChild (skipFrom text x)) s) (length-set (s .rows) c _ ∙ h)
+        keeps-enter (inherited (rowOf (s .rows) c .binder)) M (skipFrom text x) (atRow c (withChild (skipFrom text x)) s) (length-set (s .rows) c _ ∙ h)
 
     pub child-leaves : (x : ℕ) (T U : List Row) → length T ≡ 201 →
         Called n (onRow T c (withChild (skipFrom text x))) U → KeepsAt c (suc n) T U
@@ -317,7 +318,7 @@ module _ (book : Book) (text : List ℕ) (n : ℕ) (inner : Option RowRunner)
     keeps-step j step rest g x items s h =
         let Q = Beside c (suc n) (s .rows) in
         on-unit Q step s _
-        (λ units cells. on-taken Q (stepAt book text step x) _ _ _ _ _ _ (on-ok Q at-refl)
+        (λ units cells. on-taken Q (stepAt book text (scopeIn text (s .rows) c) step x) _ _ _ _ _ _ (on-ok Q at-refl)
         (λ t. on-makes Q _ (rowState units cells (s .rows)) _ (λ cell units₁ cells₁.
         g (t .next) cell (rowState units₁ cells₁ (s .rows)) h))
         (λ M.

@@ -6,6 +6,8 @@
 -- also the first free row; a call uses row n, and what follows its parses runs with one level less while row n keeps
 -- them. What touches neither sets nor marks is the definition's own function, run on a state without marks.
 --
+-- A use is entered at row n with its binder (Rows): a child with the one that it inherits from its call's row.
+--
 -- The letters are those of the run's definition, but that c, n and g are rows: of the call at hand, the free one, and
 -- the governor's. T is a table.
 use mathlib.Core.Bool.{Bool, _&&_}
@@ -31,7 +33,8 @@ use Rattle.semantics.specs.Errors.{Error, error, joinWith, chosenFailure, stepE
 use Rattle.semantics.specs.Run.{Result, met, ok, _>>=_, State, Made, made, Call, call, allIn, kept, add, addAll, spend}
 use Rattle.semantics.specs.Run.{make, failedCall, either, closingCode, begin, withCell, withToken, counted}
 use Rattle.run_model.specs.Rows.{Row, opened, ended, withVariant, withChild, wasAsked, withSet, withRun, copied}
-use Rattle.run_model.specs.Rows.{rowOf, onRow, useAt, minimum, same-start, governorOf, anyClaims}
+use Rattle.run_model.specs.Rows.{rowOf, onRow, useAt, inherited, scopeAt, scopeIn, minimum, same-start}
+use Rattle.run_model.specs.Rows.{governorOf, claimsUse}
 
 -- units left, cells so far, and the rows
 pub record RowState : Type 0 where
@@ -169,13 +172,14 @@ module _ (book : Book) (text : List ℕ) where
             (λ _. ok (outcome none (atRow c (λ r. ended (copied r)) s)))
       ]
 
-  unfoldable pub runCallRows : RowRunner → ℕ → ℕ → ℕ → ℕ → RowState → Result Outcome
-  runCallRows run n N u m s =
-      oneRunRows run n m (atRow n (opened N u) s) >>= (λ o. settleFirst n (λ t. roundsRows mostRounds run n m t) o)
+  unfoldable pub runCallRows : RowRunner → ℕ → ℕ → ℕ → ℕ → ℕ → RowState → Result Outcome
+  runCallRows run n binder N u m s =
+      oneRunRows run n m (atRow n (opened binder N u) s) >>=
+      (λ o. settleFirst n (λ t. roundsRows mostRounds run n m t) o)
 
   -- ---- A use of mark 2
-  abbrev pub claimedRows : List Row → ℕ → ℕ → Bool
-  claimedRows T n u = isSome (variableAt book text u) && anyClaims book T u (mostNesting - n) (suc n)
+  abbrev pub claimedRows : List Row → ℕ → ℕ → ℕ → Bool
+  claimedRows T n binder u = isSome (variableAt book text (scopeAt text T n binder) u) && claimsUse book T n binder u
 
   abbrev pub identifierParse : ℕ → ℕ → Parse ℕ
   identifierParse end cell =
@@ -187,10 +191,10 @@ module _ (book : Book) (text : List ℕ) where
     m ← makes (make text (Cell.name u (end - u))) s
     ok (outcome none (atRow n (withSet (identifierParse end (m .cell) ∷ [])) (m .state)))
 
-  unfoldable pub runIdentifierRows : ℕ → ℕ → ℕ → RowState → Result Outcome
-  runIdentifierRows n N u s =
+  unfoldable pub runIdentifierRows : ℕ → ℕ → ℕ → ℕ → RowState → Result Outcome
+  runIdentifierRows n binder N u s =
       let t = atRow n (λ r. ended (withSet [] r)) s in
-      namedRows n N u t (when (claimedRows (t .rows) n u) (λ _. none) (λ _. freeEnd book text u))
+      namedRows n N u t (when (claimedRows (t .rows) n binder u) (λ _. none) (λ _. freeEnd book text u))
 
   -- ---- What follows a parse
   unfoldable pub plainNextRows : ℕ → ℕ → List (Todo ℕ) → ℕ → RowNext
@@ -228,18 +232,20 @@ module _ (book : Book) (text : List ℕ) (inner : Option RowRunner) (n : ℕ) wh
   storedRows g N u s =
       outcome (failsEmpty (rowOf (withStored g s .rows) n .set) (error u nonterminalWanted N)) (withStored g s)
 
-  unfoldable pub enterRows : ℕ → ℕ → RowState → Result Outcome
-  enterRows N u s₀ = do
+  unfoldable pub enterRows : ℕ → ℕ → ℕ → RowState → Result Outcome
+  enterRows binder N u s₀ = do
     s ← spendRows s₀
-    elim (governorOf (s .rows) n N u) [
+    elim (governorOf (s .rows) n binder N u) [
       | same-start g ↦ ok (storedRows g N u s)
-      | minimum m ↦ nestedRows s (λ run. when (hasMark book 2 N) (λ _. runIdentifierRows book text n N u s)
-          (λ _. runCallRows book text run n N u m s))
+      | minimum m ↦ nestedRows s (λ run. when (hasMark book 2 N) (λ _. runIdentifierRows book text n binder N u s)
+          (λ _. runCallRows book text run n binder N u m s))
     ]
 
   -- the call of a child of row c's call
   unfoldable pub enterChildRows : ℕ → ℕ → ℕ → RowState → Result Outcome
-  enterChildRows c M x s = let at = skipFrom text x in enterRows M at (atRow c (withChild at) s)
+  enterChildRows c M x s =
+      let at = skipFrom text x in
+      enterRows (inherited (rowOf (s .rows) c .binder)) M at (atRow c (withChild at) s)
 
   -- what follows k parses of row n from the i-th on
   unfoldable pub followFrom : RowNext → ℕ → ℕ → Option Error → RowState → Result Outcome
@@ -295,8 +301,8 @@ module _ (book : Book) (text : List ℕ) (inner : Option RowRunner) (n : ℕ) wh
       stopsRows book text j values close (stepsRows c j rest) x items s
   stepsRows c j (taking step ∷ rest) x items s₀ = do
     s ← stepUnitRows step s₀
-    elim (stepAt book text step x) [
-      | Taken.nothing ↦ ok (outcome (some (stepError book text step (skipFrom text x))) s)
+    elim (stepAt book text (scopeIn text (s .rows) c) step x) [
+      | Taken.nothing ↦ ok (outcome (some (stepError book text (scopeIn text (s .rows) c) step (skipFrom text x))) s)
       | Taken.token t ↦ makes (withToken book text j items (t .item)) s >>=
           (λ m. stepsRows c j rest (t .next) (m .cell) (m .state))
       | Taken.child M ↦ enterChildRows c M x s >>= (λ r. followedRows (plainNextRows book text c j rest items) r)

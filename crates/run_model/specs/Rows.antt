@@ -5,81 +5,97 @@
 -- n. The open calls around it, the newest first, are the live rows n + 1, n + 2, up to 200. When a call is over its row
 -- is live no longer, and keeps what was found while that is followed.
 --
--- First the rows and what is done to one; then what the live rows above a row say: the path, the stored sets and the
--- marks; then governors and claims by rows.
-use mathlib.Core.Bool.{Bool, true, false, _&&_, _||_}
+-- A declared name is read one level deeper than what is before it, and the row of its level holds it. What a call has
+-- to do with openings is one number, its binder: 0 if no opening that was read is around it; 1 if one is; n + 2 if the
+-- call is itself the body behind an opening, which declared n names. These stand in the n rows above the body's own, the
+-- last declared one nearest. Where the number is 0 no row needs to be searched for a name.
+--
+-- First the rows and what is done to one; then what the live rows above a row say: the path with its openings, the
+-- stored sets and the marks; then governors and claims by rows.
+use mathlib.Core.Bool.{Bool, true, false, not, _&&_, _||_}
 use mathlib.Core.List.{List, [], _∷_}
-use Prim.Native.Nat.{ℕ, zero, suc, _-_}
+use Prim.Native.Nat.{ℕ, zero, suc, _+_, _-_}
 use lib.Dec.{ltb, eqb}
 use lib.ListN.{getD, set}
-use Rattle.book.specs.Book.{Book}
+use Rattle.characters.specs.Spelling.{partOf}
+use Rattle.book.specs.Book.{Book, Entry}
 use Rattle.book.specs.Check.{associativityOf}
 use Rattle.semantics.specs.Numbers.{mostNesting}
 use Rattle.semantics.specs.Values.{Parse}
-use Rattle.semantics.specs.Uses.{Use, Path, base, hasMark, minimumOf}
+use Rattle.semantics.specs.Uses.{Use, within, behind, Path, Scope, scopeOf, hasMark, minimumOf}
 use Rattle.semantics.specs.Tokens.{when}
 use Rattle.semantics.specs.Run.{Call, call}
 
--- a call while it is open (live is 1): its nonterminal, scope and start, the level and associativity (a number) of its
--- variant, where its current child begins, whether its stored parses were asked for (1), its stored set, and the set of
--- the run at hand
+-- a call while it is open (live is 1): its nonterminal, binder and start, the level and associativity (a number) of its
+-- variant, where its current child begins, whether its stored parses were asked for (1); the name that is declared at
+-- this level: its kind, and where its spelling stands in the text; the call's stored set, and the set of the run at hand
 pub record Row : Type 0 where
   pub live : ℕ
   pub nonterminal : ℕ
-  pub scope : ℕ
+  pub binder : ℕ
   pub start : ℕ
   pub level : ℕ
   pub associativity : ℕ
   pub child : ℕ
   pub asked : ℕ
+  pub kind : ℕ
+  pub place : ℕ
+  pub size : ℕ
   pub set : List (Parse ℕ)
   pub run : List (Parse ℕ)
 
-abbrev pub row : ℕ → ℕ → ℕ → ℕ → ℕ → ℕ → ℕ → ℕ → List (Parse ℕ) → List (Parse ℕ) → Row
-row live nonterminal scope start level associativity child asked set run = record {
+abbrev pub row : ℕ → ℕ → ℕ → ℕ → ℕ → ℕ → ℕ → ℕ → ℕ → ℕ → ℕ → List (Parse ℕ) → List (Parse ℕ) → Row
+row live nonterminal binder start level associativity child asked kind place size set run = record {
   live = live;
   nonterminal = nonterminal;
-  scope = scope;
+  binder = binder;
   start = start;
   level = level;
   associativity = associativity;
   child = child;
   asked = asked;
+  kind = kind;
+  place = place;
+  size = size;
   set = set;
   run = run;
 }
 
 -- ---- What is done to a row
--- a call is opened; the variant, the child and the run's set are left as they were
-abbrev pub opened : ℕ → ℕ → Row → Row
-opened N u r = row 1 N base u (r .level) (r .associativity) (r .child) 0 [] (r .run)
+-- a call is opened; the variant, the child, the level's name and the run's set are left as they were
+abbrev pub opened : ℕ → ℕ → ℕ → Row → Row
+opened binder N u r =
+    row 1 N binder u (r .level) (r .associativity) (r .child) 0 (r .kind) (r .place) (r .size) [] (r .run)
 
 abbrev pub ended : Row → Row
 ended r =
-    row 0 (r .nonterminal) (r .scope) (r .start) (r .level) (r .associativity) (r .child) (r .asked) (r .set) (r .run)
+    row 0 (r .nonterminal) (r .binder) (r .start) (r .level) (r .associativity) (r .child) (r .asked) (r .kind)
+    (r .place) (r .size) (r .set) (r .run)
 
 abbrev pub withVariant : ℕ → ℕ → Row → Row
 withVariant level associativity r =
-    row (r .live) (r .nonterminal) (r .scope) (r .start) level associativity (r .child) (r .asked) (r .set) (r .run)
+    row (r .live) (r .nonterminal) (r .binder) (r .start) level associativity (r .child) (r .asked) (r .kind)
+    (r .place) (r .size) (r .set) (r .run)
 
 abbrev pub withChild : ℕ → Row → Row
 withChild child r =
-    row (r .live) (r .nonterminal) (r .scope) (r .start) (r .level) (r .associativity) child (r .asked) (r .set)
-    (r .run)
+    row (r .live) (r .nonterminal) (r .binder) (r .start) (r .level) (r .associativity) child (r .asked) (r .kind)
+    (r .place) (r .size) (r .set) (r .run)
 
 abbrev pub wasAsked : Row → Row
 wasAsked r =
-    row (r .live) (r .nonterminal) (r .scope) (r .start) (r .level) (r .associativity) (r .child) 1 (r .set) (r .run)
+    row (r .live) (r .nonterminal) (r .binder) (r .start) (r .level) (r .associativity) (r .child) 1 (r .kind)
+    (r .place) (r .size) (r .set) (r .run)
 
 abbrev pub withSet : List (Parse ℕ) → Row → Row
 withSet set r =
-    row (r .live) (r .nonterminal) (r .scope) (r .start) (r .level) (r .associativity) (r .child) (r .asked) set
-    (r .run)
+    row (r .live) (r .nonterminal) (r .binder) (r .start) (r .level) (r .associativity) (r .child) (r .asked)
+    (r .kind) (r .place) (r .size) set (r .run)
 
 abbrev pub withRun : List (Parse ℕ) → Row → Row
 withRun run r =
-    row (r .live) (r .nonterminal) (r .scope) (r .start) (r .level) (r .associativity) (r .child) (r .asked)
-    (r .set) run
+    row (r .live) (r .nonterminal) (r .binder) (r .start) (r .level) (r .associativity) (r .child) (r .asked)
+    (r .kind) (r .place) (r .size) (r .set) run
 
 -- the call's set is what its run found
 abbrev pub copied : Row → Row
@@ -87,7 +103,7 @@ copied r = withSet (r .run) r
 
 -- ---- The table
 abbrev pub noRow : Row
-noRow = row 0 0 0 0 0 0 0 0 [] []
+noRow = row 0 0 0 0 0 0 0 0 0 0 0 [] []
 
 abbrev pub rowOf : List Row → ℕ → Row
 rowOf T i = getD T i noRow
@@ -112,7 +128,6 @@ openAbove F T n = openFrom F T (mostNesting - n) (suc n)
 abbrev pub useAt : Row → Use
 useAt r = record {
   nonterminal = r .nonterminal;
-  scope = r .scope;
   start = r .start;
   level = r .level;
   associativity = associativityOf (r .associativity);
@@ -125,28 +140,92 @@ askedAt r = eqb (r .asked) 1
 abbrev pub storedOf : Row → List (Parse ℕ)
 storedOf r = r .set
 
-abbrev pub pathOf : List Row → ℕ → Path
-pathOf T n = openAbove useAt T n
-
 abbrev pub setsOf : List Row → ℕ → List (List (Parse ℕ))
 setsOf T n = openAbove storedOf T n
 
 abbrev pub marksOf : List Row → ℕ → List Bool
 marksOf T n = openAbove askedAt T n
 
--- the call of row c
-abbrev pub callOf : List Row → ℕ → Call
-callOf T c = call (pathOf T c) (setsOf T c) (rowOf T c .nonterminal) (rowOf T c .start) (rowOf T c .set)
+-- ---- Openings
+-- the binder of a child: an opening around a call is around its children too
+unfoldable pub inherited : ℕ → ℕ
+inherited zero = 0
+inherited (suc b) = 1
+
+-- a call with this binder is the body behind an opening
+unfoldable pub isBody : ℕ → Bool
+isBody zero = false
+isBody (suc zero) = false
+isBody (suc (suc n)) = true
+
+-- the name that is declared at a row's level
+abbrev pub entryAt : List ℕ → Row → Entry
+entryAt text r = record { label = r .kind; spelling = partOf text (r .place) (r .size) }
+
+-- the names of the n rows above row i, the highest row's first
+unfoldable pub namesAbove : List ℕ → List Row → ℕ → ℕ → List Entry
+namesAbove text T zero i = []
+namesAbove text T (suc n) i = entryAt text (rowOf T (i + suc n)) ∷ namesAbove text T n i
+
+-- a path, behind the opening that row i's call with this binder is the body of
+unfoldable pub behindNames : List ℕ → List Row → ℕ → ℕ → Path → Path
+behindNames text T i zero path = path
+behindNames text T i (suc zero) path = path
+behindNames text T i (suc (suc n)) path = behind (namesAbove text T n i) ∷ path
+
+-- ---- The path of the open calls above a row
+-- within the call of row i, if it is live
+unfoldable pub withinRow : Bool → List ℕ → List Row → ℕ → Path → Path
+withinRow true text T i path = within (useAt (rowOf T i)) ∷ behindNames text T i (rowOf T i .binder) path
+withinRow false text T i path = path
+
+-- the live ones of k rows from i on
+unfoldable pub pathFrom : List ℕ → List Row → ℕ → ℕ → Path
+pathFrom text T zero i = []
+pathFrom text T (suc k) i = withinRow (eqb (rowOf T i .live) 1) text T i (pathFrom text T k (suc i))
+
+abbrev pub pathOf : List ℕ → List Row → ℕ → Path
+pathOf text T n = pathFrom text T (mostNesting - n) (suc n)
+
+-- the path of a use at row n with a binder
+abbrev pub pathAt : List ℕ → List Row → ℕ → ℕ → Path
+pathAt text T n binder = behindNames text T n binder (pathOf text T n)
+
+-- its scope; where no opening is around it, the rows are not looked at
+unfoldable pub scopeAt : List ℕ → List Row → ℕ → ℕ → Scope
+scopeAt text T n zero = []
+scopeAt text T n (suc b) = scopeOf (pathAt text T n (suc b))
+
+-- the call of row c, and its scope
+abbrev pub callOf : List ℕ → List Row → ℕ → Call
+callOf text T c =
+    call (pathAt text T c (rowOf T c .binder)) (setsOf T c) (rowOf T c .nonterminal) (rowOf T c .start) (rowOf T c .set)
+
+abbrev pub scopeIn : List ℕ → List Row → ℕ → Scope
+scopeIn text T c = scopeAt text T c (rowOf T c .binder)
 
 -- ---- Governors and claims, by rows
--- the call of a row is open, of the nonterminal and the base's scope, and its current child begins at u
-unfoldable pub governs : Row → ℕ → ℕ → Bool
-governs r N u = eqb (r .live) 1 && (eqb (r .nonterminal) N && (eqb (r .scope) base && eqb (r .child) u))
+-- the call of a row is open and the body behind an opening: what is around it has another scope
+unfoldable pub beginsScope : Row → Bool
+beginsScope r = eqb (r .live) 1 && isBody (r .binder)
 
--- the first governing one of k rows from i on, or the row behind them
+-- the call of a row is open and of the nonterminal, and its current child begins at u
+unfoldable pub governs : Row → ℕ → ℕ → Bool
+governs r N u = eqb (r .live) 1 && (eqb (r .nonterminal) N && eqb (r .child) u)
+
+-- a row that was found further out counts if no scope begins before it; else none does, which is the row behind all
+unfoldable pub inScope : Bool → ℕ → ℕ
+inScope true g = suc mostNesting
+inScope false g = g
+
+-- the first governing one of k rows from i on, up to where a scope begins, or the row behind all
 unfoldable pub newestGovernor : List Row → ℕ → ℕ → ℕ → ℕ → ℕ
 newestGovernor T N u zero i = i
-newestGovernor T N u (suc k) i = elim (governs (rowOf T i) N u) [ true ↦ i | false ↦ newestGovernor T N u k (suc i) ]
+newestGovernor T N u (suc k) i =
+    elim (governs (rowOf T i) N u) [
+      | true ↦ i
+      | false ↦ inScope (beginsScope (rowOf T i)) (newestGovernor T N u k (suc i))
+    ]
 
 -- what the governor of a use says: the minimum, or, for a child at the governor's own start, the governor's row
 pub data RowGovernor : Type 0 where
@@ -159,14 +238,21 @@ governorAt T u g =
     (λ _. when (eqb (rowOf T g .start) u) (λ _. same-start g) (λ _. minimum (minimumOf (useAt
     (rowOf T g) .associativity) (rowOf T g .level))))
 
-abbrev pub governorOf : List Row → ℕ → ℕ → ℕ → RowGovernor
-governorOf T n N u = governorAt T u (newestGovernor T N u (mostNesting - n) (suc n))
+-- of a use at row n with a binder
+abbrev pub governorOf : List Row → ℕ → ℕ → ℕ → ℕ → RowGovernor
+governorOf T n binder N u =
+    governorAt T u (inScope (isBody binder) (newestGovernor T N u (mostNesting - n) (suc n)))
 
--- the call of a row is open, of mark 1 and the base's scope, and begins at u
+-- the call of a row is open and of mark 1, and begins at u
 unfoldable pub claims : Book → Row → ℕ → Bool
-claims book r u = eqb (r .live) 1 && (hasMark book 1 (r .nonterminal) && (eqb (r .scope) base && eqb (r .start) u))
+claims book r u = eqb (r .live) 1 && (hasMark book 1 (r .nonterminal) && eqb (r .start) u)
 
--- one of k rows from i on claims
+-- one of k rows from i on claims, up to where a scope begins
 unfoldable pub anyClaims : Book → List Row → ℕ → ℕ → ℕ → Bool
 anyClaims book T u zero i = false
-anyClaims book T u (suc k) i = claims book (rowOf T i) u || anyClaims book T u k (suc i)
+anyClaims book T u (suc k) i =
+    claims book (rowOf T i) u || (not (beginsScope (rowOf T i)) && anyClaims book T u k (suc i))
+
+-- one claims a use at row n with a binder
+abbrev pub claimsUse : Book → List Row → ℕ → ℕ → ℕ → Bool
+claimsUse book T n binder u = not (isBody binder) && anyClaims book T u (mostNesting - n) (suc n)

@@ -16,17 +16,17 @@ use lib.ListN.{set, length}
 use borrow.Author.Tests.{eqb-true, eqb-false}
 use Rattle.characters.specs.Cases.{by-test}
 use Rattle.book.specs.Book.{Book, nthVariant, associativityNumber}
-use Rattle.semantics.specs.Uses.{base}
-use Rattle.semantics.specs.Tokens.{when}
-use Rattle.semantics.specs.Steps.{Item, Token, Taken, After, goes, halts, Todo}
+use Rattle.semantics.specs.Uses.{scopeOf}
+use Rattle.semantics.specs.Tokens.{Item, when}
+use Rattle.semantics.specs.Steps.{Token, Taken, After, goes, halts, Todo}
 use Rattle.semantics.specs.Cells.{Cell, findCell}
 use Rattle.semantics.specs.Run.{Result, met, ok, _>>=_, State, Parsed, parsed, Made, made, Call, call, Runner, spend}
 use Rattle.semantics.specs.Run.{make, itemCell, begin, withCell, withToken, nested}
-use Rattle.run_model.specs.Rows.{Row, rowOf, askedAt, marksOf, callOf}
+use Rattle.run_model.specs.Rows.{Row, rowOf, askedAt, marksOf, callOf, scopeIn}
 use Rattle.run_model.specs.Model.{RowState, rowState, Outcome, RowMade, rowMade, RowRunner, unmarked, makes}
 use Rattle.run_model.specs.Model.{spendRows, valueCell, nestedRows}
-use Rattle.run_model.specs.Keeps.{lessVariant, KeepsAt, KeepsRun, On, Keeping, Inner}
-use Rattle.run_model.specs.Views.{path-keeps, sets-keeps}
+use Rattle.run_model.specs.Keeps.{lessVariant, Keeps, KeepsAt, KeepsRun, On, Keeping, Inner}
+use Rattle.run_model.specs.Views.{sets-keeps, path-keeps, scope-keeps}
 
 abbrev pub stateOf : ℕ → List Cell → List Bool → State
 stateOf units cells asked = record { units = units; cells = cells; asked = asked }
@@ -210,43 +210,51 @@ foundAt n o =
     (stateOf (o .state .units) (o .state .cells) (marksOf (o .state .rows) n))
 
 -- the call C of row c stands open
-pub record Standing (C : Call) (c : ℕ) (T : List Row) : Type 0 where
+pub record Standing (text : List ℕ) (C : Call) (c : ℕ) (T : List Row) : Type 0 where
   pub live : rowOf T c .live ≡ 1
-  pub scope : rowOf T c .scope ≡ base
-  pub call : callOf T c ≡ C
+  pub call : callOf text T c ≡ C
+  pub scope : scopeIn text T c ≡ scopeOf (C .path)
   pub size : length T ≡ 201
 
 -- and runs variant j, while the rows from f on below it are not live
-pub record Here (book : Book) (C : Call) (c f j : ℕ) (T : List Row) : Type 0 where
-  pub standing : Standing C c T
+pub record Here (book : Book) (text : List ℕ) (C : Call) (c f j : ℕ) (T : List Row) : Type 0 where
+  pub standing : Standing text C c T
   pub level : rowOf T c .level ≡ nthVariant book j .level
   pub associativity : rowOf T c .associativity ≡ associativityNumber (nthVariant book j .associativity)
   pub idle : (i : ℕ) → f ≤ i → i < c → eqb (rowOf T i .live) 1 ≡ false
   pub below : f ≤ c
   pub within : c ≤ 200
 
-pub standing-keeps : (C : Call) (c : ℕ) (T U : List Row) → Standing C c T → KeepsRun c T U → Standing C c U
-standing-keeps C c T U h k =
+-- the scope of row c's call, when rows above stay and the row its binder
+pub scope-stays : (text : List ℕ) (c : ℕ) (T U : List Row) → Keeps (suc c) T U →
+    rowOf U c .binder ≡ rowOf T c .binder → scopeIn text U c ≡ scopeIn text T c
+scope-stays text c T U h e = rw e (scope-keeps text c T U h (rowOf T c .binder))
+
+pub standing-keeps : (text : List ℕ) (C : Call) (c : ℕ) (T U : List Row) → Standing text C c T →
+    KeepsRun c T U → Standing text C c U
+standing-keeps text C c T U h k =
     let n : rowOf U c .nonterminal ≡ rowOf T c .nonterminal = ap (λ r. r .nonterminal) (k .core) in
+    let b : rowOf U c .binder ≡ rowOf T c .binder = ap (λ r. r .binder) (k .core) in
     let u : rowOf U c .start ≡ rowOf T c .start = ap (λ r. r .start) (k .core) in
     let m : rowOf U c .set ≡ rowOf T c .set = ap (λ r. r .set) (k .core) in
-    let same : callOf U c ≡ callOf T c = rw (path-keeps c T U (k .above), sets-keeps c T U (k .above), n, u, m) in
+    let same : callOf text U c ≡ callOf text T c =
+    rw (b, path-keeps text c T U (k .above) (rowOf T c .binder), sets-keeps c T U (k .above), n, u, m) in
     record {
       live = ap (λ r. r .live) (k .core) ∙ h .live;
-      scope = ap (λ r. r .scope) (k .core) ∙ h .scope;
       call = same ∙ h .call;
+      scope = scope-stays text c T U (k .above) b ∙ h .scope;
       size = k .above .size ∙ h .size;
     }
 
-pub here-keeps : (book : Book) (C : Call) (c f j : ℕ) (T U : List Row) → Here book C c f j T →
-    KeepsAt c f T U → Here book C c f j U
-here-keeps book C c f j T U h k =
+pub here-keeps : (book : Book) (text : List ℕ) (C : Call) (c f j : ℕ) (T U : List Row) → Here book text C c f j T →
+    KeepsAt c f T U → Here book text C c f j U
+here-keeps book text C c f j T U h k =
     let run : KeepsRun c T U = record {
       above = record { at = λ i l. k .other i (omega (arith, h .below)) (λ e. omega arith); size = k .size };
       core = ap lessVariant (k .mine);
     } in
     record {
-      standing = standing-keeps C c T U (h .standing) run;
+      standing = standing-keeps text C c T U (h .standing) run;
       level = ap (λ r. r .level) (k .mine) ∙ h .level;
       associativity = ap (λ r. r .associativity) (k .mine) ∙ h .associativity;
       idle = λ i a b. ap (λ r. eqb (r .live) 1) (k .other i a (λ e. omega arith)) ∙ h .idle i a b;
@@ -255,9 +263,9 @@ here-keeps book C c f j T U h k =
     }
 
 -- the row below is live no longer
-pub here-shut : (book : Book) (C : Call) (c n j : ℕ) (T : List Row) → Here book C c (suc n) j T →
-    rowOf T n .live ≡ 0 → Here book C c n j T
-here-shut book C c n j T h s = record {
+pub here-shut : (book : Book) (text : List ℕ) (C : Call) (c n j : ℕ) (T : List Row) → Here book text C c (suc n) j T →
+    rowOf T n .live ≡ 0 → Here book text C c n j T
+here-shut book text C c n j T h s = record {
   standing = h .standing;
   level = h .level;
   associativity = h .associativity;
@@ -269,26 +277,26 @@ here-shut book C c n j T h s = record {
 
 -- ---- Runners
 -- a runner over rows, with row m free, and one of the definition
-pub record Alike (book : Book) (m : ℕ) (S : RowRunner) (R : Runner) : Type 0 where
+pub record Alike (book : Book) (text : List ℕ) (m : ℕ) (S : RowRunner) (R : Runner) : Type 0 where
   pub of : (C : Call) (c j : ℕ) (todo : List (Todo ℕ)) (x items : ℕ) (s : RowState) →
-      Here book C c (suc m) j (s .rows) →
+      Here book text C c (suc m) j (s .rows) →
       R C j todo x items (rowOf (s .rows) c .run) (stateAt c s) ≡ see (ranAt c) (S c j todo x items s)
 
 -- with n levels left there are none, or two that are alike
-pub data Kin (book : Book) : ℕ → Option RowRunner → Option Runner → Type 0 where
-  last : (n : ℕ) → Kin book n none none
-  more : (m : ℕ) (S : RowRunner) (R : Runner) → Keeping m S → Alike book m S R → Kin book (suc m) (some S) (some R)
+pub data Kin (book : Book) (text : List ℕ) : ℕ → Option RowRunner → Option Runner → Type 0 where
+  last : (n : ℕ) → Kin book text n none none
+  more : (m : ℕ) (S : RowRunner) (R : Runner) → Keeping m S → Alike book text m S R → Kin book text (suc m) (some S) (some R)
 
-pub kin-inner : (book : Book) (n : ℕ) (inner : Option RowRunner) (innerA : Option Runner) →
-    Kin book n inner innerA → Inner n inner
-kin-inner book n inner innerA (last k) = Inner.last k
-kin-inner book n inner innerA (more m S R keeping alike) = Inner.more m S keeping
+pub kin-inner : (book : Book) (text : List ℕ) (n : ℕ) (inner : Option RowRunner) (innerA : Option Runner) →
+    Kin book text n inner innerA → Inner n inner
+kin-inner book text n inner innerA (last k) = Inner.last k
+kin-inner book text n inner innerA (more m S R keeping alike) = Inner.more m S keeping
 
 pub nested-see :
     (g : Outcome → Parsed) (book : Book) (text : List ℕ) (n : ℕ) (inner : Option RowRunner) (innerA : Option Runner) →
-    Kin book n inner innerA →
+    Kin book text n inner innerA →
     (s : RowState) (asked : List Bool) (F : Runner → Result Parsed) (f : RowRunner → Result Outcome) →
-    ((m : ℕ) (S : RowRunner) (R : Runner) → n ≡ suc m → Keeping m S → Alike book m S R → F R ≡ see g (f S)) →
+    ((m : ℕ) (S : RowRunner) (R : Runner) → n ≡ suc m → Keeping m S → Alike book text m S R → F R ≡ see g (f S)) →
     nested book text innerA (stateOf (s .units) (s .cells) asked) F ≡ see g (nestedRows book text inner n s f)
 unfolding nested nestedRows see
 nested-see g book text n inner innerA (last k) s asked F f h = refl

@@ -18,73 +18,103 @@ use Rattle.book.specs.Book.{Book, nthVariant, stepNumber}
 use Rattle.book.specs.ReadingLaws.{associativity-of-number}
 use Rattle.book.specs.declared.records.Step.{Step}
 use Rattle.semantics.specs.Values.{Parse, absentParse}
-use Rattle.semantics.specs.Uses.{useOf}
+use Rattle.semantics.specs.Uses.{Enclosing, scopeOf, useOf}
 use Rattle.semantics.specs.Tokens.{when}
 use Rattle.semantics.specs.Steps.{Token, stepAt, afterElement, closed, Todo, taking, elements, ending}
 use Rattle.semantics.specs.Cells.{Cell}
-use Rattle.semantics.specs.Errors.{Error, chosenFailure}
+use Rattle.semantics.specs.Errors.{Error, chosenFailure, stepError}
 use Rattle.semantics.specs.Run.{Result, ok, _>>=_, State, Parsed, parsed, Call, call, Runner, Go, Next, add, spend}
 use Rattle.semantics.specs.Run.{make, chosen, complete, withToken, plainNext, listNext, stops, nested, enterChild}
 use Rattle.semantics.specs.Run.{followMore, follow, followed, stepUnit, orAbsent, choice, listing, steps, run}
 use Rattle.run_model.specs.Rows.{Row, withChild, withRun, rowOf, onRow, openAbove, useAt, askedAt, storedOf}
-use Rattle.run_model.specs.Rows.{marksOf, pathOf, callOf}
+use Rattle.run_model.specs.Rows.{marksOf, inherited, behindNames, pathOf, pathAt, scopeAt, callOf, scopeIn}
 use Rattle.run_model.specs.Model.{RowState, rowState, Outcome, outcome, RowRunner, RowGo, RowNext, makes}
 use Rattle.run_model.specs.Model.{spendRows, together, valueCell, variantParse, addRun, completeRows}
 use Rattle.run_model.specs.Model.{plainNextRows, listNextRows, stopsRows, nestedRows, enterChildRows, followFrom}
 use Rattle.run_model.specs.Model.{followedRows, stepUnitRows, chosenRows, orChild, orAbsentRows, choiceRows}
 use Rattle.run_model.specs.Model.{listingRows, stepsRows}
-use Rattle.run_model.specs.Keeps.{row-put, KeepsAt, Called, at-put, Beside, Calls, Keeping, Inner}
+use Rattle.run_model.specs.Keeps.{row-put, keeps-put, KeepsAt, Called, at-put, Beside, Calls, Keeping, Inner}
 use Rattle.run_model.specs.KeepsRun.{keeps-child, child-leaves, KeepsNext, keeps-one, keeps-followed}
 use Rattle.run_model.specs.KeepsRun.{keeps-plain-next, keeps-list-next, KeepsGo, keeps-stops, keeps-steps}
-use Rattle.run_model.specs.Views.{open-put, open-skips}
+use Rattle.run_model.specs.Views.{open-put, open-skips, path-keeps, path-skips}
 use Rattle.run_model.specs.Sim.{stateOf, see, then-see, same-see, option-see, after-see, taken-see, plain-make}
 use Rattle.run_model.specs.Sim.{plain-value, plain-with, plain-token, makes-see, spend-see, stateAt, ranAt}
 use Rattle.run_model.specs.Sim.{foundAt, Here, here-keeps, here-shut, Alike, Kin, more, kin-inner, nested-see}
-use Rattle.run_model.specs.SimCalls.{state-put, sim-enter}
+use Rattle.run_model.specs.SimCalls.{state-put, Scoped, sim-enter}
 
 module _ (book : Book) (text : List ℕ) (n : ℕ) (inner : Option RowRunner) (innerA : Option Runner)
-    (kin : Kin book n inner innerA) (room : n ≤ 200) where
+    (kin : Kin book text n inner innerA) (room : n ≤ 200) where
   inners : Inner n inner
-  inners = kin-inner book n inner innerA kin
+  inners = kin-inner book text n inner innerA kin
 
   module _ (C : Call) (c j : ℕ) (below : n < c) (within : c ≤ 200) where
     -- ---- The call of a child
     abbrev put : List Row → ℕ → List Row
     put T at = onRow T c (withChild at)
 
-    child-use : (T : List Row) (at : ℕ) → Here book C c (suc n) j T →
+    child-use : (T : List Row) (at : ℕ) → Here book text C c (suc n) j T →
         useAt (withChild at (rowOf T c)) ≡ useOf book (rowOf T c .nonterminal) (rowOf T c .start) j at
     child-use T at h =
-        rw (h .standing .scope, h .level, h .associativity, associativity-of-number (nthVariant book j .associativity))
+        rw (h .level, h .associativity, associativity-of-number (nthVariant book j .associativity))
 
     -- what the live rows say once the child's place is noted
-    child-open : {A : Type 0} (F : Row → A) (T : List Row) (at : ℕ) → Here book C c (suc n) j T →
+    child-open : {A : Type 0} (F : Row → A) (T : List Row) (at : ℕ) → Here book text C c (suc n) j T →
         openAbove F (put T at) n ≡ F (withChild at (rowOf T c)) ∷ openAbove F T c
     child-open F T at h =
         let r = withChild at (rowOf T c) in
         let l : c < length T = omega (arith, h .standing .size) in
-        let g : Here book C c (suc n) j (put T at) =
-        here-keeps book C c (suc n) j T (put T at) h (at-put c (suc n) T r l refl) in
+        let g : Here book text C c (suc n) j (put T at) =
+        here-keeps book text C c (suc n) j T (put T at) h (at-put c (suc n) T r l refl) in
         open-skips F (put T at) c n below within (g .standing .live) (g .idle) ∙ rw (row-put T c r l, open-put F T c r)
 
-    sim-child : (M x units : ℕ) (cells : List Cell) (T : List Row) → Here book C c (suc n) j T →
+    child-path : (T : List Row) (at : ℕ) → Here book text C c (suc n) j T →
+        pathOf text (put T at) n
+        ≡ Enclosing.within (useOf book (rowOf T c .nonterminal) (rowOf T c .start) j at) ∷ pathAt text T c (rowOf T c .binder)
+    child-path T at h =
+        let r = withChild at (rowOf T c) in
+        let l : c < length T = omega (arith, h .standing .size) in
+        let f : rowOf (put T at) c ≡ r = row-put T c r l in
+        let g : Here book text C c (suc n) j (put T at) =
+        here-keeps book text C c (suc n) j T (put T at) h (at-put c (suc n) T r l refl) in
+        path-skips text (put T at) c n below within (g .standing .live) (g .idle)
+        ∙ rw (f, child-use T at h, path-keeps text c T (put T at) (keeps-put c T r) (rowOf T c .binder))
+
+    -- an opening around a call is around its child
+    child-scoped : (T : List Row) (at b : ℕ) → rowOf T c .binder ≡ b → Here book text C c (suc n) j T →
+        Scoped text (put T at) n (inherited b)
+    unfolding inherited scopeAt behindNames scopeOf
+    child-scoped T at zero e h =
+        let same : callOf text T c ≡ C = h .standing .call in
+        rw (child-path T at h, e) (rw (← same, e) at (h .standing .scope))
+    child-scoped T at (suc b) e h = refl
+
+    inherited-path : (T : List Row) (b : ℕ) → pathAt text T n (inherited b) ≡ pathOf text T n
+    unfolding inherited behindNames
+    inherited-path T zero = refl
+    inherited-path T (suc b) = refl
+
+    sim-child : (M x units : ℕ) (cells : List Cell) (T : List Row) → Here book text C c (suc n) j T →
         enterChild book text innerA C j M x (stateAt c (rowState units cells T))
         ≡ see (foundAt n) (enterChildRows book text inner n c M x (rowState units cells T))
     unfolding enterChild enterChildRows
     sim-child M x units cells T h =
         let at = skipFrom text x in
-        let r = withChild at (rowOf T c) in
-        let same : callOf T c ≡ C = h .standing .call in
-        let size : length (put T at) ≡ 201 = length-set T c r ∙ h .standing .size in
-        let path : pathOf (put T at) n ≡ useOf book (rowOf T c .nonterminal) (rowOf T c .start) j at ∷ pathOf T c =
-        child-open useAt T at h ∙ ap (λ f. f ∷ pathOf T c) (child-use T at h) in
+        let b = inherited (rowOf T c .binder) in
+        let same : callOf text T c ≡ C = h .standing .call in
+        let size : length (put T at) ≡ 201 = length-set T c (withChild at (rowOf T c)) ∙ h .standing .size in
         rw (← same)
-        (rw (path, child-open storedOf T at h, child-open askedAt T at h) at
-        (sim-enter book text n inner innerA kin room M at (put T at) size units cells))
+        (rw (
+          inherited-path (put T at) (rowOf T c .binder),
+          child-path T at h,
+          child-open storedOf T at h,
+          child-open askedAt T at h,
+        ) at
+        (sim-enter book text n inner innerA kin room b M at (put T at) size
+        (child-scoped T at (rowOf T c .binder) refl h) units cells))
 
     -- behind the child's call: the marks are those of the call of row c and of those around it, and the run's set is as
     -- it was
-    behind : (e : Option Error) (units : ℕ) (cells : List Cell) (T : List Row) → Here book C c (suc n) j T →
+    behind : (e : Option Error) (units : ℕ) (cells : List Cell) (T : List Row) → Here book text C c (suc n) j T →
         foundAt n (outcome e (rowState units cells T)) ≡ parsed (rowOf T n .set) e (stateAt c (rowState units cells T))
     behind e units cells T h = rw (open-skips askedAt T c n below within (h .standing .live) (h .idle))
 
@@ -94,23 +124,23 @@ module _ (book : Book) (text : List ℕ) (n : ℕ) (inner : Option RowRunner) (i
         ap (λ r. r .run) (k .above .at c (omega arith))
         ∙ ap (λ r. r .run) (row-put T c (withChild (skipFrom text x) (rowOf T c)) (omega arith))
 
-    child-here : (x : ℕ) (T U : List Row) → Here book C c (suc n) j T → Called n (put T (skipFrom text x)) U →
-        Here book C c (suc n) j U
+    child-here : (x : ℕ) (T U : List Row) → Here book text C c (suc n) j T → Called n (put T (skipFrom text x)) U →
+        Here book text C c (suc n) j U
     child-here x T U h k =
-        here-keeps book C c (suc n) j T U h
+        here-keeps book text C c (suc n) j T U h
         (child-leaves book text n inner inners room c below within x T U (h .standing .size) k)
 
     -- ---- What follows the parses of a child
     abbrev pub NextAlike : RowNext → Next → Type 0
-    NextAlike next nextA = (m : ℕ) (S : RowRunner) (R : Runner) → n ≡ suc m → Keeping m S → Alike book m S R →
+    NextAlike next nextA = (m : ℕ) (S : RowRunner) (R : Runner) → n ≡ suc m → Keeping m S → Alike book text m S R →
         (q : Parse ℕ) (units : ℕ) (cells : List Cell) (T : List Row) →
-        Here book C c n j T →
+        Here book text C c n j T →
         nextA q (stateAt c (rowState units cells T)) R (rowOf T c .run)
         ≡ see (ranAt c) (next q (rowState units cells T) S)
 
     module _ (next : RowNext) (nextA : Next) (keeps : KeepsNext book text n inner inners room c below within next)
         (alike : NextAlike next nextA) where
-      sim-one : (q : Parse ℕ) (units : ℕ) (cells : List Cell) (T : List Row) → Here book C c n j T →
+      sim-one : (q : Parse ℕ) (units : ℕ) (cells : List Cell) (T : List Row) → Here book text C c n j T →
           nested book text innerA (stateAt c (rowState units cells T))
           (λ run. nextA q (stateAt c (rowState units cells T)) run (rowOf T c .run))
           ≡ see (ranAt c)
@@ -125,7 +155,7 @@ module _ (book : Book) (text : List ℕ) (n : ℕ) (inner : Option RowRunner) (i
       set-stays T U k = ap (λ r. r .set) (k .other n (omega arith) (λ e. omega arith))
 
       sim-more : (Q : List (Parse ℕ)) (k i : ℕ) (e : Option Error) (units : ℕ) (cells : List Cell) (T : List Row) →
-          rowOf T n .set ≡ Q → suc i + k ≡ length Q → Here book C c n j T →
+          rowOf T n .set ≡ Q → suc i + k ≡ length Q → Here book text C c n j T →
           followMore book text innerA nextA (drop (suc i) Q) (rowOf T c .run) e (stateAt c (rowState units cells T))
           ≡ see (ranAt c) (followFrom book text inner n next k (suc i) e (rowState units cells T))
       unfolding followMore followFrom together see
@@ -137,10 +167,10 @@ module _ (book : Book) (text : List ℕ) (n : ℕ) (inner : Option RowRunner) (i
           (rowState units cells T) (h .standing .size))
           (λ o a.
           sim-more Q k (suc i) _ (o .state .units) (o .state .cells) (o .state .rows)
-          (set-stays T (o .state .rows) a ∙ f) (omega arith) (here-keeps book C c n j T (o .state .rows) h a)))
+          (set-stays T (o .state .rows) a ∙ f) (omega arith) (here-keeps book text C c n j T (o .state .rows) h a)))
 
       sim-follow : (Q : List (Parse ℕ)) (k units : ℕ) (cells : List Cell) (T : List Row) → rowOf T n .set ≡ Q →
-          k ≡ length Q → Here book C c n j T →
+          k ≡ length Q → Here book text C c n j T →
           follow book text innerA nextA Q (rowOf T c .run) (stateAt c (rowState units cells T))
           ≡ see (ranAt c) (followFrom book text inner n next k 0 none (rowState units cells T))
       unfolding follow followFrom together see
@@ -151,10 +181,10 @@ module _ (book : Book) (text : List ℕ) (n : ℕ) (inner : Option RowRunner) (i
           (keeps-one book text n inner inners room c below within next keeps q
           (rowState units cells T) (h .standing .size))
           (λ o a. sim-more (q ∷ Q) (length Q) 0 (o .failure) (o .state .units) (o .state .cells) (o .state .rows)
-          (set-stays T (o .state .rows) a ∙ f) (omega arith) (here-keeps book C c n j T (o .state .rows) h a)))
+          (set-stays T (o .state .rows) a ∙ f) (omega arith) (here-keeps book text C c n j T (o .state .rows) h a)))
 
-      sim-followed : (e : Option Error) (units : ℕ) (cells : List Cell) (T : List Row) → Here book C c n j T →
-          Here book C c (suc n) j T →
+      sim-followed : (e : Option Error) (units : ℕ) (cells : List Cell) (T : List Row) → Here book text C c n j T →
+          Here book text C c (suc n) j T →
           followed book text innerA nextA (rowOf T c .run) (foundAt n (outcome e (rowState units cells T)))
           ≡ see (ranAt c) (followedRows book text inner n next (outcome e (rowState units cells T)))
       unfolding followed followedRows see
@@ -164,7 +194,7 @@ module _ (book : Book) (text : List ℕ) (n : ℕ) (inner : Option RowRunner) (i
           (λ z. sim-follow (rowOf T n .set) (length (rowOf T n .set)) units cells T refl refl h) (λ d z. refl)
 
       -- a child is called, and what it found is followed
-      sim-descend : (M x units : ℕ) (cells : List Cell) (T : List Row) → Here book C c (suc n) j T →
+      sim-descend : (M x units : ℕ) (cells : List Cell) (T : List Row) → Here book text C c (suc n) j T →
           (enterChild book text innerA C j M x (stateAt c (rowState units cells T))
           >>= (λ r. followed book text innerA nextA (rowOf T c .run) r))
           ≡ see (ranAt c) (enterChildRows book text inner n c M x (rowState units cells T)
@@ -176,7 +206,7 @@ module _ (book : Book) (text : List ℕ) (n : ℕ) (inner : Option RowRunner) (i
           let U = o .state .rows in
           let g = child-here x T U h k in
           rw (child-run x T U (h .standing .size) k) at
-          (sim-followed (o .failure) (o .state .units) (o .state .cells) U (here-shut book C c n j U g (k .shut)) g))
+          (sim-followed (o .failure) (o .state .units) (o .state .cells) U (here-shut book text C c n j U g (k .shut)) g))
 
       -- behind the other side of a choice
       chosen-seen : (at : ℕ) (a : Option Error) (b : Outcome) → C .nonterminal ≡ rowOf (b .state .rows) c .nonterminal →
@@ -190,7 +220,7 @@ module _ (book : Book) (text : List ℕ) (n : ℕ) (inner : Option RowRunner) (i
           both none z = rw (← z)
           both (some d) z = rw (← z, e)
 
-      sim-or-child : (M x : ℕ) (a : Outcome) → Here book C c (suc n) j (a .state .rows) →
+      sim-or-child : (M x : ℕ) (a : Outcome) → Here book text C c (suc n) j (a .state .rows) →
           (enterChild book text innerA C j M x (ranAt c a .state)
           >>= (λ r. followed book text innerA nextA (ranAt c a .set) r >>=
           (λ b. ok (chosen C (skipFrom text x) (ranAt c a .failure) b))))
@@ -206,10 +236,10 @@ module _ (book : Book) (text : List ℕ) (n : ℕ) (inner : Option RowRunner) (i
           let g = child-here x T U h k in
           then-see (ranAt c) (ranAt c) (Beside c (suc n) U) _ _ _ _
           (rw (child-run x T U (h .standing .size) k) at
-          (sim-followed (o .failure) (o .state .units) (o .state .cells) U (here-shut book C c n j U g (k .shut)) g))
+          (sim-followed (o .failure) (o .state .units) (o .state .cells) U (here-shut book text C c n j U g (k .shut)) g))
           (keeps-followed book text n inner inners room c below within next keeps o (g .standing .size))
           (λ b l.
-          let f = here-keeps book C c (suc n) j U (b .state .rows) g l in
+          let f = here-keeps book text C c (suc n) j U (b .state .rows) g l in
           ap ok (chosen-seen (skipFrom text x) (a .failure) b (sym (ap (λ c. c .nonterminal) (f .standing .call))))))
 
     sim-plain-next : (rest : List (Todo ℕ)) (items : ℕ) →
@@ -233,7 +263,7 @@ module _ (book : Book) (text : List ℕ) (n : ℕ) (inner : Option RowRunner) (i
 
     -- ---- Kinds of steps
     abbrev pub GoAlike : RowGo → Go → Type 0
-    GoAlike go goA = (x items units : ℕ) (cells : List Cell) (T : List Row) → Here book C c (suc n) j T →
+    GoAlike go goA = (x items units : ℕ) (cells : List Cell) (T : List Row) → Here book text C c (suc n) j T →
         goA x items (rowOf T c .run) (stateAt c (rowState units cells T))
         ≡ see (ranAt c) (go x items (rowState units cells T))
 
@@ -267,7 +297,7 @@ module _ (book : Book) (text : List ℕ) (n : ℕ) (inner : Option RowRunner) (i
           (keeps x cell₂ (rowState units₂ cells₂ T) (h .standing .size))
           (λ a k. sim-or-child (plainNextRows book text c j rest items) (plainNext book text C j rest items)
           (keeps-plain-next book text n inner inners room c below within j rest items) (sim-plain-next rest items) M x a
-          (here-keeps book C c (suc n) j T (a .state .rows) h k))))
+          (here-keeps book text C c (suc n) j T (a .state .rows) h k))))
 
       -- the elements of a list: stop, or one more
       sim-choice : (comma : Bool) (M values : ℕ) (close : Option ℕ) (rest : List (Todo ℕ)) →
@@ -284,7 +314,7 @@ module _ (book : Book) (text : List ℕ) (n : ℕ) (inner : Option RowRunner) (i
           sim-or-child (listNextRows book text c j comma M values close rest items)
           (listNext book text C j comma M values close rest items)
           (keeps-list-next book text n inner inners room c below within j comma M values close rest items)
-          (sim-list-next comma M values close rest items) M x a (here-keeps book C c (suc n) j T (a .state .rows) h k)))
+          (sim-list-next comma M values close rest items) M x a (here-keeps book text C c (suc n) j T (a .state .rows) h k)))
 
       -- a list from its beginning
       sim-listing : (comma : Bool) (M : ℕ) (close : Option ℕ) (rest : List (Todo ℕ)) →
@@ -316,7 +346,7 @@ module _ (book : Book) (text : List ℕ) (n : ℕ) (inner : Option RowRunner) (i
           (λ cell units₁ cells₁. alike (t .next) cell units₁ cells₁ T h)
 
     -- the end of a variant
-    sim-add : (p : Parse ℕ) (units : ℕ) (cells : List Cell) (T : List Row) → Here book C c (suc n) j T →
+    sim-add : (p : Parse ℕ) (units : ℕ) (cells : List Cell) (T : List Row) → Here book text C c (suc n) j T →
         (add (stateAt c (rowState units cells T)) (rowOf T c .run) p
         >>= (λ more. ok (parsed more none (stateAt c (rowState units cells T)))))
         ≡ see (ranAt c) (addRun book text c p (rowState units cells T))
@@ -357,6 +387,15 @@ module _ (book : Book) (text : List ℕ) (n : ℕ) (inner : Option RowRunner) (i
     abbrev stepsGo : List (Todo ℕ) → Go
     stepsGo todo x items set s = steps book text innerA C j todo x items set s
 
+    -- a step that takes nothing
+    sim-nothing : (step : Step) (x units : ℕ) (cells : List Cell) (T : List Row) → Here book text C c (suc n) j T →
+        ok (parsed (rowOf T c .run) (some (stepError book text (scopeOf (C .path)) step (skipFrom text x)))
+        (stateAt c (rowState units cells T)))
+        ≡ see (ranAt c)
+        (ok (outcome (some (stepError book text (scopeIn text T c) step (skipFrom text x))) (rowState units cells T)))
+    unfolding see
+    sim-nothing step x units cells T h = rw (h .standing .scope)
+
     -- one step, with what is left behind it
     sim-step : (step : Step) (rest : List (Todo ℕ)) → GoAlike (rowsGo rest) (stepsGo rest) →
         GoAlike (rowsGo (taking step ∷ rest)) (stepsGo (taking step ∷ rest))
@@ -365,14 +404,15 @@ module _ (book : Book) (text : List ℕ) (n : ℕ) (inner : Option RowRunner) (i
         let k : KeepsGo book text n inner inners room c below within (rowsGo rest) =
         keeps-steps book text n inner inners room c below within j rest in
         unit-see step units cells T (askedAt (rowOf T c) ∷ marksOf T c) _ _
-        (λ units₁. taken-see (ranAt c) (stepAt book text step x) _ _ _ _ _ _ _ _ _ _ _ _ refl
+        (λ units₁. rw (h .standing .scope) (taken-see (ranAt c) (stepAt book text (scopeOf (C .path)) step x) _ _ _ _ _ _ _ _ _ _ _ _
+        (sim-nothing step x units₁ cells T h)
         (λ t. sim-token (rowsGo rest) (stepsGo rest) k f t x items units₁ cells T h)
         (λ M. sim-descend (plainNextRows book text c j rest items) (plainNext book text C j rest items)
         (keeps-plain-next book text n inner inners room c below within j rest items)
         (sim-plain-next rest items) M x units₁ cells T h)
         (λ M. sim-or-absent (rowsGo rest) (stepsGo rest) k f M rest x items units₁ cells T h)
         (λ comma M close y. sim-listing (rowsGo rest) (stepsGo rest) k f comma M close rest y items units₁ cells T h)
-        (λ y. sim-unopened (rowsGo rest) (stepsGo rest) k f y items units₁ cells T h))
+        (λ y. sim-unopened (rowsGo rest) (stepsGo rest) k f y items units₁ cells T h)))
 
     pub sim-steps : (todo : List (Todo ℕ)) → GoAlike (rowsGo todo) (stepsGo todo)
     unfolding steps stepsRows

@@ -10,8 +10,9 @@ use native.Mathlib.Omega.{arith}
 use lib.ListN.{length}
 use Rattle.characters.specs.Skipping.{skipFrom}
 use Rattle.book.specs.Book.{Book}
+use Rattle.semantics.specs.Uses.{scopeOf}
 use Rattle.semantics.specs.Run.{Result, met, ok, Parsed, parsed, runner, run}
-use Rattle.run_model.specs.Rows.{Row, rowOf, openFrom}
+use Rattle.run_model.specs.Rows.{Row, rowOf, openFrom, behindNames, pathFrom, scopeAt}
 use Rattle.run_model.specs.Model.{rowState, Outcome, runnerRows, enterRows}
 use Rattle.run_model.specs.KeepsRun.{keeping-steps, keeps-runner}
 use Rattle.run_model.specs.Sim.{stateOf, see, foundAt, Kin, last, more}
@@ -30,7 +31,7 @@ seen-is (met number units) = refl
 seen-is (ok o) = refl
 
 module _ (book : Book) (text : List ℕ) where
-  pub sim-runner : (n : ℕ) → Kin book n (runnerRows book text n) (runner book text n)
+  pub sim-runner : (n : ℕ) → Kin book text n (runnerRows book text n) (runner book text n)
   unfolding runnerRows runner
   sim-runner zero = last zero
   sim-runner (suc n) =
@@ -43,9 +44,9 @@ module _ (book : Book) (text : List ℕ) where
 
 pub rows-run : (book : Book) (text : List ℕ) (units start : ℕ) (T : List Row) → length T ≡ 201 →
     run book text units start
-    ≡ seen (enterRows book text (runnerRows book text 200) 200 start (skipFrom text 0) (rowState units [] T))
-unfolding run openFrom
+    ≡ seen (enterRows book text (runnerRows book text 200) 200 0 start (skipFrom text 0) (rowState units [] T))
+unfolding run openFrom pathFrom behindNames scopeAt scopeOf
 rows-run book text units start T size =
     sim-enter book text 200 (runnerRows book text 200) (runner book text 200) (sim-runner book text 200) (omega arith)
-    start (skipFrom text 0) T size units []
-    ∙ seen-is (enterRows book text (runnerRows book text 200) 200 start (skipFrom text 0) (rowState units [] T))
+    0 start (skipFrom text 0) T size refl units []
+    ∙ seen-is (enterRows book text (runnerRows book text 200) 200 0 start (skipFrom text 0) (rowState units [] T))
