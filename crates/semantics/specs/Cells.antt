@@ -5,7 +5,7 @@ use Prim.Native.Nat.{ℕ, zero, suc, _+_, _-_, _*_}
 use lib.ListN.{getD}
 use Rattle.characters.specs.Spelling.{partOf, same}
 use Rattle.semantics.specs.Numbers.{half, emptyForm, chainForm, variantForm, nameForm, numberForm, variableForm}
-use Rattle.semantics.specs.Numbers.{absentForm, listForm}
+use Rattle.semantics.specs.Numbers.{absentForm, listForm, declaredForm}
 use Rattle.semantics.specs.Values.{Tree, Trees, no-trees, _▸_}
 
 pub data Cell : Type 0 where
@@ -13,8 +13,9 @@ pub data Cell : Type 0 where
   chain variant name number variable : ℕ → ℕ → Cell
   absent : Cell
   list : ℕ → Cell
+  declared : ℕ → ℕ → Cell
 
--- "three numbers (.. unstated ones 0)": the form, and what document 01 names after it
+-- "three numbers (.. unstated ones 0)": the form, and what document 01 names after it; "cell 9" is of document 02 d
 unfoldable pub numbersOf : Cell → List ℕ
 numbersOf empty = emptyForm ∷ 0 ∷ 0 ∷ []
 numbersOf (chain c item) = chainForm ∷ c ∷ item ∷ []
@@ -24,12 +25,14 @@ numbersOf (number high low) = numberForm ∷ high ∷ low ∷ []
 numbersOf (variable i kind) = variableForm ∷ i ∷ kind ∷ []
 numbersOf absent = absentForm ∷ 0 ∷ 0 ∷ []
 numbersOf (list c) = listForm ∷ c ∷ 0 ∷ []
+numbersOf (declared depth index) = declaredForm ∷ depth ∷ index ∷ []
 
 -- the cells that such numbers hold, by their forms from 1 on; three zeros, which are unused, read as an empty chain,
 -- which stands for no tree
 abbrev pub cellOf : ℕ → ℕ → ℕ → Cell
 cellOf form a b =
-    getD (empty ∷ chain a b ∷ variant a b ∷ name a b ∷ number a b ∷ variable a b ∷ absent ∷ list a ∷ [])
+    getD
+    (empty ∷ chain a b ∷ variant a b ∷ name a b ∷ number a b ∷ variable a b ∷ absent ∷ list a ∷ declared a b ∷ [])
     (form - 1) empty
 
 unfoldable pub cellsIn : List ℕ → List Cell
@@ -48,6 +51,7 @@ identityOf text (number high low) = numbersOf (number high low)
 identityOf text (variable i kind) = numbersOf (variable i kind)
 identityOf text absent = numbersOf absent
 identityOf text (list c) = numbersOf (list c)
+identityOf text (declared depth index) = numbersOf (declared depth index)
 
 -- the number of the first equal cell among those numbered from n, or 0
 unfoldable pub findCell : List ℕ → Cell → ℕ → List Cell → ℕ
@@ -86,6 +90,7 @@ meaningOf text before (number high low) = one (Tree.number (high * half + low))
 meaningOf text before (variable i kind) = one (Tree.variable i kind)
 meaningOf text before absent = one Tree.absent
 meaningOf text before (list c) = one (Tree.list (treesIn (nthMeaning before c)))
+meaningOf text before (declared depth index) = one (Tree.declared depth index)
 
 unfoldable pub meanings : List ℕ → List Meaning → List Cell → List Meaning
 meanings text before [] = before

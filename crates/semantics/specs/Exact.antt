@@ -12,7 +12,7 @@ use Rattle.book.specs.Book.{Book, associativityNumber}
 use Rattle.book.specs.Check.{checkBook, Outcome}
 use Rattle.semantics.specs.Numbers.{mostCells, half, noParse, noneWhole, differentValues, notAccepted, isLimit}
 use Rattle.semantics.specs.Numbers.{emptyForm, chainForm, variantForm, nameForm, numberForm, variableForm}
-use Rattle.semantics.specs.Numbers.{absentForm, listForm, cellSize, parseSize}
+use Rattle.semantics.specs.Numbers.{absentForm, listForm, declaredForm, cellSize, parseSize}
 use Rattle.semantics.specs.Values.{Tree, Trees, no-trees, _▸_, Parse, whole}
 use Rattle.semantics.specs.Derivations.{DerivesText}
 use Rattle.semantics.specs.Answer.{Answered, answerOf}
@@ -46,6 +46,9 @@ module _ (text cells : List ℕ) where
       -- "8 list, chain"
       list : {n c values : _} → CellAt cells n (listForm ∷ c ∷ 0 ∷ []) →
           c < n → StandsForTrees c values → StandsFor n (Tree.list values)
+      -- "cell 9" (document 02 d)
+      declared : {n depth index : _} → CellAt cells n (declaredForm ∷ depth ∷ index ∷ []) →
+          StandsFor n (Tree.declared depth index)
 
     -- cell n, of a chain, stands for trees
     pub data StandsForTrees : ℕ → Trees → Type 0 where

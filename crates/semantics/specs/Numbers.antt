@@ -188,3 +188,7 @@ absentForm = 7
 -- "8 list, chain"
 abbrev pub listForm : ℕ
 listForm = 8
+
+-- "cell 9", a declared variable: "its binder's depth outwards and its index within that binder" (document 02 d)
+abbrev pub declaredForm : ℕ
+declaredForm = 9

@@ -11,12 +11,14 @@ infixl 60 _▸_
 mutual
   -- "a variant's number and items in step order; passing, the child's value; for mark 2 the spelling. Items are an
   -- identifier's spelling, a number, a variable's name number and kind, a child's value, absent, or a list of values".
-  -- The value of a parse is a variant or a name
+  -- The value of a parse is a variant or a name. Document 02 d: "In a value, a declared variable shows its binder's
+  -- depth outwards and its index within that binder"
   pub data Tree : Type 0 where
     variant : ℕ → Trees → Tree
     name : List ℕ → Tree
     number : ℕ → Tree
     variable : ℕ → ℕ → Tree
+    declared : ℕ → ℕ → Tree
     absent : Tree
     list : Trees → Tree
 

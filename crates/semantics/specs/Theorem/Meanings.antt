@@ -49,6 +49,7 @@ Fits text C (Cell.number high low) = (high < 2 ^ 32) × (low < 2 ^ 32)
 Fits text C (Cell.variable i kind) = Unit {0}
 Fits text C Cell.absent = Unit {0}
 Fits text C (Cell.list c) = Chain text C c
+Fits text C (Cell.declared depth index) = Unit {0}
 
 -- ---- Cells that were made earlier
 pub record Prefix (C C′ : List Cell) : Type 0 where
@@ -131,6 +132,7 @@ module _ (text : List ℕ) where
   fits-still p (Cell.variable i kind) f = tt
   fits-still p Cell.absent f = tt
   fits-still p (Cell.list c) f = chain-still p c f
+  fits-still p (Cell.declared depth index) f = tt
 
   -- more meanings in front of a cell that fits change nothing
   pub means-still : {C C′ : List Cell} → Prefix C C′ → (c : Cell) → Fits text C c
@@ -144,6 +146,7 @@ module _ (text : List ℕ) where
   means-still p (Cell.variable i kind) f = refl
   means-still p Cell.absent f = refl
   means-still p (Cell.list c) f = rw (still p c (f .placed))
+  means-still p (Cell.declared depth index) f = refl
 
   pub new-meaning : (C : List Cell) (c : Cell) →
       meaning text (C ++ (c ∷ [])) (suc (length C)) ≡ meaningOf text (meanings text [] C) c
@@ -167,6 +170,7 @@ module _ (text : List ℕ) where
       ∷ one (Tree.variable a b)
       ∷ one Tree.absent
       ∷ one (Tree.list (treesIn (nthMeaning before a)))
+      ∷ one (Tree.declared a b)
       ∷ [])
       (form - 1) (several no-trees)
 
@@ -180,6 +184,7 @@ module _ (text : List ℕ) where
   by-identity before (Cell.variable i kind) = refl
   by-identity before Cell.absent = refl
   by-identity before (Cell.list c) = refl
+  by-identity before (Cell.declared depth index) = refl
 
   pub same-meaning : (before : List Meaning) (c d : Cell) → identityOf text c ≡ identityOf text d →
       meaningOf text before c ≡ meaningOf text before d
@@ -202,6 +207,7 @@ module _ (text : List ℕ) where
   Key C (one (Tree.variable i kind)) id = id ≡ 6 ∷ i ∷ kind ∷ []
   Key C (one Tree.absent) id = id ≡ 7 ∷ 0 ∷ 0 ∷ []
   Key C (one (Tree.list ts)) id = (c : ℕ) × Stands C c (several ts) × (id ≡ 8 ∷ c ∷ 0 ∷ [])
+  Key C (one (Tree.declared depth index)) id = id ≡ 9 ∷ depth ∷ index ∷ []
 
   chain-stands : {C : List Cell} (c : ℕ) → Chain text C c → Stands C c (several (treesIn (meaning text C c)))
   unfolding treesIn
@@ -221,6 +227,7 @@ module _ (text : List ℕ) where
   key C (Cell.variable i kind) f = refl
   key C Cell.absent f = refl
   key C (Cell.list c) f = (c, chain-stands c f, refl)
+  key C (Cell.declared depth index) f = refl
 
   -- no two cells stand for the same
   pub record Single (C : List Cell) : Type 0 where
@@ -250,6 +257,7 @@ module _ (text : List ℕ) where
   key-once C single (one Tree.absent) a b k l = k ∙ sym l
   key-once C single (one (Tree.list ts)) a b k l =
       let chains = stands-once single (k .1) (l .1) in k .2 ∙ rw chains (sym (l .2))
+  key-once C single (one (Tree.declared depth index)) a b k l = k ∙ sym l
 
   pub same-identity : (C : List Cell) → Single C → (c d : Cell) → Fits text C c → Fits text C d
       → meaningOf text (meanings text [] C) c ≡ meaningOf text (meanings text [] C) d →

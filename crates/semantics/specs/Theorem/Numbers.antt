@@ -52,6 +52,7 @@ cell-in (Cell.number high low) l = refl
 cell-in (Cell.variable i kind) l = refl
 cell-in Cell.absent l = refl
 cell-in (Cell.list c) l = refl
+cell-in (Cell.declared depth index) l = refl
 
 pub cells-in : (C : List Cell) (l : List ℕ) → cellsIn (cellNumbers C ++ l) ≡ C ++ cellsIn l
 unfolding cellNumbers
@@ -68,6 +69,7 @@ three (Cell.number high low) = refl
 three (Cell.variable i kind) = refl
 three Cell.absent = refl
 three (Cell.list c) = refl
+three (Cell.declared depth index) = refl
 
 cells-length : (C : List Cell) → length (cellNumbers C) ≡ 3 * length C
 unfolding cellNumbers

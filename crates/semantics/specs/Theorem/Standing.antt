@@ -16,7 +16,7 @@ use Rattle.semantics.specs.Values.{Tree, Trees}
 use Rattle.semantics.specs.Cells.{Cell, numbersOf, cellOf, cellsIn, Meaning, one, several, treeIn, treesIn}
 use Rattle.semantics.specs.Cells.{meaningOf, meanings}
 use Rattle.semantics.specs.Exact.{CellAt, StandsFor, StandsForTrees, variant, name, number, variable, absent}
-use Rattle.semantics.specs.Exact.{list, empty, chain}
+use Rattle.semantics.specs.Exact.{list, declared, empty, chain}
 use Rattle.semantics.specs.Theorem.Meanings.{cellAt, cell-still, new-cell, new-meaning}
 use Rattle.semantics.specs.Theorem.Table.{Table, no-cells, one-more, Fits, Placed, Prefix, prefix-placed, meaning}
 use Rattle.semantics.specs.Theorem.Table.{still, earlier, last-or-earlier, last-meaning}
@@ -109,6 +109,7 @@ module _ (text cells : List ℕ) where
         let r = reads n at in
         let m = chain-means values in
         record { least = at .least; is = r .is ∙ rw (r .kept c (m .least) less ∙ m .is) }
+    stands-means {n} (declared at) = record { least = at .least; is = reads n at .is }
 
     chain-means : {n : ℕ} {ts : Trees} → StandsForTrees text cells n ts → Means n (several ts)
     chain-means {n} (empty at) = record { least = at .least; is = reads n at .is }
@@ -155,6 +156,7 @@ module _ (text numbers : List ℕ) where
   new-stands C Cell.absent f before at = absent at
   new-stands C (Cell.list c) f before at =
       rw (f .is) (list at (omega (arith, f .placed .most)) (rw (f .is) at (before c (f .placed))))
+  new-stands C (Cell.declared depth index) f before at = declared at
 
   -- one more cell behind others
   module _ (C : List Cell) (c : Cell) {C′ : List Cell} (e : C′ ≡ C ++ (c ∷ [])) where
