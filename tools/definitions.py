@@ -1,5 +1,6 @@
 #!/usr/bin/env python3
-"""Translates the definitions of `crates/semantics/specs` and `crates/printing/specs`, and those they use, into Python.
+"""Translates the definitions of `crates/semantics/specs` and `crates/printing/specs`, and those they use, into Python;
+and the rules of `crates/semantics/specs/Derivations.antt` into a search for all that they derive.
 
 The definitions are read as they stand and translated word by word into Python functions; nothing of what they say is
 written again here. What is written here by hand is only what the definitions take from libraries: booleans, numbers,
@@ -9,6 +10,11 @@ is not understood stops the program with the file and the line.
     python3 tools/definitions.py --python
 
 prints the Python text. `python3 tools/replay.py --through definitions` runs it on vectors.
+
+A rule of Derivations becomes a generator, premise by premise: of a goal in which the parse is missing it yields the
+parses that the rule gives. What is written here by hand is where the parse of a goal stands (SOUGHT), and that what is
+derivable is the least that the rules are closed under. `python3 tools/replay.py --through derivations` compares it with
+the parses of vectors.
 
 Values are represented so: numbers and booleans as Python's; a list as (head, tail, length), the empty one as NIL; a
 constructor as a tuple of its name and its arguments; a record as a named tuple; a pair as a pair; a function as a
@@ -24,7 +30,13 @@ import threading
 ENTRY = ("semantics", "Answer", "answerOf")
 CHECK = ("book", "Check", "checkBook")
 LINE = ("printing", "Printing", "lineBytes")
+GOAL = ("semantics", "Derivations", "DerivesText")
+PARSES = ("semantics", "Cells", "cellsIn"), ("semantics", "Cells", "treeAt"), ("book", "Book", "associativityNumber")
+# where the parse of a goal stands: as the last index; or in this field of the first, an attempt, where it is the last
+SOUGHT = {"Derives": None, "Through": "parse"}
+MOST_TURNS = 20000              # of the search for derivations, before it is given up
 ANSWER = ["refusal", "place", "kind", "argument", "work", "parses", "value"]
+CELL_SIZE = 3                   # the numbers of a cell
 ROOT = os.path.dirname(os.path.dirname(os.path.abspath(__file__)))
 
 
@@ -174,6 +186,7 @@ class Program:
         self.root, self.scopes, self.lines, self.fixities = root, {}, [], dict(FIXITIES)
         self.records, self.counter, self.enums = {}, 0, {}
         self.waiting = []           # functions that are `when`
+        self.rules = {}             # of each inductive family: its rules, as Python functions
         self.namespace = dict(RUNTIME)
 
     def fresh(self, name):
@@ -335,23 +348,34 @@ class File:
         where = next(i for i, w in enumerate(item) if w.text == "where")
         constructors = {}
         self.scope[name] = Type(constructors)
+        family = name in SOUGHT
+        if family:
+            self.program.rules[name] = []
         for line in blocks(item[where + 1:]):
             colon = next((i for i, w in enumerate(line) if w.text == ":"), None)
             if not colon:
                 self.stop(line[0], "no known constructor")
+            if family:
+                self.held.append(lambda rule=line[0], words=line[colon + 1:]: RuleWriter(self, rule).rule(name, words))
+                continue
             arity = self.arity(line[colon + 1:])
             for word in line[:colon]:
                 constructors[word.text] = self.scope[word.text] = Constructor(name + "." + word.text, arity)
 
-    def arity(self, words):
-        """How many explicit arguments a constructor's type has."""
+    def split(self, words, at):
+        """The parts of words between those that are `at`, outside brackets."""
         parts, depth = [[]], 0
         for word in words:
             depth += (word.text in OPENING) - (word.text in CLOSING)
-            if word.text == "→" and depth == 0:
+            if word.text == at and depth == 0:
                 parts.append([])
             else:
                 parts[-1].append(word)
+        return parts
+
+    def arity(self, words):
+        """How many explicit arguments a constructor's type has."""
+        parts = self.split(words, "→")
         count = 0
         for part in parts[:-1]:
             if part[0].text == "{":         # implicit arguments
@@ -382,8 +406,10 @@ class File:
     def definition(self, name, kind, clauses):
         if not clauses:
             self.stop(name, "no clauses")
-        if [w.text for w in kind[-2:-1]] == ["Type"]:      # a name for a type: nothing to run
+        if [w.text for w in kind[-2:-1]] == ["Type"]:      # a name for a type: nothing to run, but for a goal
             self.scope[name.text] = Type({})
+            if clauses[0][[w.text for w in clauses[0]].index("=") + 1].text in self.program.rules:
+                self.scope[name.text] = RuleWriter(self, name).named_goal(clauses[0][1:])
             return
         parsed = [Parser(self, clause).clause() for clause in clauses]
         arity = len(parsed[0][0])
@@ -840,6 +866,108 @@ class Writer:
         return "(lambda %s: %s)(%s)" % (", ".join(given), body, ", ".join(values)) if given else "(%s)" % body
 
 
+class RuleWriter(Writer):
+    """Writes one rule of an inductive family: a generator of what is sought of a goal that is its conclusion."""
+
+    def __init__(self, file, name):
+        super().__init__(file, {p.name: Variable(p.python) for p in file.sections})
+        self.name, self.python, self.out, self.indent = name, self.program.fresh(name.text), [], " "
+
+    def rule(self, family, words):
+        *premises, conclusion = self.file.split(words, "→")
+        parser, patterns = Parser(self.file, conclusion[1:]), []
+        while parser.peek() is not None:
+            patterns.append(parser.pattern_atom())
+        arguments, self.sought = [self.program.fresh("a") for _ in patterns], self.part(family, patterns)
+        for pattern, argument in zip(patterns, arguments):
+            if pattern[1].text != self.sought:
+                self.fits(pattern, argument)
+        for premise in premises:
+            self.premise(premise)
+        if self.sought not in self.scope:
+            self.file.stop(self.name, "no premise says `%s` of" % self.sought)
+        self.out.append(self.indent + "yield " + self.scope[self.sought].python)
+        self.program.rules[family].append(self.python)
+        self.define(["ask"] + arguments)
+
+    def named_goal(self, words):
+        """A function that gives a goal: of a clause without its name, which is `parameters = goal`."""
+        end = [word.text for word in words].index("=")
+        self.scope.update({word.text: Variable(self.program.fresh(word.text)) for word in words[:end]})
+        self.out.append(" return (%s)" % self.goal(words[end + 1:])[0])
+        self.define([self.scope[word.text].python for word in words[:end]])
+        return Function(self.python, list(self.file.sections), end)
+
+    def define(self, parameters):
+        parameters = [p.python for p in self.file.sections] + parameters
+        self.program.lines += ["def %s(%s):" % (self.python, ", ".join(parameters))] + self.out
+
+    def premise(self, words):
+        """A goal; a bound of a variable; an equation that says what is sought; or one of a value with a pattern."""
+        bound, equation = self.file.split(words, "<"), self.file.split(words, "≡")
+        if words[0].text == "{":        # the rule's variables
+            return
+        if words[0].text in self.program.rules:
+            goal, part = self.goal(words)
+            self.known(part, goal, "for ? in ask(%s):")
+        elif len(bound) == 2:
+            self.known(bound[0][0].text, self.written(bound[1]), "for ? in range(%s):")
+        elif len(equation) == 2 and " ".join(word.text for word in equation[0]) == self.sought:
+            self.known(self.sought, self.written(equation[1]), "? = %s")
+        elif len(equation) == 2:
+            value = self.program.fresh("e")
+            self.out.append(self.indent + "%s = %s" % (value, self.written(equation[0])))
+            parser = Parser(self.file, equation[1])
+            self.fits(parser.pattern(0), value)
+            if parser.peek() is not None:
+                self.file.stop(words[0], "no known pattern in the premise of")
+        else:
+            self.file.stop(words[0], "no known premise")
+
+    def goal(self, words):
+        """The Python text of a goal, with None for what is sought of it; and what that is."""
+        parser, indices = Parser(self.file, words[1:]), []
+        while parser.peek() is not None:
+            indices.append(parser.atom())
+        part = self.part(words[0].text, indices)
+        scope = {**self.scope, part: Variable("None")}
+        values = [self.value(index, scope, self.out, self.indent) for index in indices]
+        return ", ".join([repr(words[0].text)] + values), part
+
+    def part(self, family, indices):
+        """What is sought of a goal, by the words of the file: a variable, or a field of one."""
+        place, field = (indices[0], " ." + SOUGHT[family]) if SOUGHT[family] else (indices[-1], "")
+        if field and place[0] == "group":
+            place, field = self.plain(place)[3][-1], ""
+        if place[0] not in ("name", "variable"):
+            self.file.stop(place[1], "no known goal")
+        return place[1].text + field
+
+    def known(self, words, value, line):
+        """From this line on, what these words of the file stand for is known."""
+        self.unknown(words)
+        self.scope[words] = Variable(self.program.fresh(words))
+        self.out.append(self.indent + line.replace("?", self.scope[words].python) % value)
+        self.indent += " " * line.endswith(":")
+
+    def unknown(self, words):
+        if words in self.scope:         # two values would have to be compared
+            self.file.stop(self.name, "known before is `%s` of" % words)
+
+    def fits(self, pattern, value):
+        tests, binds = [], []
+        self.pattern(pattern, value, tests, binds, self.scope)
+        self.indent = self.open(self.out, self.indent, tests, binds)
+
+    def pattern(self, pattern, value, tests, binds, scope):
+        if pattern[0] == "variable":
+            self.unknown(pattern[1].text)
+        super().pattern(pattern, value, tests, binds, scope)
+
+    def written(self, words):
+        return self.value(Parser(self.file, words).whole(), self.scope, self.out, self.indent)
+
+
 # ---- Running
 def with_deep_stack(work):
     """The definitions call themselves deeply, so they run in a thread with a large stack."""
@@ -860,12 +988,20 @@ def with_deep_stack(work):
     return result[0]
 
 
+class Unended(Exception):
+    pass
+
+
 class Definitions:
-    """The call of document 01 and the line of its answer, as the definitions give them."""
+    """The call of document 01, the line of its answer and what is derivable, as the definitions give them."""
 
     def __init__(self, root=ROOT):
         self.program = Program(root)
-        self.answer_of, self.check_book, self.line_bytes = self.program.load(ENTRY, CHECK, LINE)
+        loaded = self.program.load(ENTRY, CHECK, LINE, GOAL, *PARSES)
+        self.answer_of, self.check_book, self.line_bytes, self.goal_of = loaded[:4]
+        self.cells_in, self.tree_at, self.associativity_number = loaded[4:]
+        rules = self.program.rules.items()
+        self.rules = {family: [self.program.namespace[python] for python in functions] for family, functions in rules}
 
     def read(self, book, text, start, allowance, cells, parses):
         """The seven numbers of the answer, both lists after the call, and the line."""
@@ -877,8 +1013,46 @@ class Definitions:
         outcome = self.check_book(from_python(book))
         # of a book that isn't accepted no name is printed
         names = outcome[1].f_names if outcome[0] == "Outcome.book" else NIL
-        line = self.line_bytes(names, from_python(text), result.f_cells, result.f_answer)
+        # what a cell stands for is made of the cells before it: those behind the value's would only take time
+        cells = take(CELL_SIZE * result.f_answer.f_value, result.f_cells)
+        line = self.line_bytes(names, from_python(text), cells, result.f_answer)
         return answer, to_python(result.f_cells), to_python(result.f_parses), bytes(to_python(line))
+
+    def derivable(self, book, text, start):
+        """The parses of a text, of an accepted book, each by rest, level, associativity and tree. May raise Unended."""
+        return with_deep_stack(lambda: self.searched(book, text, start))
+
+    def searched(self, book, text, start):
+        book, text = self.check_book(from_python(book))[1], from_python(text)
+        found = self.closed(book, text, self.goal_of(book, text, start, None))
+        return {(p.f_rest, p.f_level, self.associativity_number(p.f_associativity), p.f_value) for p in found}
+
+    def closed(self, book, text, goal):
+        """The least that the rules give of a goal. A goal has nothing at first; each turn adds what the rules give of
+        one goal, from what the goals have so far; if that is more, those that asked for it are due again."""
+        found, askers, due = {goal: {}}, {goal: {}}, {goal: None}
+        for _ in range(MOST_TURNS):
+            if not due:
+                return list(found[goal])
+            at = due.popitem()[0]
+
+            def ask(*asked):
+                if asked not in found:
+                    found[asked], askers[asked], due[asked] = {}, {}, None
+                askers[asked][at] = None
+                return list(found[asked])
+            given = {p: None for rule in self.rules[at[0]] for p in rule(book, text, ask, *at[1:])}
+            if not given.keys() <= found[at].keys():
+                found[at].update(given)
+                due.update(askers[at])
+        raise Unended
+
+    def listed(self, text, cells, parses):
+        """The parses that a call lists, by its text and cells, as those that are derivable."""
+        return with_deep_stack(lambda: self.with_trees(from_python(text), self.cells_in(from_python(cells)), parses))
+
+    def with_trees(self, text, cells, parses):
+        return [(rest, level, side, self.tree_at(text, cells, cell)) for rest, level, side, cell in parses]
 
 
 def main():

@@ -17,7 +17,14 @@ full of rubbish; the first that isn't refused with 1 also with each list of that
     python3 tools/replay.py --through definitions VECTORS.jsonl ..
 
 The definitions, translated into Python (tools/definitions.py): no proof, but it reaches vectors that are too long for
-the prover. --processes N runs N at a time; --limit-work N leaves out vectors of more work.
+the prover. --processes N runs N at a time; --limit-work N leaves out vectors of more work, --least-work N those of
+less.
+
+    python3 tools/replay.py --through derivations VECTORS.jsonl ..
+
+The rules of Derivations, by a search for all that they derive (tools/definitions.py), in which the definitions of the
+run have no part: of each vector that meets no limit, the parses as trees, each once, are just those that are derivable.
+The options are those of the definitions.
 
 It prints the first few vectors that differ, by file and line, then how many there are and how many differ. The status
 is 1 if any differs.
@@ -33,10 +40,11 @@ import sys
 import tempfile
 
 from cases.vectors import BEYOND, CELLS, PARSES, REFUSAL, WORK, lent, line, parse_numbers, read, record
-from definitions import Definitions, NotUnderstood
+from definitions import Definitions, NotUnderstood, Unended
 from library import linked
 from reader import NOTHING_REPLAYED, ROOT, TOOLCHAIN, WAYS, compiled_replay, replay_source, tried
 
+MOST_UNITS = 1_000_000  # the largest allowance
 SHOWN = 12  # how many vectors that differ are printed
 
 
@@ -282,22 +290,52 @@ def definition_differences(task):
     return place, "; ".join(what for part in parts if (what := difference(*part)))
 
 
-def through_definitions(vectors, options):
+def by_definitions(way, differences, vectors, options):
     global DEFINITIONS  # the processes share it
     try:
         DEFINITIONS = Definitions()
     except NotUnderstood as error:
         sys.exit(str(error))
-    limit = options.limit_work
-    chosen = [(place, v) for place, v in vectors if limit is None or v["answer"][WORK] <= limit]
+    least, most = options.least_work, options.limit_work
+    chosen = [(place, v) for place, v in vectors if least <= v["answer"][WORK] <= most]
     if len(chosen) < len(vectors):
-        print(f"definitions: {len(vectors) - len(chosen)} vectors left out, whose work is above {limit}")
+        print(f"{way}: {len(vectors) - len(chosen)} vectors left out, whose work is not from {least} to {most}")
     with multiprocessing.get_context("fork").Pool(options.processes) as pool:
-        results = pool.map(definition_differences, chosen, chunksize=1)
-    return told("definitions", len(chosen), [(place, what) for place, what in results if what])
+        results = pool.map(differences, chosen, chunksize=1)
+    return told(way, len(chosen), [(place, what) for place, what in results if what])
 
 
-THROUGH = {"reader": through_reader, "library": through_library, "definitions": through_definitions}
+def through_definitions(vectors, options):
+    return by_definitions("definitions", definition_differences, vectors, options)
+
+
+# ---- Through the derivations
+AT_THE_END = (0, 30, 31, 32)  # the refusals of an accepted call that meets no limit
+
+
+def derivation_differences(task):
+    place, v = task
+    text, known = bytes.fromhex(v["text"]), v["parses"] or []
+    try:
+        derivable = DEFINITIONS.derivable(bytes.fromhex(v["book"]), text, v["start"])
+    except Unended:
+        return place, "the search for derivations did not end"
+    listed = set(DEFINITIONS.listed(text, v["cells"] or [], known))
+    alike, missing, wrong = len(known) - len(listed), len(derivable - listed), len(listed - derivable)
+    if alike or missing or wrong:
+        return place, f"of {len(known)} parses {alike} alike and {wrong} not derivable; {missing} derivable are missing"
+    return place, ""
+
+
+def through_derivations(vectors, options):
+    ended = [(place, v) for place, v in vectors if v["answer"][REFUSAL] in AT_THE_END]
+    if len(ended) < len(vectors):
+        print(f"derivations: {len(vectors) - len(ended)} vectors left out, which are not accepted or meet a limit")
+    return by_definitions("derivations", derivation_differences, ended, options)
+
+
+THROUGH = {"reader": through_reader, "library": through_library}
+THROUGH |= {"definitions": through_definitions, "derivations": through_derivations}
 
 
 def main():
@@ -306,7 +344,8 @@ def main():
     options.add_argument("--at", default="O3", metavar="WAYS")
     options.add_argument("--library", default=f"{ROOT}/target/staticlib/libmidgebillon.a", metavar="FILE")
     options.add_argument("--processes", type=int, default=1, metavar="N")
-    options.add_argument("--limit-work", type=int, metavar="N")
+    options.add_argument("--limit-work", type=int, default=MOST_UNITS, metavar="N")
+    options.add_argument("--least-work", type=int, default=0, metavar="N")
     options.add_argument("files", nargs="+", metavar="VECTORS.jsonl")
     chosen = options.parse_args()
     if not set(chosen.at.split(",")) <= {*WAYS, "interpreter"}:
