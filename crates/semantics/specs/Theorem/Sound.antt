@@ -230,7 +230,9 @@ module _ (book : Book) (text : List ℕ) where
     s-steps (s-opening {o} {j} {y = y} {names = names} e c es) h t p m =
         let f = s-each es h t p m in
         by-opening e
-        (s-enters c (truthful-behind names _ _ (truthful o j (skipFrom text y) h t)) (f .q) (f .found)) (f .way)
+        (s-enters c
+        (truthful-behind names (inside book text o j (skipFrom text y)) (around o) (truthful o j (skipFrom text y) h t))
+        (f .q) (f .found)) (f .way)
 
     s-each : {o : Open} {j : ℕ} {c : Follows} {Q : List (Parse Tree)} {B : List Bool} {R : List (Parse Tree)}
         {B′ : List Bool} → Each book text o j c Q B R B′ →
