@@ -7,9 +7,11 @@
 --   Alike                errors that can't be told apart beyond a place: joined with others they stay alike
 --                        (`alike-join`), and a choice there or further on (`alike-choice`) and a call that begins there
 --                        (`alike-counted`) make the same of them
+--   choice-drops         an 11 at a choice's own place drops; so that of a declared name, with argument 32, never gets
+--                        past its choice (`missing-kind-drops`)
 -- and of the whole run, by induction:
---   run-error-skipped    every error of a run stands at a skipped place (ErrorLaws/Skipped, with what holds of every
---                        call on the way; what that takes of places is in ErrorLaws/Places)
+--   run-error-skipped    every error of a run stands at a skipped place (ErrorLaws/Skipped; what holds of every call on
+--                        the way is in ErrorLaws/Gives, and what that takes of places in ErrorLaws/Places)
 --   run-with             "Rust's two left-recursion messages and the claimed-name message never get past this": with
 --                        whatever errors for re-entries and claimed names, the run is the same (ErrorLaws/Unseen, of
 --                        the run that ErrorLaws/Told has, by the relations of ErrorLaws/Like)
@@ -32,13 +34,23 @@ use Rattle.characters.specs.SkippingLaws.{skip-no-whitespace}
 use Rattle.characters.specs.Spelling.{partOf}
 use Rattle.characters.specs.declared.classes.Class.the-variants.{Whitespace}
 use Rattle.characters.specs.declared.skipping.Span.the-variants.{Spaces}
-use Rattle.book.specs.Book.{Book, nthVariant}
-use Rattle.semantics.specs.Errors.{Error, wins, join, beyond, choiceError}
-use Rattle.semantics.specs.Run.{Call, counted}
+use Rattle.book.specs.Book.{Entry, Book, nthVariant}
+use Rattle.semantics.specs.Numbers.{nonterminalWanted, moreWanted, declaredName}
+use Rattle.semantics.specs.Values.{Parse}
+use Rattle.semantics.specs.Tokens.{kindAt}
+use Rattle.semantics.specs.Steps.{Todo}
+use Rattle.semantics.specs.Errors.{Error, error, wins, join, beyond, choiceError, declarationError}
+use Rattle.semantics.specs.Run.{ok, State, Parsed, parsed, Call, Runner, chosen, counted, nameChoice}
+use Rattle.semantics.specs.Theorem.Results.{ok-inj, none-some, some-inj, after}
 pub mod Places
+pub mod Gives
+pub mod SkippedCalls
+pub mod SkippedBinders
 pub mod Skipped
 pub mod Told
 pub mod Like
+pub mod UnseenCalls
+pub mod UnseenBinders
 pub mod Unseen
 
 -- ---- "more than skipped text lies between"
@@ -194,3 +206,45 @@ pub alike-counted : (book : Book) (text : List ℕ) (c : Call) (j : ℕ) (a b : 
 unfolding counted
 alike-counted book text c j a b h =
     ap (λ (o : Option Error). cond (nthVariant book j .committed) o none) (alike-beyond (c .start) a b h)
+
+-- ---- What a choice drops
+-- a choice gives 12 at its place, or an error beyond it
+choice-cases : {X : Type 0} (at N : ℕ) (a b : Error) → (choiceError at N a b ≡ error at moreWanted N → X) →
+    (at < choiceError at N a b .place → X) → X
+unfolding choiceError beyond
+choice-cases at N a b f g =
+    by-test (ltb at (join a b .place)) (λ t. g (rw (t, choiceError, beyond) (ltb-true at (join a b .place) t)))
+    (λ t. f (rw (t, choiceError, beyond)))
+
+-- so no 11 that stands there
+pub choice-drops : (at N argument : ℕ) (a b : Error) → choiceError at N a b ≡ error at nonterminalWanted argument → ⊥
+choice-drops at N argument a b e =
+    choice-cases at N a b
+    (λ is. let same : moreWanted ≡ nonterminalWanted = ap (λ (d : Error). d .kind) (sym is ∙ e) in omega arith)
+    (λ far. let there = ap (λ (d : Error). d .place) e in omega arith)
+
+chosen-drops : (c : Call) (at argument : ℕ) (o : Option Error) (b : Parsed) →
+    chosen c at o b .failure ≡ some (error at nonterminalWanted argument) → ⊥
+unfolding chosen
+chosen-drops c at argument none b e = none-some e
+chosen-drops c at argument (some a) b e = by (b .failure) refl e
+  where
+    by : (o : Option Error) → b .failure ≡ o →
+        elim o as (λ _. Parsed) [
+          | none ↦ b
+          | some d ↦ parsed (b .set) (some (choiceError at (c .nonterminal) a d)) (b .state)
+        ] .failure ≡ some (error at nonterminalWanted argument) → ⊥
+    by none n e = none-some (sym n ∙ e)
+    by (some d) n e = choice-drops at (c .nonterminal) argument a d (some-inj e)
+
+-- a declared name whose kind's word is missing fails where its choice is made: the choice never hands that error on
+pub missing-kind-drops : (book : Book) (text : List ℕ) (inner : Option Runner) (c : Call) (j : ℕ) (names : List Entry)
+    (kinds close M : ℕ) (rest : List (Todo ℕ)) (x items : ℕ) (set : List (Parse ℕ)) (s : State) (r : Parsed) →
+    kindAt book text (skipFrom text x) ≡ none →
+    nameChoice book text inner c j names kinds close M rest x items set s ≡ ok r →
+    r .failure ≡ some (declarationError book text (skipFrom text x)) → ⊥
+unfolding nameChoice declarationError
+missing-kind-drops book text inner c j names kinds close M rest x items set s r missing e failed =
+    after _ _ e (λ t spent e₁. after _ _ e₁ (λ a opened e₂. after _ _ e₂ (λ b declared is.
+    chosen-drops c (skipFrom text x) declaredName (a .failure) b
+    (ap (λ (d : Parsed). d .failure) (ok-inj is) ∙ rw (missing, declarationError) at failed))))

@@ -10,7 +10,7 @@ use Rattle.semantics.specs.Errors.{Error}
 use Rattle.semantics.specs.Run.{Result, met, ok, _>>=_, State, Parsed, parsed, Call, Runner, Go, Next}
 use Rattle.semantics.specs.Run.{either as eitherError}
 use Rattle.semantics.specs.ErrorLaws.{Alike, alike-join}
-use Rattle.semantics.specs.ErrorLaws.Skipped.{Behind, Ready}
+use Rattle.semantics.specs.ErrorLaws.Gives.{Behind, Ready}
 
 -- both or neither, and a call that begins at the place can't tell them apart
 pub data Both (place : ℕ) : Option Error → Option Error → Type 0 where

@@ -1,30 +1,32 @@
--- Places: what a step takes, and where a list goes on, never lies before its place; an error stands where its step was
--- wanted; a governor at its own start and a use that claims a name begin where the child does.
-use mathlib.Core.Path.{_≡_, refl, ap, subst}
+-- Places: what a step takes, and where a list goes on, never lies before its place, and a declared name ends behind its
+-- own; an error stands where its step was wanted, and that of a declared name at a skipped place; a governor at its own
+-- start and a use that claims a name begin where the child does, and the opening that a child stands behind is no use.
+use mathlib.Core.Path.{_≡_, refl, sym, ap, subst}
 use mathlib.Core.Bool.{Bool, true, false, _&&_, false≢true, and-eq-true-iff}
 use mathlib.Core.List.{List, [], _∷_, List·Memᴰ·head, List·Memᴰ·tail}
 use mathlib.Core.Option.{Option, none, some}
 use Prim.Native.Nat.{ℕ, _≤_, _<_}
 use native.Mathlib.Omega.{arith}
 use lib.Dec.{ltb, eqb}
-use lib.ListN.{length, getD}
+use lib.ListN.{length, getD, take}
 use borrow.Author.Tests.{eqb-true}
 use Rattle.characters.specs.Cases.{by-test}
 use Rattle.characters.specs.Skipping.{skipFrom}
-use Rattle.characters.specs.SkippingLaws.{skip-forward}
+use Rattle.characters.specs.SkippingLaws.{skip-forward, skip-twice}
 use Rattle.characters.specs.Spelling.{same}
 use Rattle.characters.specs.Lexemes.{numberAt}
 use Rattle.characters.specs.LexemeLaws.{number-bounds}
 use Rattle.characters.specs.declared.lexemes.Number.{Number}
-use Rattle.book.specs.Book.{Book, nthEntry, lookupName}
-use Rattle.book.specs.declared.names.Found.{Found}
+use Rattle.book.specs.Book.{Entry, Book, nthEntry, leastWord}
 use Rattle.book.specs.declared.records.Step.{Step}
-use Rattle.semantics.specs.Uses.{Use, Enclosing, within, behind, Path, hasMark, Governor, minimum, same-start}
-use Rattle.semantics.specs.Uses.{Scope, outwards, govern, governor}
+use Rattle.semantics.specs.Numbers.{kindWords, identifierWanted}
+use Rattle.semantics.specs.Uses.{Use, Enclosing, within, behind, Path, behindAny, hasMark, Governor, minimum}
+use Rattle.semantics.specs.Uses.{same-start, Scope, outwards, govern, governor}
 use Rattle.semantics.specs.Tokens.{Variable, Read, isSome, characterEnd, identifierEnd, spelled, reservedAt}
-use Rattle.semantics.specs.Tokens.{freeEnd, variableIn, variableAt, hasClaimant}
+use Rattle.semantics.specs.Tokens.{freeEnd, variableIn, variableAt, hasClaimant, kindAt, nameOfKind}
+use Rattle.semantics.specs.Tokens.{declarationAt}
 use Rattle.semantics.specs.Steps.{Taken, stepAt, After, goes, halts, afterElement, closed}
-use Rattle.semantics.specs.Errors.{Error, identifierError, stepError}
+use Rattle.semantics.specs.Errors.{Error, error, identifierError, declarationError, stepError}
 use Rattle.semantics.specs.Theorem.Lists.{_∈_}
 use Rattle.semantics.specs.Theorem.Results.{some-inj, none-some, option-cases}
 use Rattle.semantics.specs.Theorem.Sound.{At, here, there, past}
@@ -43,6 +45,25 @@ same-begin e = ap startOf e
     startOf : Enclosing → ℕ
     startOf (within f) = f .start
     startOf (behind names) = 0
+
+-- an opening is no use
+use-no-opening : {f : Use} {names : List Entry} → within f ≡ behind names → ⊥
+use-no-opening e = false≢true (sym (ap isUse e))
+  where
+    isUse : Enclosing → Bool
+    isUse (within f) = true
+    isUse (behind names) = false
+
+-- so the uses around a body are those around its opening
+pub behind-any-in : (opening : Option (List Entry)) {P : Path} {f : Use} → within f ∈ behindAny opening P → within f ∈ P
+behind-any-in none m = m
+behind-any-in (some names) (List·Memᴰ·head e) = absurd (use-no-opening e)
+behind-any-in (some names) (List·Memᴰ·tail m) = m
+
+pub behind-any-at : (opening : Option (List Entry)) {P Q : Path} {i : ℕ} {f : Use} → At (behindAny opening P) i f Q →
+    At P i f Q
+behind-any-at none a = a
+behind-any-at (some names) (past a) = a
 
 -- a governor at its own start begins where the child does
 abbrev Begins : ℕ → Governor → Type 0
@@ -80,7 +101,7 @@ pub record Claimant (P : Path) (u : ℕ) : Type 0 where
 
 -- ---- Places go forward
 module _ (text : List ℕ) where
-  character-forward : (a x end : ℕ) → characterEnd text a x ≡ some end → x ≤ end
+  pub character-forward : (a x end : ℕ) → characterEnd text a x ≡ some end → x ≤ end
   unfolding characterEnd
   character-forward a x end q =
       let h = skip-forward text x in
@@ -106,20 +127,52 @@ module _ (text : List ℕ) where
       (λ end e. rw (e, afterElement) (character-forward 44 x end e))
 
 module _ (book : Book) (text : List ℕ) where
-  variable-forward : (scope : Scope) (at : ℕ) (v : Read Variable) → variableAt book text scope at ≡ some v → at ≤ v .end
+  -- what is read ends behind its place, if its identifier does
+  read-forward : {A : Type 0} {at end : ℕ} (f : Option A) (v : Read A) → at < end →
+      elim f [ some w ↦ some (record { end = end; value = w }) | none ↦ none ] ≡ some v → at < v .end
+  read-forward {A} {end = end} (some w) v l p =
+      let is : end ≡ v .end = ap (λ (r : Read A). r .end) (some-inj p) in omega arith
+  read-forward none v l p = absurd (none-some p)
+
+  variable-forward : (scope : Scope) (at : ℕ) (v : Read Variable) → variableAt book text scope at ≡ some v → at < v .end
   unfolding variableAt
   variable-forward scope at v q =
       option-cases (identifierEnd text at)
       (λ e. absurd (none-some (rw (e, variableAt) at q)))
       (λ end e.
-      named-forward end (identifier-within text at end e .0)
-      (variableIn (book .names) 0 scope (spelled text at end)) (rw (e, variableAt) at q))
-    where
-      named-forward : (end : ℕ) → at < end → (f : Option Variable) →
-          elim f [ some w ↦ some (record { end = end; value = w }) | none ↦ none ] ≡ some v → at ≤ v .end
-      named-forward end l (some w) p =
-          let is : end ≡ v .end = ap (λ (w : Read Variable). w .end) (some-inj p) in omega arith
-      named-forward end l none p = absurd (none-some p)
+      read-forward (variableIn (book .names) 0 scope (spelled text at end)) v (identifier-within text at end e .0)
+      (rw (e, variableAt) at q))
+
+  kind-forward : (at : ℕ) (k : Read ℕ) → kindAt book text at ≡ some k → at < k .end
+  unfolding kindAt
+  kind-forward at k q =
+      option-cases (identifierEnd text at)
+      (λ e. absurd (none-some (rw (e, kindAt) at q)))
+      (λ end e.
+      read-forward (leastWord 0 (take kindWords (book .words)) (spelled text at end)) k
+      (identifier-within text at end e .0) (rw (e, kindAt) at q))
+
+  name-forward : (kind at : ℕ) (d : Read Entry) → nameOfKind book text kind at ≡ some d → at < d .end
+  unfolding nameOfKind
+  name-forward kind at d q =
+      option-cases (freeEnd book text at)
+      (λ e. absurd (none-some (rw (e, nameOfKind) at q)))
+      (λ end e.
+      let less = free-end-within book text at end e .0 in
+      let is : end ≡ d .end = ap (λ (w : Read Entry). w .end) (some-inj (rw (e, nameOfKind) at q)) in
+      omega arith)
+
+  -- a declared name ends behind its place
+  pub declaration-forward : (at : ℕ) (d : Read Entry) → declarationAt book text at ≡ some d → at < d .end
+  unfolding declarationAt
+  declaration-forward at d q =
+      option-cases (kindAt book text at)
+      (λ e. absurd (none-some (rw (e, declarationAt) at q)))
+      (λ k e.
+      let kind = kind-forward at k e in
+      let on = skip-forward text (k .end) in
+      let name = name-forward (k .value) (skipFrom text (k .end)) d (rw (e, declarationAt) at q) in
+      omega arith)
 
   -- what a step takes, it takes at its place or further on
   abbrev pub TakenOn : ℕ → Taken → Type 0
@@ -200,7 +253,20 @@ module _ (book : Book) (text : List ℕ) where
       (λ u. option-cases (identifierEnd text at) (λ e. rw (t, u, e, identifierError)) (λ end e.
       rw (t, u, e, identifierError) h)))
 
-  number-error-place : (scope : Scope) (at : ℕ) (n : Number) → numberAt text at ≡ n → stepError book text scope Step.Number at .place ≡ at
+  -- that of a declared name stands at its place, or where its identifier was wanted: at a skipped place
+  pub declaration-error-skipped : (at : ℕ) → skipFrom text at ≡ at →
+      skipFrom text (declarationError book text at .place) ≡ declarationError book text at .place
+  unfolding declarationError
+  declaration-error-skipped at h =
+      option-cases (kindAt book text at)
+      (λ e. rw (e, declarationError) h)
+      (λ k e.
+      let after = skipFrom text (k .end) in
+      let there = identifier-error-place after (error after identifierWanted 0) refl in
+      rw (e, declarationError) (rw there (skip-twice text (k .end))))
+
+  number-error-place : (scope : Scope) (at : ℕ) (n : Number) → numberAt text at ≡ n →
+      stepError book text scope Step.Number at .place ≡ at
   unfolding stepError
   number-error-place scope at n e = by-test (eqb at (length text)) (λ t. rw (t, stepError)) (λ t. by n e t)
     where
