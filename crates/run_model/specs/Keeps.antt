@@ -111,6 +111,14 @@ at-put c n T r h o = record {
   size = length-set T c r;
 }
 
+-- a row below is put
+pub at-below : (c n : ℕ) (T : List Row) (r : Row) → n < c → KeepsAt c (suc n) T (set T n r)
+at-below c n T r h = record {
+  other = λ j l k. ap lessMark (row-else T n j r (λ e. omega arith));
+  mine = ap lessRun (row-else T n c r (λ e. omega arith));
+  size = length-set T n r;
+}
+
 pub at-of : {c n : ℕ} {T U : List Row} → n ≤ c → Keeps n T U → KeepsAt c n T U
 at-of {c} h a = record { other = λ j l k. a .at j l; mine = ap lessRun (a .at c h); size = a .size }
 
@@ -198,9 +206,10 @@ on-governor Q (minimum m) f h a b = a m
 on-governor Q (same-start r) f h a b = b r
 
 pub on-taken : {A : Type 0} (Q : A → Type 0) (k : Taken) (a : Result A) (b : Token → Result A) (c d : ℕ → Result A)
-    (e : Bool → ℕ → Option ℕ → ℕ → Result A) (f : ℕ → Result A) →
+    (e : Bool → ℕ → Option ℕ → ℕ → Result A) (f : ℕ → Result A) (g : ℕ → ℕ → ℕ → Result A) (h : ℕ → Result A) →
     On Q a → ((t : Token) → On Q (b t)) → ((M : ℕ) → On Q (c M)) → ((M : ℕ) → On Q (d M)) →
     ((comma : Bool) (M : ℕ) (close : Option ℕ) (y : ℕ) → On Q (e comma M close y)) → ((y : ℕ) → On Q (f y)) →
+    ((close M y : ℕ) → On Q (g close M y)) → ((M : ℕ) → On Q (h M)) →
     On Q (elim k [
       | Taken.nothing ↦ a
       | Taken.token t ↦ b t
@@ -208,13 +217,17 @@ pub on-taken : {A : Type 0} (Q : A → Type 0) (k : Taken) (a : Result A) (b : T
       | Taken.optional M ↦ d M
       | Taken.list comma M close y ↦ e comma M close y
       | Taken.unopened y ↦ f y
+      | Taken.names close M y ↦ g close M y
+      | Taken.body M ↦ h M
     ])
-on-taken Q Taken.nothing a b c d e f ha hb hc hd he hf = ha
-on-taken Q (Taken.token t) a b c d e f ha hb hc hd he hf = hb t
-on-taken Q (Taken.child M) a b c d e f ha hb hc hd he hf = hc M
-on-taken Q (Taken.optional M) a b c d e f ha hb hc hd he hf = hd M
-on-taken Q (Taken.list comma M close y) a b c d e f ha hb hc hd he hf = he comma M close y
-on-taken Q (Taken.unopened y) a b c d e f ha hb hc hd he hf = hf y
+on-taken Q Taken.nothing a b c d e f g h ha hb hc hd he hf hg hh = ha
+on-taken Q (Taken.token t) a b c d e f g h ha hb hc hd he hf hg hh = hb t
+on-taken Q (Taken.child M) a b c d e f g h ha hb hc hd he hf hg hh = hc M
+on-taken Q (Taken.optional M) a b c d e f g h ha hb hc hd he hf hg hh = hd M
+on-taken Q (Taken.list comma M close y) a b c d e f g h ha hb hc hd he hf hg hh = he comma M close y
+on-taken Q (Taken.unopened y) a b c d e f g h ha hb hc hd he hf hg hh = hf y
+on-taken Q (Taken.names close M y) a b c d e f g h ha hb hc hd he hf hg hh = hg close M y
+on-taken Q (Taken.body M) a b c d e f g h ha hb hc hd he hf hg hh = hh M
 
 -- cells are made, and units spent: the rows stay
 pub on-makes : {A : Type 0} (Q : A → Type 0) (f : State → Result Made) (s : RowState) (K : RowMade → Result A) →

@@ -2,33 +2,37 @@
 -- steps, `keeps-runner` for the runners, by recursion on the levels left. Scaffolding: no definition of document 01.
 use mathlib.Core.Path.{_≡_, refl, _∙_}
 use mathlib.Core.Bool.{Bool, true, false}
-use mathlib.Core.List.{List, [], _∷_}
+use mathlib.Core.List.{List, [], _∷_, _++_}
 use mathlib.Core.Option.{Option, none, some}
-use Prim.Native.Nat.{ℕ, zero, suc, _<_, _≤_}
+use Prim.Native.Nat.{ℕ, zero, suc, _+_, _<_, _≤_}
 use native.Mathlib.Omega.{arith}
 use lib.Dec.{leb, eqb}
 use lib.ListN.{getD, set, length, length-set}
+use Rattle.characters.specs.Cases.{by-test}
 use Rattle.characters.specs.Classes.{between}
 use Rattle.characters.specs.Skipping.{skipFrom}
-use Rattle.book.specs.Book.{Book, nthVariant, stepNumber}
+use Rattle.book.specs.Book.{Entry, Book, nthVariant, stepNumber}
 use Rattle.book.specs.declared.records.Step.{Step}
+use Rattle.semantics.specs.Numbers.{mostDeclared}
 use Rattle.semantics.specs.Values.{Parse, absentParse}
 use Rattle.semantics.specs.Uses.{hasMark}
-use Rattle.semantics.specs.Tokens.{when}
-use Rattle.semantics.specs.Steps.{stepAt, afterElement, closed, Todo, taking, elements, ending, todoOf}
+use Rattle.semantics.specs.Tokens.{Read, when, characterEnd, declarationAt}
+use Rattle.semantics.specs.Steps.{stepAt, afterElement, closed, Todo, taking, elements, ending, naming}
+use Rattle.semantics.specs.Steps.{closing, todoOf}
 use Rattle.semantics.specs.Cells.{Cell}
 use Rattle.semantics.specs.Errors.{Error}
-use Rattle.semantics.specs.Run.{Result, ok, _>>=_, allIn, addAll, begin}
+use Rattle.semantics.specs.Run.{Result, ok, _>>=_, allIn, addAll, begin, declaredNames}
 use Rattle.run_model.specs.Rows.{Row, opened, ended, withChild, wasAsked, withSet, withRun, copied, rowOf, onRow}
-use Rattle.run_model.specs.Rows.{inherited, scopeIn, governorOf}
+use Rattle.run_model.specs.Rows.{binderFor, scopeIn, governorOf}
 use Rattle.run_model.specs.Model.{RowState, rowState, Outcome, RowRunner, RowGo, RowNext, unmarked, atRow}
 use Rattle.run_model.specs.Model.{spendRows, addRun, completeRows, takeVariant, variantsRows, oneRunRows, settle}
 use Rattle.run_model.specs.Model.{roundsRows, settleFirst, runCallRows, namedRows, runIdentifierRows}
 use Rattle.run_model.specs.Model.{plainNextRows, listNextRows, stopsRows, nestedRows, withStored, storedRows}
 use Rattle.run_model.specs.Model.{enterRows, enterChildRows, followFrom, followedRows, stepUnitRows, orChild}
-use Rattle.run_model.specs.Model.{orAbsentRows, choiceRows, listingRows, stepsRows, runnerRows}
+use Rattle.run_model.specs.Model.{orAbsentRows, choiceRows, listingRows, withDeclared, openRows, bodyRows, opensRows}
+use Rattle.run_model.specs.Model.{declaresRows, nameChoiceRows, stepsRows, runnerRows}
 use Rattle.run_model.specs.Keeps.{Keeps, KeepsAt, Called, keeps-refl, keeps-then, keeps-put, keeps-mark, at-refl}
-use Rattle.run_model.specs.Keeps.{at-then, at-put, at-of, at-less, run-refl, run-then, run-put, run-of}
+use Rattle.run_model.specs.Keeps.{at-then, at-put, at-below, at-of, at-less, run-refl, run-then, run-put, run-of}
 use Rattle.run_model.specs.Keeps.{called-put, called-then, On, on-met, on-ok, on-bind, on-map, on-any, on-when}
 use Rattle.run_model.specs.Keeps.{on-option, on-list, on-after, on-governor, on-taken, on-makes, on-spend, Beside}
 use Rattle.run_model.specs.Keeps.{Ran, Calls, Fits, Keeping, Inner, last, more, on-nested}
@@ -169,11 +173,12 @@ module _ (book : Book) (text : List ℕ) (n : ℕ) (inner : Option RowRunner)
     Leaves s y = On (Beside c (suc n) (s .rows)) y
 
     -- a child's call
-    pub keeps-child : (M x : ℕ) (s : RowState) → length (s .rows) ≡ 201 →
-        On (Calls n (onRow (s .rows) c (withChild (skipFrom text x)))) (enterChildRows book text inner n c M x s)
+    pub keeps-child : (opening : Option (List Entry)) (M x : ℕ) (s : RowState) → length (s .rows) ≡ 201 →
+        On (Calls n (onRow (s .rows) c (withChild (skipFrom text x)))) (enterChildRows book text inner n opening c M x s)
     unfolding enterChildRows
-    keeps-child M x s h =
-        keeps-enter (inherited (rowOf (s .rows) c .binder)) M (skipFrom text x) (atRow c (withChild (skipFrom text x)) s) (length-set (s .rows) c _ ∙ h)
+    keeps-child opening M x s h =
+        keeps-enter (binderFor opening (rowOf (s .rows) c .binder)) M (skipFrom text x)
+        (atRow c (withChild (skipFrom text x)) s) (length-set (s .rows) c _ ∙ h)
 
     pub child-leaves : (x : ℕ) (T U : List Row) → length T ≡ 201 →
         Called n (onRow T c (withChild (skipFrom text x))) U → KeepsAt c (suc n) T U
@@ -255,7 +260,7 @@ module _ (book : Book) (text : List ℕ) (n : ℕ) (inner : Option RowRunner)
     keeps-or-child M next f x a h =
         let T = a .state .rows in
         let Q = Beside c (suc n) T in
-        on-bind (Calls n (onRow T c (withChild (skipFrom text x)))) Q _ _ (keeps-child M x (a .state) h)
+        on-bind (Calls n (onRow T c (withChild (skipFrom text x)))) Q _ _ (keeps-child none M x (a .state) h)
         (λ r k.
         let d : KeepsAt c (suc n) T (r .state .rows) = child-leaves x T (r .state .rows) h k in
         on-bind (Beside c (suc n) (r .state .rows)) Q _ _ (keeps-followed next f r (d .size ∙ h))
@@ -292,6 +297,70 @@ module _ (book : Book) (text : List ℕ) (n : ℕ) (inner : Option RowRunner)
         on-makes (Beside c (suc n) (s .rows)) _ s _
         (λ cell units cells. keeps-choice j comma M cell close rest go g x items (rowState units cells (s .rows)) h)
 
+    -- ---- Binders
+    on-open : {A : Type 0} (Q : A → Type 0) (opening : Option (List Entry)) (s : RowState) (K : RowState → Result A) →
+        On Q (K s) → On Q (openRows book text inner n opening c s >>= K)
+    unfolding openRows _>>=_ On
+    on-open Q none s K h = h
+    on-open Q (some names) s K h =
+        by-test (leb (length names + declaredNames (scopeIn text (s .rows) c)) mostDeclared)
+        (λ t. rw t h) (λ t. rw t tt)
+
+    pub keeps-body : (opening : Option (List Entry)) (j M item : ℕ) (rest : List (Todo ℕ)) →
+        KeepsGo (bodyRows book text inner n opening c j M item rest)
+    unfolding bodyRows
+    keeps-body opening j M item rest x items s h =
+        let Q = Beside c (suc n) (s .rows) in
+        on-makes Q _ s _
+        (λ cell units cells. on-open Q opening (rowState units cells (s .rows)) _
+        (on-bind (Calls n (onRow (s .rows) c (withChild (skipFrom text x)))) Q _ _
+        (keeps-child opening M x (rowState units cells (s .rows)) h)
+        (λ r k.
+        let d : KeepsAt c (suc n) (s .rows) (r .state .rows) = child-leaves x (s .rows) (r .state .rows) h k in
+        on-map (Beside c (suc n) (r .state .rows)) Q _
+        (keeps-followed (plainNextRows book text c j rest cell) (keeps-plain-next j rest cell) r (d .size ∙ h))
+        (λ b l. at-then d l))))
+
+    pub keeps-opens : (j : ℕ) (names : List Entry) (kinds close M : ℕ) (rest : List (Todo ℕ)) →
+        KeepsGo (opensRows book text inner n c j names kinds close M rest)
+    unfolding opensRows
+    keeps-opens j names kinds close M rest x items s h =
+        let Q = Beside c (suc n) (s .rows) in
+        on-makes Q _ s _
+        (λ cell units cells. on-option Q (characterEnd text close x) _ _ (on-ok Q at-refl)
+        (λ y. keeps-body (some names) j M cell rest y items (rowState units cells (s .rows)) h))
+
+    pub keeps-declares : (j : ℕ) (names : List Entry) (kinds close M : ℕ) (rest : List (Todo ℕ)) →
+        KeepsGo (declaresRows book text inner n c j names kinds close M rest)
+    unfolding declaresRows
+    keeps-declares j names kinds close M rest x items s h =
+        let Q = Beside c (suc n) (s .rows) in
+        on-spend Q s _
+        (λ units cells. on-nested Q book text n inner inners (rowState units cells (s .rows)) _
+        (λ m S e keeping. on-option Q (declarationAt book text (skipFrom text x)) _ _ (on-ok Q at-refl)
+        (λ d. on-makes Q _ (rowState units cells (s .rows)) _ (λ cell units₁ cells₁.
+        on-makes Q _ (rowState units₁ cells₁ (s .rows)) _ (λ cell₂ units₂ cells₂.
+        let t = withDeclared book text inner n (skipFrom text x) d (rowState units₂ cells₂ (s .rows)) in
+        let put : KeepsAt c (suc n) (s .rows) (t .rows) = at-below c n (s .rows) _ below in
+        let f : Fits c m (t .rows) = record { below = omega arith; within = within; size = put .size ∙ h } in
+        on-map (Beside c (suc m) (t .rows)) Q _
+        (on-after (Beside c (suc m) (t .rows)) (afterElement text true (d .end)) _ _
+        (λ y. keeping .of c j (naming (names ++ (d .value ∷ [])) cell₂ close M ∷ rest) y items t f)
+        (λ y. keeping .of c j (closing (names ++ (d .value ∷ [])) cell₂ close M ∷ rest) y items t f))
+        (λ o a. at-then put (at-less (omega arith) a)))))))
+
+    pub keeps-name-choice : (j : ℕ) (names : List Entry) (kinds close M : ℕ) (rest : List (Todo ℕ)) →
+        KeepsGo (nameChoiceRows book text inner n c j names kinds close M rest)
+    unfolding nameChoiceRows
+    keeps-name-choice j names kinds close M rest x items s h =
+        let Q = Beside c (suc n) (s .rows) in
+        on-spend Q s _
+        (λ units cells. on-bind Q Q _ _
+        (keeps-opens j names kinds close M rest x items (rowState units cells (s .rows)) h)
+        (λ a k. on-bind (Beside c (suc n) (a .state .rows)) Q _ _
+        (keeps-declares j names kinds close M rest x items (a .state) (k .size ∙ h))
+        (λ b l. on-ok Q (at-then k l))))
+
     keeps-complete : (j : ℕ) → KeepsGo (λ x items s. completeRows book text c j x items s)
     unfolding completeRows addRun
     keeps-complete j x items s h =
@@ -318,12 +387,13 @@ module _ (book : Book) (text : List ℕ) (n : ℕ) (inner : Option RowRunner)
     keeps-step j step rest g x items s h =
         let Q = Beside c (suc n) (s .rows) in
         on-unit Q step s _
-        (λ units cells. on-taken Q (stepAt book text (scopeIn text (s .rows) c) step x) _ _ _ _ _ _ (on-ok Q at-refl)
+        (λ units cells. on-taken Q (stepAt book text (scopeIn text (s .rows) c) step x) _ _ _ _ _ _ _ _
+        (on-ok Q at-refl)
         (λ t. on-makes Q _ (rowState units cells (s .rows)) _ (λ cell units₁ cells₁.
         g (t .next) cell (rowState units₁ cells₁ (s .rows)) h))
         (λ M.
         on-bind (Calls n (onRow (s .rows) c (withChild (skipFrom text x)))) Q _ _
-        (keeps-child M x (rowState units cells (s .rows)) h)
+        (keeps-child none M x (rowState units cells (s .rows)) h)
         (λ r k.
         let d : KeepsAt c (suc n) (s .rows) (r .state .rows) = child-leaves x (s .rows) (r .state .rows) h k in
         on-map (Beside c (suc n) (r .state .rows)) Q _
@@ -336,7 +406,12 @@ module _ (book : Book) (text : List ℕ) (n : ℕ) (inner : Option RowRunner)
         (rowState units cells (s .rows)) h)
         (λ y. on-makes Q _ (rowState units cells (s .rows)) _
         (λ cell units₁ cells₁.
-        keeps-stops j cell none (stepsRows book text inner n c j rest) g y items (rowState units₁ cells₁ (s .rows)) h)))
+        keeps-stops j cell none (stepsRows book text inner n c j rest) g y items (rowState units₁ cells₁ (s .rows)) h))
+        (λ close M y. on-makes Q _ (rowState units cells (s .rows)) _
+        (λ cell units₁ cells₁.
+        keeps-name-choice j [] cell close M rest y items (rowState units₁ cells₁ (s .rows)) h))
+        (λ M. on-makes Q _ (rowState units cells (s .rows)) _
+        (λ cell units₁ cells₁. keeps-body none j M cell rest x items (rowState units₁ cells₁ (s .rows)) h)))
 
     pub keeps-steps : (j : ℕ) (todo : List (Todo ℕ)) →
         KeepsGo (λ x items s. stepsRows book text inner n c j todo x items s)
@@ -350,6 +425,9 @@ module _ (book : Book) (text : List ℕ) (n : ℕ) (inner : Option RowRunner)
     keeps-steps j (ending values close ∷ rest) x items s h =
         keeps-stops j values close (stepsRows book text inner n c j rest)
         (λ x items s h. keeps-steps j rest x items s h) x items s h
+    keeps-steps j (naming names kinds close M ∷ rest) x items s h =
+        keeps-name-choice j names kinds close M rest x items s h
+    keeps-steps j (closing names kinds close M ∷ rest) x items s h = keeps-opens j names kinds close M rest x items s h
 
 -- ---- Runners
 module _ (book : Book) (text : List ℕ) where

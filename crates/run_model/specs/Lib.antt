@@ -3,6 +3,7 @@ pub mod Model
 pub mod Keeps
 pub mod KeepsRun
 pub mod Views
+pub mod Named
 pub mod Sim
 pub mod SimCalls
 pub mod SimSteps

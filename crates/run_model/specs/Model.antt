@@ -10,30 +10,32 @@
 --
 -- The letters are those of the run's definition, but that c, n and g are rows: of the call at hand, the free one, and
 -- the governor's. T is a table.
-use mathlib.Core.Bool.{Bool, _&&_}
-use mathlib.Core.List.{List, [], _∷_}
+use mathlib.Core.Bool.{Bool, true, _&&_}
+use mathlib.Core.List.{List, [], _∷_, _++_}
 use mathlib.Core.Option.{Option, none, some}
-use Prim.Native.Nat.{ℕ, zero, suc, _-_}
+use Prim.Native.Nat.{ℕ, zero, suc, _+_, _-_}
 use lib.Dec.{leb, eqb}
 use lib.ListN.{length, getD}
 use Rattle.characters.specs.Classes.{between}
 use Rattle.characters.specs.Skipping.{skipFrom}
-use Rattle.book.specs.Book.{Book, nthNonterminal, nthVariant, associativityNumber, stepNumber}
+use Rattle.book.specs.Book.{Entry, Book, nthNonterminal, nthVariant, associativityNumber, stepNumber}
 use Rattle.book.specs.declared.records.Associativity.{Associativity}
 use Rattle.book.specs.declared.records.Step.{Step}
 use Rattle.book.specs.Numbers.{defaultLevel}
-use Rattle.semantics.specs.Numbers.{mostNesting, mostRounds, tooDeep, tooManyParses, characterWanted, nonterminalWanted}
+use Rattle.semantics.specs.Numbers.{mostNesting, mostRounds, mostDeclared, tooDeep, tooManyParses, tooManyNames}
+use Rattle.semantics.specs.Numbers.{characterWanted, nonterminalWanted}
 use Rattle.semantics.specs.Values.{Parse, absentParse}
 use Rattle.semantics.specs.Uses.{hasMark}
-use Rattle.semantics.specs.Tokens.{when, isSome, variableAt, freeEnd}
+use Rattle.semantics.specs.Tokens.{Read, when, isSome, characterEnd, variableAt, freeEnd, kindAt, declarationAt}
 use Rattle.semantics.specs.Steps.{Taken, stepAt, goes, halts, afterElement, closed, Todo, taking, elements, ending}
-use Rattle.semantics.specs.Steps.{todoOf}
+use Rattle.semantics.specs.Steps.{naming, closing, todoOf}
 use Rattle.semantics.specs.Cells.{Cell}
-use Rattle.semantics.specs.Errors.{Error, error, joinWith, chosenFailure, stepError}
+use Rattle.semantics.specs.Errors.{Error, error, joinWith, chosenFailure, stepError, declarationError}
 use Rattle.semantics.specs.Run.{Result, met, ok, _>>=_, State, Made, made, Call, call, allIn, kept, add, addAll, spend}
 use Rattle.semantics.specs.Run.{make, failedCall, either, closingCode, begin, withCell, withToken, counted}
+use Rattle.semantics.specs.Run.{declaredNames}
 use Rattle.run_model.specs.Rows.{Row, opened, ended, withVariant, withChild, wasAsked, withSet, withRun, copied}
-use Rattle.run_model.specs.Rows.{rowOf, onRow, useAt, inherited, scopeAt, scopeIn, minimum, same-start}
+use Rattle.run_model.specs.Rows.{declared, rowOf, onRow, useAt, binderFor, scopeAt, scopeIn, minimum, same-start}
 use Rattle.run_model.specs.Rows.{governorOf, claimsUse}
 
 -- units left, cells so far, and the rows
@@ -102,6 +104,10 @@ failsEmpty (p ∷ ps) e = none
 unfoldable pub together : ℕ → Option Error → Option Error → Option Error
 together zero before failure = failure
 together (suc i) before failure = either before failure
+
+-- where the spelling of a name that is declared at a place begins: behind the word for its kind
+unfoldable pub namePlace : Book → List ℕ → ℕ → ℕ
+namePlace book text at = elim (kindAt book text at) [ some k ↦ skipFrom text (k .end) | none ↦ 0 ]
 
 module _ (book : Book) (text : List ℕ) where
   -- ---- The end of a variant
@@ -223,6 +229,11 @@ module _ (book : Book) (text : List ℕ) (inner : Option RowRunner) (n : ℕ) wh
   unfoldable pub nestedRows : RowState → (RowRunner → Result Outcome) → Result Outcome
   nestedRows s f = elim inner [ some run ↦ f run | none ↦ met tooDeep (s .units) ]
 
+  -- row n keeps a name that is declared at a place: its kind, and where its spelling begins and how long it is
+  abbrev pub withDeclared : ℕ → Read Entry → RowState → RowState
+  withDeclared at d s =
+      let place = namePlace book text at in atRow n (declared (d .value .label) place (d .end - place)) s
+
   -- what row n found are the parses that its governor has stored, filtered; the governor is asked
   abbrev pub withStored : ℕ → RowState → RowState
   withStored g s =
@@ -241,11 +252,11 @@ module _ (book : Book) (text : List ℕ) (inner : Option RowRunner) (n : ℕ) wh
           (λ _. runCallRows book text run n binder N u m s))
     ]
 
-  -- the call of a child of row c's call
-  unfoldable pub enterChildRows : ℕ → ℕ → ℕ → RowState → Result Outcome
-  enterChildRows c M x s =
+  -- the call of a child of row c's call, behind an opening that was read or behind none
+  unfoldable pub enterChildRows : Option (List Entry) → ℕ → ℕ → ℕ → RowState → Result Outcome
+  enterChildRows opening c M x s =
       let at = skipFrom text x in
-      enterRows (inherited (rowOf (s .rows) c .binder)) M at (atRow c (withChild at) s)
+      enterRows (binderFor opening (rowOf (s .rows) c .binder)) M at (atRow c (withChild at) s)
 
   -- what follows k parses of row n from the i-th on
   unfoldable pub followFrom : RowNext → ℕ → ℕ → Option Error → RowState → Result Outcome
@@ -272,7 +283,7 @@ module _ (book : Book) (text : List ℕ) (inner : Option RowRunner) (n : ℕ) wh
   -- a child at a place is called, then followed, behind the other side of the choice
   unfoldable pub orChild : ℕ → ℕ → RowNext → ℕ → Outcome → Result Outcome
   orChild c M next x a = do
-    r ← enterChildRows c M x (a .state)
+    r ← enterChildRows none c M x (a .state)
     b ← followedRows next r
     ok (chosenRows c (skipFrom text x) (a .failure) b)
 
@@ -293,23 +304,79 @@ module _ (book : Book) (text : List ℕ) (inner : Option RowRunner) (n : ℕ) wh
   listingRows c j comma M close rest go x items s =
       makes (make text Cell.empty) s >>= (λ e. choiceRows c j comma M (e .cell) close rest go x items (e .state))
 
+  -- ---- Binders
+  -- the names in scope leave room for those of an opening
+  unfoldable pub openRows : Option (List Entry) → ℕ → RowState → Result RowState
+  openRows none c s = ok s
+  openRows (some names) c s =
+      when (leb (length names + declaredNames (scopeIn text (s .rows) c)) mostDeclared) (λ _. ok s)
+      (λ _. met tooManyNames (s .units))
+
+  unfoldable pub bodyRows : Option (List Entry) → ℕ → ℕ → ℕ → ℕ → List (Todo ℕ) → RowGo
+  bodyRows opening c j M item rest x items s₀ = do
+    m ← makes (withCell book text j items item) s₀
+    s ← openRows opening c (m .state)
+    r ← enterChildRows opening c M x s
+    followedRows (plainNextRows book text c j rest (m .cell)) r
+
+  unfoldable pub opensRows : ℕ → ℕ → List Entry → ℕ → ℕ → ℕ → List (Todo ℕ) → RowGo
+  opensRows c j names kinds close M rest x items s = do
+    l ← makes (make text (Cell.list kinds)) s
+    elim (characterEnd text close x) [
+      | none ↦ ok (outcome (some (error (skipFrom text x) characterWanted close)) (l .state))
+      | some y ↦ bodyRows (some names) c j M (l .cell) rest y items (l .state)
+    ]
+
+  -- a declared name, which row n keeps, and what follows it, one level further in
+  unfoldable pub declaresRows : ℕ → ℕ → List Entry → ℕ → ℕ → ℕ → List (Todo ℕ) → RowGo
+  declaresRows c j names kinds close M rest x items s₀ = do
+    s ← spendRows s₀
+    nestedRows s (λ run. elim (declarationAt book text (skipFrom text x)) [
+      | none ↦ ok (outcome (some (declarationError book text (skipFrom text x))) s)
+      | some d ↦ do
+        k ← makes (make text (Cell.number 0 (d .value .label))) s
+        m ← makes (make text (Cell.chain kinds (k .cell))) (k .state)
+        elim (afterElement text true (d .end)) [
+          | goes y ↦
+              run c j (naming (names ++ (d .value ∷ [])) (m .cell) close M ∷ rest) y items
+              (withDeclared (skipFrom text x) d (m .state))
+          | halts y ↦
+              run c j (closing (names ++ (d .value ∷ [])) (m .cell) close M ∷ rest) y items
+              (withDeclared (skipFrom text x) d (m .state))
+        ]
+    ])
+
+  unfoldable pub nameChoiceRows : ℕ → ℕ → List Entry → ℕ → ℕ → ℕ → List (Todo ℕ) → RowGo
+  nameChoiceRows c j names kinds close M rest x items s₀ = do
+    s ← spendRows s₀
+    a ← opensRows c j names kinds close M rest x items s
+    b ← declaresRows c j names kinds close M rest x items (a .state)
+    ok (chosenRows c (skipFrom text x) (a .failure) b)
+
   unfoldable pub stepsRows : RowRunner
   stepsRows c j [] x items s = completeRows book text c j x items s
   stepsRows c j (elements comma M values close ∷ rest) x items s =
       choiceRows c j comma M values close rest (stepsRows c j rest) x items s
   stepsRows c j (ending values close ∷ rest) x items s =
       stopsRows book text j values close (stepsRows c j rest) x items s
+  stepsRows c j (naming names kinds close M ∷ rest) x items s =
+      nameChoiceRows c j names kinds close M rest x items s
+  stepsRows c j (closing names kinds close M ∷ rest) x items s = opensRows c j names kinds close M rest x items s
   stepsRows c j (taking step ∷ rest) x items s₀ = do
     s ← stepUnitRows step s₀
     elim (stepAt book text (scopeIn text (s .rows) c) step x) [
       | Taken.nothing ↦ ok (outcome (some (stepError book text (scopeIn text (s .rows) c) step (skipFrom text x))) s)
       | Taken.token t ↦ makes (withToken book text j items (t .item)) s >>=
           (λ m. stepsRows c j rest (t .next) (m .cell) (m .state))
-      | Taken.child M ↦ enterChildRows c M x s >>= (λ r. followedRows (plainNextRows book text c j rest items) r)
+      | Taken.child M ↦ enterChildRows none c M x s >>= (λ r. followedRows (plainNextRows book text c j rest items) r)
       | Taken.optional M ↦ orAbsentRows c j M rest (stepsRows c j rest) x items s
       | Taken.list comma M close y ↦ listingRows c j comma M close rest (stepsRows c j rest) y items s
       | Taken.unopened y ↦ makes (make text Cell.empty) s >>=
           (λ e. stopsRows book text j (e .cell) none (stepsRows c j rest) y items (e .state))
+      | Taken.names close M y ↦ makes (make text Cell.empty) s >>=
+          (λ e. nameChoiceRows c j [] (e .cell) close M rest y items (e .state))
+      | Taken.body M ↦ makes (make text Cell.absent) s >>=
+          (λ a. bodyRows none c j M (a .cell) rest x items (a .state))
     ]
 
 module _ (book : Book) (text : List ℕ) where

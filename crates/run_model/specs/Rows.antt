@@ -14,9 +14,10 @@
 -- stored sets and the marks; then governors and claims by rows.
 use mathlib.Core.Bool.{Bool, true, false, not, _&&_, _||_}
 use mathlib.Core.List.{List, [], _∷_}
+use mathlib.Core.Option.{Option, none, some}
 use Prim.Native.Nat.{ℕ, zero, suc, _+_, _-_}
 use lib.Dec.{ltb, eqb}
-use lib.ListN.{getD, set}
+use lib.ListN.{getD, length, set}
 use Rattle.characters.specs.Spelling.{partOf}
 use Rattle.book.specs.Book.{Book, Entry}
 use Rattle.book.specs.Check.{associativityOf}
@@ -97,6 +98,12 @@ withRun run r =
     row (r .live) (r .nonterminal) (r .binder) (r .start) (r .level) (r .associativity) (r .child) (r .asked)
     (r .kind) (r .place) (r .size) (r .set) run
 
+-- a name is declared at a row's level, which is no call's: its kind, and where its spelling stands
+abbrev pub declared : ℕ → ℕ → ℕ → Row → Row
+declared kind place size r =
+    row 0 (r .nonterminal) (r .binder) (r .start) (r .level) (r .associativity) (r .child) (r .asked) kind place size
+    (r .set) (r .run)
+
 -- the call's set is what its run found
 abbrev pub copied : Row → Row
 copied r = withSet (r .run) r
@@ -151,6 +158,11 @@ marksOf T n = openAbove askedAt T n
 unfoldable pub inherited : ℕ → ℕ
 inherited zero = 0
 inherited (suc b) = 1
+
+-- the binder of a child: of a body behind an opening, the opening's names
+abbrev pub binderFor : Option (List Entry) → ℕ → ℕ
+binderFor none b = inherited b
+binderFor (some names) b = suc (suc (length names))
 
 -- a call with this binder is the body behind an opening
 unfoldable pub isBody : ℕ → Bool

@@ -26,6 +26,7 @@ use Rattle.run_model.specs.Rows.{Row, rowOf, askedAt, marksOf, callOf, s
 use Rattle.run_model.specs.Model.{RowState, rowState, Outcome, RowMade, rowMade, RowRunner, unmarked, makes}
 use Rattle.run_model.specs.Model.{spendRows, valueCell, nestedRows}
 use Rattle.run_model.specs.Keeps.{lessVariant, Keeps, KeepsAt, KeepsRun, On, Keeping, Inner}
+use Rattle.run_model.specs.Named.{NamesIn}
 use Rattle.run_model.specs.Views.{sets-keeps, path-keeps, scope-keeps}
 
 abbrev pub stateOf : ℕ → List Cell → List Bool → State
@@ -83,12 +84,14 @@ after-see g (goes y) F H f h p q = p y
 after-see g (halts y) F H f h p q = q y
 
 pub taken-see : {A B : Type 0} (g : A → B) (k : Taken) (a : Result B) (b : Token → Result B) (c d : ℕ → Result B)
-    (e : Bool → ℕ → Option ℕ → ℕ → Result B) (f : ℕ → Result B) (a′ : Result A) (b′ : Token → Result A)
-    (c′ d′ : ℕ → Result A) (e′ : Bool → ℕ → Option ℕ → ℕ → Result A) (f′ : ℕ → Result A) →
+    (e : Bool → ℕ → Option ℕ → ℕ → Result B) (f : ℕ → Result B) (n : ℕ → ℕ → ℕ → Result B) (o : ℕ → Result B)
+    (a′ : Result A) (b′ : Token → Result A) (c′ d′ : ℕ → Result A) (e′ : Bool → ℕ → Option ℕ → ℕ → Result A)
+    (f′ : ℕ → Result A) (n′ : ℕ → ℕ → ℕ → Result A) (o′ : ℕ → Result A) →
     a ≡ see g a′ → ((t : Token) → b t ≡ see g (b′ t)) → ((M : ℕ) → c M ≡ see g (c′ M)) →
     ((M : ℕ) → d M ≡ see g (d′ M)) →
     ((comma : Bool) (M : ℕ) (close : Option ℕ) (y : ℕ) → e comma M close y ≡ see g (e′ comma M close y)) →
-    ((y : ℕ) → f y ≡ see g (f′ y)) →
+    ((y : ℕ) → f y ≡ see g (f′ y)) → ((close M y : ℕ) → n close M y ≡ see g (n′ close M y)) →
+    ((M : ℕ) → o M ≡ see g (o′ M)) →
     elim k [
       | Taken.nothing ↦ a
       | Taken.token t ↦ b t
@@ -96,6 +99,8 @@ pub taken-see : {A B : Type 0} (g : A → B) (k : Taken) (a : Result B) (b : Tok
       | Taken.optional M ↦ d M
       | Taken.list comma M close y ↦ e comma M close y
       | Taken.unopened y ↦ f y
+      | Taken.names close M y ↦ n close M y
+      | Taken.body M ↦ o M
     ]
     ≡ see g (elim k [
       | Taken.nothing ↦ a′
@@ -104,13 +109,18 @@ pub taken-see : {A B : Type 0} (g : A → B) (k : Taken) (a : Result B) (b : Tok
       | Taken.optional M ↦ d′ M
       | Taken.list comma M close y ↦ e′ comma M close y
       | Taken.unopened y ↦ f′ y
+      | Taken.names close M y ↦ n′ close M y
+      | Taken.body M ↦ o′ M
     ])
-taken-see g Taken.nothing a b c d e f a′ b′ c′ d′ e′ f′ ha hb hc hd he hf = ha
-taken-see g (Taken.token t) a b c d e f a′ b′ c′ d′ e′ f′ ha hb hc hd he hf = hb t
-taken-see g (Taken.child M) a b c d e f a′ b′ c′ d′ e′ f′ ha hb hc hd he hf = hc M
-taken-see g (Taken.optional M) a b c d e f a′ b′ c′ d′ e′ f′ ha hb hc hd he hf = hd M
-taken-see g (Taken.list comma M close y) a b c d e f a′ b′ c′ d′ e′ f′ ha hb hc hd he hf = he comma M close y
-taken-see g (Taken.unopened y) a b c d e f a′ b′ c′ d′ e′ f′ ha hb hc hd he hf = hf y
+taken-see g Taken.nothing a b c d e f n o a′ b′ c′ d′ e′ f′ n′ o′ ha hb hc hd he hf hn ho = ha
+taken-see g (Taken.token t) a b c d e f n o a′ b′ c′ d′ e′ f′ n′ o′ ha hb hc hd he hf hn ho = hb t
+taken-see g (Taken.child M) a b c d e f n o a′ b′ c′ d′ e′ f′ n′ o′ ha hb hc hd he hf hn ho = hc M
+taken-see g (Taken.optional M) a b c d e f n o a′ b′ c′ d′ e′ f′ n′ o′ ha hb hc hd he hf hn ho = hd M
+taken-see g (Taken.list comma M close y) a b c d e f n o a′ b′ c′ d′ e′ f′ n′ o′ ha hb hc hd he hf hn ho =
+    he comma M close y
+taken-see g (Taken.unopened y) a b c d e f n o a′ b′ c′ d′ e′ f′ n′ o′ ha hb hc hd he hf hn ho = hf y
+taken-see g (Taken.names close M y) a b c d e f n o a′ b′ c′ d′ e′ f′ n′ o′ ha hb hc hd he hf hn ho = hn close M y
+taken-see g (Taken.body M) a b c d e f n o a′ b′ c′ d′ e′ f′ n′ o′ ha hb hc hd he hf hn ho = ho M
 
 -- ---- Functions that don't look at the marks
 pub record Plain (f : State → Result Made) : Type 0 where
@@ -279,7 +289,7 @@ here-shut book text C c n j T h s = record {
 -- a runner over rows, with row m free, and one of the definition
 pub record Alike (book : Book) (text : List ℕ) (m : ℕ) (S : RowRunner) (R : Runner) : Type 0 where
   pub of : (C : Call) (c j : ℕ) (todo : List (Todo ℕ)) (x items : ℕ) (s : RowState) →
-      Here book text C c (suc m) j (s .rows) →
+      Here book text C c (suc m) j (s .rows) → NamesIn text (s .rows) m todo →
       R C j todo x items (rowOf (s .rows) c .run) (stateAt c s) ≡ see (ranAt c) (S c j todo x items s)
 
 -- with n levels left there are none, or two that are alike

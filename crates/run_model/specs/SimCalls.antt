@@ -16,7 +16,7 @@ use Rattle.book.specs.Book.{Book, nthNonterminal, nthVariant}
 use Rattle.semantics.specs.Values.{Parse}
 use Rattle.semantics.specs.Uses.{scopeOf, hasMark, Governor, governor, minimum, same-start}
 use Rattle.semantics.specs.Tokens.{when, freeEnd, hasClaimant, claimed}
-use Rattle.semantics.specs.Steps.{todoOf}
+use Rattle.semantics.specs.Steps.{stepsOf, todoOf}
 use Rattle.semantics.specs.Cells.{Cell}
 use Rattle.semantics.specs.Errors.{Error, error}
 use Rattle.semantics.specs.Run.{Result, met, ok, _>>=_, State, Parsed, parsed, Call, call, withMine, Runner, allIn}
@@ -32,6 +32,7 @@ use Rattle.run_model.specs.Keeps.{row-put, keeps-put, run-put, Ran, Keep
 use Rattle.run_model.specs.KeepsRun.{keeps-taken, keeps-one-run}
 use Rattle.run_model.specs.Views.{open-put, path-keeps, scope-keeps, Picked, Agree, no-governor, after-start}
 use Rattle.run_model.specs.Views.{at-start, agree-behind, agree, claims-behind, claims-path}
+use Rattle.run_model.specs.Named.{no-names-in, steps-no-names}
 use Rattle.run_model.specs.Sim.{stateOf, see, then-see, last-see, same-see, when-see, list-see, plain-make}
 use Rattle.run_model.specs.Sim.{plain-begin, makes-see, spend-see, stateAt, ranAt, endAt, foundAt, Standing, Here}
 use Rattle.run_model.specs.Sim.{scope-stays, standing-keeps, Alike, Kin, nested-see}
@@ -112,7 +113,8 @@ module _ (book : Book) (text : List ℕ) (m : ℕ) (S : RowRunner) (R : Runner) 
       } in
       let run : rowOf (set T n r) n .run ≡ rowOf T n .run = ap (λ r. r .run) f in
       rw (run, state-put n units cells T r l refl)
-      at (alike .of C n j (todoOf book (nthVariant book j)) x items (rowState units cells (set T n r)) here)
+      at (alike .of C n j (todoOf book (nthVariant book j)) x items (rowState units cells (set T n r)) here
+      (no-names-in text (set T n r) m _ (steps-no-names (stepsOf book (nthVariant book j)))))
 
   sim-variants : (C : Call) (k j : ℕ) (e : Option Error) (units : ℕ) (cells : List Cell) (T : List Row) →
       Standing text C n T → variants book text R C least k j (rowOf T n .run) e (stateAt n (rowState units cells T))

@@ -36,10 +36,10 @@ module _ (book : Book) (text : List ℕ) where
   sim-runner zero = last zero
   sim-runner (suc n) =
       more n _ _ (keeping-steps book text n (runnerRows book text n) (keeps-runner book text n)) (record {
-        of = λ C c j todo x items s h.
+        of = λ C c j todo x items s h is.
             sim-steps book text n (runnerRows book text n) (runner book text n) (sim-runner n)
             (omega (arith, h .below, h .within)) C c j
-            (omega (arith, h .below)) (h .within) todo x items (s .units) (s .cells) (s .rows) h;
+            (omega (arith, h .below)) (h .within) todo x items (s .units) (s .cells) (s .rows) h is;
       })
 
 pub rows-run : (book : Book) (text : List ℕ) (units start : ℕ) (T : List Row) → length T ≡ 201 →

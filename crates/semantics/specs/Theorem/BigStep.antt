@@ -167,7 +167,6 @@ module _ (book : Book) (text : List ℕ) where
       s-ending : {o : Open} {j x y : ℕ} {values : Trees} {close : Option ℕ} {rest : List (Todo Trees)} {items : Trees}
           {B B′ : List Bool} {R : List (Parse Tree)} → closed text close x ≡ some y →
           Steps o j rest y (items ▸ list values) B R B′ → Steps o j (ending values close ∷ rest) x items B R B′
-
       s-names : {o : Open} {j x close M y : ℕ} {s : Step} {rest : List (Todo Trees)} {items : Trees}
           {B B′ : List Bool} {R : List (Parse Tree)} → stepAt book text (scopeOf (o .path)) s x ≡ Taken.names close M y →
           Steps o j (naming [] no-trees close M ∷ rest) y items B R B′ → Steps o j (taking s ∷ rest) x items B R B′

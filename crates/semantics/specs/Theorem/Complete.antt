@@ -164,7 +164,6 @@ module _ (book : Book) (text : List ℕ) where
       subst (Ran o j rest x items B R B′) (sym e) s
   inv-take (s-unopened {o} {j} {x} {rest = rest} {items = items} {B = B} {B′ = B′} {R = R} e s) =
       subst (Ran o j rest x items B R B′) (sym e) s
-
   inv-take (s-names {o} {j} {x} {rest = rest} {items = items} {B = B} {B′ = B′} {R = R} e s) =
       subst (Ran o j rest x items B R B′) (sym e) s
   inv-take (s-body {o} {j} {x} {rest = rest} {items = items} {B = B} {B₁ = B₁} {B′ = B′} {Q = Q} {R = R} e c es) =
