@@ -62,11 +62,13 @@ abbrev pub lookupName : List Entry → List ℕ → Found
 lookupName names spelling = lookupFrom Found.Nothing 0 names spelling
 
 -- ---- Numbers of document 01
--- "Mark 0 plain; 1 calls `try_claim_as_var` first; 2 is `identifier_nonterminal`"
+-- "Mark 0 plain; 1 calls `try_claim_as_var` first; 2 is `identifier_nonterminal`"; document 02 d, "the binder of
+-- `CoreBinder::parse` as mark 3"
 abbrev pub markNumber : Mark → ℕ
 markNumber Mark.Plain = 0
 markNumber Mark.Variable = 1
 markNumber Mark.Identifier = 2
+markNumber Mark.Binder = 3
 
 -- "associativity 0 Left, 1 Right, 2 None, 3 Both"
 abbrev pub associativityNumber : Associativity → ℕ

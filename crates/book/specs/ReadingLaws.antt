@@ -37,6 +37,7 @@ pub mark-of-number : (mark : Mark) → markOf (markNumber mark) ≡ mark
 mark-of-number Mark.Plain = refl
 mark-of-number Mark.Variable = refl
 mark-of-number Mark.Identifier = refl
+mark-of-number Mark.Binder = refl
 
 pub associativity-of-number : (associativity : Associativity) →
     associativityOf (associativityNumber associativity) ≡ associativity

@@ -9,6 +9,7 @@
 //
 // The crate relies on the promises of `characters`, and assumes nothing. specs/ has the definitions (Numbers, Book,
 // Check), the index (Index), and laws.
+mod binders;
 mod checking;
 mod index;
 mod limits;
