@@ -3,9 +3,11 @@ use mathlib.Core.Bool.{Bool, false, cond, _&&_, _||_}
 use mathlib.Core.List.{List, [], _∷_}
 use Prim.Native.Nat.{ℕ, suc}
 use lib.Dec.{eqb}
-use lib.ListN.{getD}
+use lib.ListN.{getD, take}
 use Rattle.characters.specs.Spelling.{same}
+use Rattle.book.specs.Numbers.{kinds}
 use Rattle.book.specs.declared.names.Found.{Found}
+use Rattle.book.specs.declared.names.KindWord.{KindWord}
 use Rattle.book.specs.declared.records.Mark.{Mark}
 use Rattle.book.specs.declared.records.Associativity.{Associativity}
 use Rattle.book.specs.declared.records.Nonterminal.{Nonterminal}
@@ -60,6 +62,16 @@ lookupFrom found i (n ∷ ns) spelling =
 
 abbrev pub lookupName : List Entry → List ℕ → Found
 lookupName names spelling = lookupFrom Found.Nothing 0 names spelling
+
+-- the least number of an equal word. The words are numbered from i
+unfoldable pub leastWord : ℕ → List Entry → List ℕ → KindWord
+leastWord i [] spelling = KindWord.Nothing
+leastWord i (w ∷ ws) spelling =
+    cond (same spelling (w .spelling)) (KindWord.Kind i) (leastWord (suc i) ws spelling)
+
+-- document 02 d, "the word whose number is its kind, 0 to 7 (the least if alike)"
+abbrev pub kindWord : List Entry → List ℕ → KindWord
+kindWord words spelling = leastWord 0 (take kinds words) spelling
 
 -- ---- Numbers of document 01
 -- "Mark 0 plain; 1 calls `try_claim_as_var` first; 2 is `identifier_nonterminal`"; document 02 d, "the binder of

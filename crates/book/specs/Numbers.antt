@@ -65,6 +65,9 @@ reserved = 1
 abbrev pub lastKind : ℕ
 lastKind = 7
 
+abbrev pub kinds : ℕ
+kinds = 8
+
 -- "length 1 to 15"
 abbrev pub longestSpelling : ℕ
 longestSpelling = 15

@@ -21,6 +21,8 @@ pub const RESERVED: usize = 1;
 // "kind 0 to 7"
 pub const LAST_KIND: usize = 7;
 
+pub const KINDS: usize = LAST_KIND + 1;
+
 // "length 1 to 15"
 pub const LONGEST_SPELLING: usize = 15;
 
