@@ -1,12 +1,13 @@
 -- Document 01, "The book": what a book holds, section by section.
-use mathlib.Core.Bool.{Bool, true, false, cond, _&&_, _||_}
+use mathlib.Core.Bool.{Bool, false, cond, _&&_, _||_}
 use mathlib.Core.List.{List, [], _∷_}
-use mathlib.Core.Option.{Option, none, some}
 use Prim.Native.Nat.{ℕ, suc}
 use lib.Dec.{eqb}
-use lib.ListN.{getD}
+use lib.ListN.{getD, take}
 use Rattle.characters.specs.Spelling.{same}
+use Rattle.book.specs.Numbers.{kinds}
 use Rattle.book.specs.declared.names.Found.{Found}
+use Rattle.book.specs.declared.names.KindWord.{KindWord}
 use Rattle.book.specs.declared.records.Mark.{Mark}
 use Rattle.book.specs.declared.records.Associativity.{Associativity}
 use Rattle.book.specs.declared.records.Nonterminal.{Nonterminal}
@@ -62,18 +63,24 @@ lookupFrom found i (n ∷ ns) spelling =
 abbrev pub lookupName : List Entry → List ℕ → Found
 lookupName names spelling = lookupFrom Found.Nothing 0 names spelling
 
--- "the word whose number is its kind, .. (the least if alike)", among words numbered from i
-unfoldable pub leastWord : ℕ → List Entry → List ℕ → Option ℕ
-leastWord i [] spelling = none
+-- the least number of an equal word. The words are numbered from i
+unfoldable pub leastWord : ℕ → List Entry → List ℕ → KindWord
+leastWord i [] spelling = KindWord.Nothing
 leastWord i (w ∷ ws) spelling =
-    elim (same spelling (w .spelling)) [ true ↦ some i | false ↦ leastWord (suc i) ws spelling ]
+    cond (same spelling (w .spelling)) (KindWord.Kind i) (leastWord (suc i) ws spelling)
+
+-- document 02 d, "the word whose number is its kind, 0 to 7 (the least if alike)"
+abbrev pub kindWord : List Entry → List ℕ → KindWord
+kindWord words spelling = leastWord 0 (take kinds words) spelling
 
 -- ---- Numbers of document 01
--- "Mark 0 plain; 1 calls `try_claim_as_var` first; 2 is `identifier_nonterminal`"
+-- "Mark 0 plain; 1 calls `try_claim_as_var` first; 2 is `identifier_nonterminal`"; document 02 d, "the binder of
+-- `CoreBinder::parse` as mark 3"
 abbrev pub markNumber : Mark → ℕ
 markNumber Mark.Plain = 0
 markNumber Mark.Variable = 1
 markNumber Mark.Identifier = 2
+markNumber Mark.Binder = 3
 
 -- "associativity 0 Left, 1 Right, 2 None, 3 Both"
 abbrev pub associativityNumber : Associativity → ℕ

@@ -25,7 +25,7 @@ use Rattle.characters.specs.Classes.{between}
 use Rattle.book.specs.Book.{Book}
 use Rattle.book.specs.Check.{Checked, refused, accepted, andThen, Reader, checked, records, section, placed}
 use Rattle.book.specs.Check.{spelling, entry, nonterminal, variant, step, passes, allPass, ended, total}
-use Rattle.book.specs.Check.{entireBook}
+use Rattle.book.specs.Check.{ofBinder, firstStep, entireBook}
 use Rattle.book.specs.Check.{Outcome, outcome, checkBook}
 use Rattle.book.specs.ReaderLaws.{between-high, checked-bad, checked-good, checked-short}
 use Rattle.book.specs.declared.records.Step.{Step}
@@ -102,20 +102,20 @@ module _ (some bytes : List ℕ) (agree : Agree some bytes) (small : Bytes bytes
       )
       (refuse {number = 3} {place = length bytes} (omega arith) (omega arith) refl))
 
-  module _ {A : Type 0} (size : A → ℕ) (one : ℕ → Reader A) (P : A → Type 0) (k : ℕ)
-      (each : (sum place m : ℕ) → place + k ≤ longest → place + k ≤ m →
-      Alike P m (one sum some place) (one sum bytes place)) where
-    records-alike : (n sum place m : ℕ) → place + n * k ≤ longest → place + n * k ≤ m →
-        Alike (All P) m (records size one n sum some place) (records size one n sum bytes place)
+  module _ {A : Type 0} (size : A → ℕ) (one : ℕ → ℕ → Reader A) (P : A → Type 0) (k : ℕ)
+      (each : (i sum place m : ℕ) → place + k ≤ longest → place + k ≤ m →
+      Alike P m (one i sum some place) (one i sum bytes place)) where
+    records-alike : (n i sum place m : ℕ) → place + n * k ≤ longest → place + n * k ≤ m →
+        Alike (All P) m (records size one n i sum some place) (records size one n i sum bytes place)
     unfolding records All
-    records-alike zero sum place m h l = read {next = place} tt (omega arith) refl
-    records-alike (suc n) sum place m h l =
+    records-alike zero i sum place m h l = read {next = place} tt (omega arith) refl
+    records-alike (suc n) i sum place m h l =
         let e : suc n * k ≡ n * k + k = suc-mul n k in
-        then-alike P (All P) (place + k) m (one sum some place) (one sum bytes place) _ _
-        (each sum place (place + k) (omega arith) (omega arith)) (λ x at p low.
-        then-alike (All P) (All P) m m (records size one n (sum + size x) some at)
-        (records size one n (sum + size x) bytes at) _ _
-        (records-alike n (sum + size x) at m (omega arith) (omega arith)) (λ xs end all high.
+        then-alike P (All P) (place + k) m (one i sum some place) (one i sum bytes place) _ _
+        (each i sum place (place + k) (omega arith) (omega arith)) (λ x at p low.
+        then-alike (All P) (All P) m m (records size one n (i + 1) (sum + size x) some at)
+        (records size one n (i + 1) (sum + size x) bytes at) _ _
+        (records-alike n (i + 1) (sum + size x) at m (omega arith) (omega arith)) (λ xs end all high.
         read (p, all) high refl))
 
     -- a count that passes its test is at most `greatest`
@@ -128,7 +128,7 @@ module _ (some bytes : List ℕ) (agree : Agree some bytes) (small : Bytes bytes
         (checked-alike fits 4 place place (place + 1) (omega arith) (omega arith) (omega arith) (omega arith))
         (λ n at fit low.
         let b : n * k ≤ greatest * k = mul-le-mul-right k (bound n (fit .0) (fit .1)) in
-        records-alike n 0 at m (omega arith) (omega arith))
+        records-alike n 0 0 at m (omega arith) (omega arith))
 
   -- a field, and what follows it
   field-alike : {B : Type 0} (fits : ℕ → Bool) (place m n : ℕ) (g f : ℕ → ℕ → Checked B) → place + 1 ≤ longest →
@@ -148,9 +148,9 @@ module _ (some bytes : List ℕ) (agree : Agree some bytes) (small : Bytes bytes
       (checked-alike (between 1 15) 5 place place (place + 1) (omega arith) (omega arith) (omega arith) (omega arith))
       (λ size at fit low.
       let few : size ≤ 15 = between-high 1 15 size (fit .0) in
-      records-alike (λ b. 1) _ Any 1
-      (λ sum at m near low. forget _ _ (checked-alike _ 5 place at m (omega arith) (omega (arith, h)) (omega arith)
-      (omega arith))) size 0 at m (omega arith) (omega arith)))
+      records-alike (λ b. 0) _ Any 1
+      (λ i sum at m near low. forget _ _ (checked-alike _ 5 place at m (omega arith) (omega (arith, h)) (omega arith)
+      (omega arith))) size 0 0 at m (omega arith) (omega arith)))
 
   entry-alike : (greatest place m : ℕ) → place + 17 ≤ longest → place + 17 ≤ m →
       Alike Any m (entry greatest some place) (entry greatest bytes place)
@@ -168,21 +168,22 @@ module _ (some bytes : List ℕ) (agree : Agree some bytes) (small : Bytes bytes
       field-alike _ place (place + 1) m _ _ (omega arith) (omega arith) (λ mark at low.
       field-alike _ at m m _ _ (omega arith) (omega arith) (λ number end high. read tt high refl))
 
-  variant-alike : (first place m : ℕ) → place + 4 ≤ longest → place + 4 ≤ m →
-      Alike (λ x. x .0 ≤ longest) m (placed (variant first) some place) (placed (variant first) bytes place)
+  variant-alike : (binder : Bool) (first place m : ℕ) → place + 4 ≤ longest → place + 4 ≤ m →
+      Alike (λ x. x .0 ≤ longest) m (placed (variant binder first) some place)
+      (placed (variant binder first) bytes place)
   unfolding variant
-  variant-alike first place m h l =
-      then-alike Any (λ (x : ℕ × Variant). x .0 ≤ longest) m m (variant first some place) (variant first bytes place) _
-      _ (field-alike _ place (place + 1) m _ _ (omega arith) (omega arith) (λ a p p-low.
+  variant-alike binder first place m h l =
+      then-alike Any (λ (x : ℕ × Variant). x .0 ≤ longest) m m (variant binder first some place)
+      (variant binder first bytes place) _ _ (field-alike _ place (place + 1) m _ _ (omega arith) (omega arith) (λ a p p-low.
       field-alike _ p (place + 2) m _ _ (omega arith) (omega arith) (λ b q q-low.
       field-alike _ q (place + 3) m _ _ (omega arith) (omega arith) (λ c r r-low.
       field-alike _ r m m _ _ (omega arith) (omega arith) (λ d end high. read tt high refl)))))
       (λ v end _ high. read {x = (place, v)} (omega arith) high refl)
 
-  step-alike : (words nonterminals place m : ℕ) → place + 4 ≤ longest → place + 4 ≤ m →
-      Alike Any m (step words nonterminals some place) (step words nonterminals bytes place)
+  step-alike : (words nonterminals : ℕ) (binder : Bool) (place m : ℕ) → place + 4 ≤ longest → place + 4 ≤ m →
+      Alike Any m (step words nonterminals binder some place) (step words nonterminals binder bytes place)
   unfolding step
-  step-alike words nonterminals place m h l =
+  step-alike words nonterminals binder place m h l =
       field-alike _ place (place + 1) m _ _ (omega arith) (omega arith) (λ a p p-low.
       field-alike _ p (place + 2) m _ _ (omega arith) (omega arith) (λ b q q-low.
       field-alike _ q (place + 3) m _ _ (omega arith) (omega arith) (λ c r r-low.
@@ -215,23 +216,25 @@ module _ (some bytes : List ℕ) (agree : Agree some bytes) (small : Bytes bytes
   unfolding entireBook
   book-alike =
       then-alike (All Any) Any 1089 longest (section _ _ _ some 0) (section _ _ _ bytes 0) _ _
-      (section-alike (λ w. 0) (λ first. entry 1) Any 17 (λ sum place m h l. entry-alike 1 place m h l) _ 64
+      (section-alike (λ w. 0) (λ i first. entry 1) Any 17 (λ i sum. entry-alike 1) _ 64
       (λ n t _. between-high 0 64 n t) 0 1089 (omega arith) (omega arith)) (λ words p _ p-low.
       then-alike (All Any) Any 2178 longest (section _ _ _ some p) (section _ _ _ bytes p) _ _
-      (section-alike (λ w. 0) (λ first. entry 7) Any 17 (λ sum place m h l. entry-alike 7 place m h l) _ 64
+      (section-alike (λ w. 0) (λ i first. entry 7) Any 17 (λ i sum. entry-alike 7) _ 64
       (λ n t _. between-high 0 64 n t) p 2178 (omega arith) (omega arith)) (λ names q _ q-low.
       then-alike (All Any) Any 2243 longest (section _ _ _ some q) (section _ _ _ bytes q) _ _
-      (section-alike (λ n. n .count) nonterminal Any 2 (λ sum place m h l. nonterminal-alike sum place m h l) _ 32
+      (section-alike (λ n. n .count) (λ i. nonterminal) Any 2 (λ i. nonterminal-alike) _ 32
       (λ n t _. between-high 1 32 n t) q 2243 (omega arith) (omega arith)) (λ nonterminals r _ r-low.
       then-alike (All (λ (x : ℕ × Variant). x .0 ≤ longest)) Any 2756 longest (section _ _ _ some r)
       (section _ _ _ bytes r) _ _
-      (section-alike (λ v. v .1 .count) (λ first. placed (variant first)) (λ (x : ℕ × Variant). x .0 ≤ longest) 4
-      (λ sum place m h l. variant-alike sum place m h l) _ 128
+      (section-alike (λ v. v .1 .count) (λ j first. placed (variant (ofBinder (λ n. n .first) nonterminals j) first))
+      (λ (x : ℕ × Variant). x .0 ≤ longest) 4
+      (λ j. variant-alike (ofBinder (λ n. n .first) nonterminals j)) _ 128
       (λ n t _. between-high 0 128 n (and-eq-true-iff (between 0 128 n) (eqb n (total (λ x. x .count) nonterminals)) .0
       t .0)) r 2756 (omega arith) (omega arith)) (λ variants v placed-all v-low.
       then-alike (All Any) Any longest longest (section _ _ _ some v) (section _ _ _ bytes v) _ _
-      (section-alike (λ s. 0) (λ first. step (length words) (length nonterminals)) Any 4
-      (λ sum place m h l. step-alike (length words) (length nonterminals) place m h l) _ 255
+      (section-alike (λ s. 0)
+      (λ k first. step (length words) (length nonterminals) (ofBinder (firstStep variants) nonterminals k)) Any 4
+      (λ k sum. step-alike (length words) (length nonterminals) (ofBinder (firstStep variants) nonterminals k)) _ 255
       (λ n _ byte. byte) v longest (omega arith) (omega arith)) (λ steps w _ w-low.
       then-alike Any Any longest longest (allPass steps variants some w) (allPass steps variants bytes w) _ _
       (passing-alike steps variants w longest w-low placed-all) (λ _ y _ y-low.

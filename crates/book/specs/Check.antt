@@ -1,6 +1,7 @@
 -- Document 01, "The book" and refusals 3 to 8 of "The answer": the check of a book, "byte by byte forward, a bad byte
--- before a missing one". Numbers.antt names the refusals and the limits.
-use mathlib.Core.Bool.{Bool, cond, not, _&&_, _||_}
+-- before a missing one"; and what document 02 d asks of the records of a binder. Numbers.antt names the refusals and the
+-- limits.
+use mathlib.Core.Bool.{Bool, false, cond, not, _&&_, _||_}
 use mathlib.Core.List.{List, [], _∷_, map}
 use Prim.Native.Nat.{ℕ, zero, suc, _+_, _%_}
 use lib.Dec.{leb, ltb, eqb}
@@ -9,9 +10,10 @@ use Rattle.characters.specs.Classes.{between, isOf}
 use Rattle.characters.specs.declared.classes.Class.the-variants.{Letter, Digit}
 use Rattle.book.specs.Numbers.{bookEndsEarly, badCount, badSpelling, badField, badPassing, bytesLeftOver}
 use Rattle.book.specs.Numbers.{mostWords, mostNames, mostNonterminals, mostVariants, reserved, lastKind}
-use Rattle.book.specs.Numbers.{longestSpelling, identifierMark, variantsEach, defaultLevel, both, lastFlags}
-use Rattle.book.specs.Numbers.{stepsEach, lastStepKind, firstCharacter, lastCharacter}
-use Rattle.book.specs.Book.{Entry, Book, stepNumber, nthStep}
+use Rattle.book.specs.Numbers.{longestSpelling, identifierMark, binderMark, lastMark, variantsEach, defaultLevel}
+use Rattle.book.specs.Numbers.{both, committedFlags, lastFlags, stepsEach, lastStepKind, binderKind}
+use Rattle.book.specs.Numbers.{firstCharacter, lastCharacter}
+use Rattle.book.specs.Book.{Entry, Book, noVariant, markNumber, stepNumber, nthStep}
 use Rattle.book.specs.declared.records.Mark.{Mark}
 use Rattle.book.specs.declared.records.Associativity.{Associativity}
 use Rattle.book.specs.declared.records.Nonterminal.{Nonterminal}
@@ -64,20 +66,20 @@ field fits = do
   at ← here
   checked fits badField at
 
--- n records one after another. Each is told the sum of the sizes of those before it
-module _ {A : Type 0} (size : A → ℕ) (one : ℕ → Reader A) where
-  unfoldable pub records : ℕ → ℕ → Reader (List A)
-  records zero sum = give []
-  records (suc n) sum = do
-    x ← one sum
-    xs ← records n (sum + size x)
+-- n records one after another, numbered from i. Each is told its number, and the sum of the sizes of those before it
+module _ {A : Type 0} (size : A → ℕ) (one : ℕ → ℕ → Reader A) where
+  unfoldable pub records : ℕ → ℕ → ℕ → Reader (List A)
+  records zero i sum = give []
+  records (suc n) i sum = do
+    x ← one i sum
+    xs ← records n (i + 1) (sum + size x)
     give (x ∷ xs)
 
 -- "Five sections in order, each after a one-byte count": the count, which passes a test, and so many records
-abbrev pub section : {A : Type 0} → (ℕ → Bool) → (A → ℕ) → (ℕ → Reader A) → Reader (List A)
+abbrev pub section : {A : Type 0} → (ℕ → Bool) → (A → ℕ) → (ℕ → ℕ → Reader A) → Reader (List A)
 section fits size one = do
   n ← count fits
-  records size one n 0
+  records size one n 0 0
 
 -- the same, with the place where it begins
 abbrev pub placed : {A : Type 0} → Reader A → Reader (ℕ × A)
@@ -96,7 +98,7 @@ unfoldable pub spelling : Reader (List ℕ)
 spelling = do
   at ← here
   size ← checked (between 1 longestSpelling) badSpelling at
-  records (λ b. 1) (λ i. checked (shaped i) badSpelling at) size 0
+  records (λ b. 0) (λ i sum. checked (shaped i) badSpelling at) size 0 0
 
 -- ---- Sections 1 and 2: "reserved 0 or 1, length, bytes"; "kind 0 to 7, length, bytes"
 unfoldable pub entry : ℕ → Reader Entry
@@ -105,14 +107,29 @@ entry greatest = do
   bytes ← spelling
   give (record { label = label; spelling = bytes })
 
--- ---- Section 3: "mark, number of variants 0 to 16"; mark 2 "with 0 variants"
+-- ---- Records of a binder. Document 02 d: "A mark-3 nonterminal has one variant, bytes 255, 3, 1, 1, with a step of kind
+-- 14: body, opening, closing; anything else there, or kind 14 elsewhere, gives 6"
+-- a binder's byte is n; elsewhere the byte passes a test
+abbrev pub fixed : Bool → ℕ → (ℕ → Bool) → ℕ → Bool
+fixed binder n fits b = cond binder (eqb b n) (fits b)
+
+-- whether a binder's number is i, where `at` gives a nonterminal's: that of its variant, or of its variant's step
+unfoldable pub ofBinder : (Nonterminal → ℕ) → List Nonterminal → ℕ → Bool
+ofBinder at [] i = false
+ofBinder at (n ∷ ns) i = (eqb (markNumber (n .mark)) binderMark && eqb (at n) i) || ofBinder at ns i
+
+-- the number of a nonterminal's first variant's first step
+abbrev pub firstStep : List (ℕ × Variant) → Nonterminal → ℕ
+firstStep variants n = getD variants (n .first) (0, noVariant) .1 .first
+
+-- ---- Section 3: "mark, number of variants 0 to 16"; mark 2 "with 0 variants"; "A mark-3 nonterminal has one variant"
 abbrev pub markOf : ℕ → Mark
-markOf n = cond (eqb n 1) Mark.Variable (cond (eqb n 2) Mark.Identifier Mark.Plain)
+markOf n = cond (eqb n 1) Mark.Variable (cond (eqb n 2) Mark.Identifier (cond (eqb n 3) Mark.Binder Mark.Plain))
 
 unfoldable pub nonterminal : ℕ → Reader Nonterminal
 nonterminal first = do
-  mark ← field (between 0 identifierMark)
-  count ← field (between 0 (cond (eqb mark identifierMark) 0 variantsEach))
+  mark ← field (between 0 lastMark)
+  count ← field (fixed (eqb mark binderMark) 1 (between 0 (cond (eqb mark identifierMark) 0 variantsEach)))
   give (record { mark = markOf mark; first = first; count = count })
 
 -- ---- Section 4: "level; associativity 0 Left, 1 Right, 2 None, 3 Both; flags 0 to 3 (1 committed, plus 2 passing);
@@ -124,12 +141,12 @@ associativityOf n =
     (cond (eqb n 2) Associativity.None
     Associativity.Both))
 
-unfoldable pub variant : ℕ → Reader Variant
-variant first = do
-  level ← field (between 0 defaultLevel)
+unfoldable pub variant : Bool → ℕ → Reader Variant
+variant binder first = do
+  level ← field (fixed binder defaultLevel (between 0 defaultLevel))
   associativity ← field (between (cond (eqb level defaultLevel) both 0) both)
-  flags ← field (between 0 lastFlags)
-  count ← field (between 0 stepsEach)
+  flags ← field (fixed binder committedFlags (between 0 lastFlags))
+  count ← field (fixed binder 1 (between 0 stepsEach))
   give (record {
     level = level;
     associativity = associativityOf associativity;
@@ -149,7 +166,7 @@ argument words nonterminals kind a =
     (cond (leb 8 kind) (ltb a nonterminals)
     (eqb a 0))))
 
--- which b and c: "12 delimited a between b and c; 13 the same, optional"
+-- which b and c: "12 delimited a between b and c; 13 the same, optional"; "kind 14: body, opening, closing"
 abbrev pub delimiter : ℕ → ℕ → Bool
 delimiter kind b = cond (leb 12 kind) (between firstCharacter lastCharacter b) (eqb b 0)
 
@@ -172,9 +189,9 @@ stepOf kind a b c =
     (cond (eqb kind 13) (Step.OptionalDelimited a b c)
     (Step.Character 0))))))))))))))
 
-unfoldable pub step : ℕ → ℕ → Reader Step
-step words nonterminals = do
-  kind ← field (between 0 lastStepKind)
+unfoldable pub step : ℕ → ℕ → Bool → Reader Step
+step words nonterminals binder = do
+  kind ← field (fixed binder binderKind (between 0 lastStepKind))
   a ← field (argument words nonterminals kind)
   b ← field (delimiter kind)
   c ← field (delimiter kind)
@@ -206,13 +223,15 @@ variantsFit all n = between 0 mostVariants n && eqb n all
 -- the sections in order, then 7, then 8
 unfoldable pub entireBook : Reader Book
 entireBook = do
-  words ← section (between 0 mostWords) (λ w. 0) (λ first. entry reserved)
-  names ← section (between 0 mostNames) (λ w. 0) (λ first. entry lastKind)
-  nonterminals ← section (between 1 mostNonterminals) (λ n. n .count) nonterminal
+  words ← section (between 0 mostWords) (λ w. 0) (λ i first. entry reserved)
+  names ← section (between 0 mostNames) (λ w. 0) (λ i first. entry lastKind)
+  nonterminals ← section (between 1 mostNonterminals) (λ n. n .count) (λ i. nonterminal)
   variants ←
-      section (variantsFit (total (λ n. n .count) nonterminals)) (λ v. v .1 .count) (λ first. placed (variant first))
+      section (variantsFit (total (λ n. n .count) nonterminals)) (λ v. v .1 .count)
+      (λ j first. placed (variant (ofBinder (λ n. n .first) nonterminals j) first))
   steps ←
-      section (eqb (total (λ v. v .1 .count) variants)) (λ s. 0) (λ first. step (length words) (length nonterminals))
+      section (eqb (total (λ v. v .1 .count) variants)) (λ s. 0)
+      (λ k first. step (length words) (length nonterminals) (ofBinder (firstStep variants) nonterminals k))
   passed ← allPass steps variants
   over ← ended
   give (record {

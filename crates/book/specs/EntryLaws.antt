@@ -3,6 +3,7 @@
 --   bytesFrom, Begun, begun-     the loop over a spelling's bytes: what has been read, and what is read from here
 --   spelling-, entry-            where the reading of each stops, and what it reads
 use mathlib.Core.Path.{_≡_, refl, sym, _∙_}
+use mathlib.Core.Bool.{Bool}
 use mathlib.Core.List.{List, [], _∷_, _++_}
 use Prim.Native.Nat.{ℕ, _+_, _-_, _≤_, _<_}
 use native.Mathlib.Omega.{arith}
@@ -25,13 +26,13 @@ use Rattle.book.specs.declared.sections.Sort.{Sort}
 -- ---- The bytes of a spelling whose length stands at `at`
 module _ (book : List ℕ) (at place : ℕ) where
   abbrev pub bytesFrom : ℕ → ℕ → ℕ → Checked (List ℕ)
-  bytesFrom n i from = records (λ b. 1) (λ k. checked (shaped k) 5 at) n i book from
+  bytesFrom n i from = records (λ b. 0) (λ k sum. checked (shaped k) 5 at) n i 0 book from
 
   -- i of them have been read
   abbrev pub Begun : ℕ → ℕ → ℕ → Type 0
   Begun size i from =
       (from ≡ place + i) ×
-      (after (λ b. 1) (λ k. checked (shaped k) 5 at) book (partOf book place i) (bytesFrom (size - i) i from)
+      (after (λ b. 0) (λ k sum. checked (shaped k) 5 at) book (partOf book place i) (bytesFrom (size - i) i from)
       ≡ bytesFrom size 0 place)
 
   byte-inside : (i from : ℕ) {v q : ℕ} → checked (shaped i) 5 at book from ≡ accepted v q → from < length book
@@ -57,24 +58,25 @@ module _ (book : List ℕ) (at place : ℕ) where
       rw from-is (part-snoc i (omega (arith, byte-inside i from e))) in (
         omega (arith, told .next),
         rw snoc
-            (sym (records-on (λ b. 1) (λ k. checked (shaped k) 5 at) book (partOf book place i) size i i from h e)
+            (sym (records-on (λ b. 0) (λ k sum. checked (shaped k) 5 at) book (partOf book place i) size i 0 from h e)
             ∙ b .1),
       )
 
   pub begun-first : (size : ℕ) → Begun size 0 place
-  begun-first size = (omega arith, records-begins (λ b. 1) (λ k. checked (shaped k) 5 at) book size 0 place)
+  begun-first size = (omega arith, records-begins (λ b. 0) (λ k sum. checked (shaped k) 5 at) book size 0 place)
 
   pub begun-stop : (size i from : ℕ) {n p : ℕ} → i < size → Begun size i from →
       checked (shaped i) 5 at book from ≡ refused n p → bytesFrom size 0 place ≡ refused n p
   begun-stop size i from h b e =
-      sym (b .1) ∙ records-refused (λ b. 1) (λ k. checked (shaped k) 5 at) book (partOf book place i) size i i from h e
+      sym (b .1)
+      ∙ records-refused (λ b. 0) (λ k sum. checked (shaped k) 5 at) book (partOf book place i) size i 0 from h e
 
   pub begun-last : (size i from : ℕ) → i ≤ size → size ≤ i → Begun size i from →
       bytesFrom size 0 place ≡ accepted (partOf book place size) from
   begun-last size i from h k b =
       let all : i ≡ size = omega arith in
       sym (b .1)
-      ∙ records-ends (λ b. 1) (λ k. checked (shaped k) 5 at) book (partOf book place i) size i i from k ∙ rw all
+      ∙ records-ends (λ b. 0) (λ k sum. checked (shaped k) 5 at) book (partOf book place i) size i 0 from k ∙ rw all
 
 -- ---- Spellings
 module _ (book : List ℕ) (place : ℕ) where
@@ -100,11 +102,11 @@ module _ (book : List ℕ) (place greatest : ℕ) where
 
   pub entry-read : (label next : ℕ) (part : Part) → Byte (between 0 greatest) book place (accepted label next) →
       spelling book next ≡ readingOf part (λ v. partOf book (next + 1) (getD book next 0)) → Valued part 0 →
-      One (Sort.Entry greatest) book place part
+      (binder : Bool) → One (Sort.Entry greatest) binder book place part
   unfolding entry
-  entry-read label next (Part.Refused n p) l e h =
-      one-refused (Sort.Entry greatest) book place (Part.Refused n p) refl (λ first. rw l (rw e))
-  entry-read label next (Part.Read v last) l e h =
+  entry-read label next (Part.Refused n p) l e h binder =
+      one-refused (Sort.Entry greatest) binder book place (Part.Refused n p) refl (λ first. rw l (rw e))
+  entry-read label next (Part.Read v last) l e h binder =
       let told = checked-told (between 0 greatest) 6 place book place label next l in
       let second : next ≡ place + 1 = told .next in
       let third : next + 1 ≡ place + 2 = omega arith in

@@ -1,7 +1,7 @@
 -- The index of a book, and the book that an index gives: each record from its place. This is no part of what document
 -- 01 says: the contract of `check_into` equates the book that its index gives with the one of `checkBook`, and the
 -- reading functions are stated over the former.
-use mathlib.Core.Bool.{Bool, cond, _&&_}
+use mathlib.Core.Bool.{Bool, false, cond, _&&_}
 use mathlib.Core.List.{List, [], _∷_, _++_}
 use mathlib.Core.Path.{_≡_}
 use Prim.Native.Nat.{ℕ, zero, suc, _+_, _-_, _*_, _%_, _≤_, _<_}
@@ -10,12 +10,14 @@ use lib.ListN.{length, getD}
 use Rattle.characters.specs.Slices.{Lent, atEntry}
 use Rattle.characters.specs.Classes.{between}
 use Rattle.characters.specs.Spelling.{partOf}
-use Rattle.book.specs.Book.{Entry, Book}
+use Rattle.book.specs.Book.{Entry, Book, markNumber}
 use Rattle.book.specs.Numbers.{shortLists, mostWords, mostNames, mostNonterminals, reserved, lastKind}
-use Rattle.book.specs.Numbers.{largestByte, lastStepKind, firstCharacter, lastCharacter}
-use Rattle.book.specs.Check.{Checked, refused, accepted, andThen, Reader, records, section, placed, entry, markOf}
-use Rattle.book.specs.Check.{nonterminal, associativityOf, variant, stepOf, step, total, variantsFit}
+use Rattle.book.specs.Numbers.{largestByte, binderMark, lastStepKind, binderKind, firstCharacter, lastCharacter}
+use Rattle.book.specs.Check.{Checked, refused, accepted, andThen, Reader, records, section, placed, entry, fixed}
+use Rattle.book.specs.Check.{ofBinder, firstStep, markOf, nonterminal, associativityOf, variant, stepOf, step}
+use Rattle.book.specs.Check.{total, variantsFit}
 use Rattle.book.specs.Check.{Outcome, outcomeRefusal, outcomePlace, checkBook}
+use Rattle.book.specs.declared.binders.Sought.{Sought}
 use Rattle.book.specs.declared.checking.Verdict.{Verdict}
 use Rattle.book.specs.declared.parts.Part.{Part}
 use Rattle.book.specs.declared.sections.Sort.{Sort}
@@ -50,26 +52,27 @@ stepFrom book at = stepOf (getD book at 0) (getD book (at + 1) 0) (getD book (at
 abbrev pub RecordOf : Sort → Type 0
 RecordOf (Sort.Entry greatest) = Entry
 RecordOf Sort.Nonterminal = Nonterminal
-RecordOf Sort.Variant = ℕ × Variant
-RecordOf (Sort.Step words nonterminals) = Step
+RecordOf (Sort.Variant binders) = ℕ × Variant
+RecordOf (Sort.Step words nonterminals binders) = Step
 
-abbrev pub oneOf : (sort : Sort) → ℕ → Reader (RecordOf sort)
-oneOf (Sort.Entry greatest) first = entry greatest
-oneOf Sort.Nonterminal first = nonterminal first
-oneOf Sort.Variant first = placed (variant first)
-oneOf (Sort.Step words nonterminals) first = step words nonterminals
+-- a binder's, or another
+abbrev pub oneOf : (sort : Sort) → Bool → ℕ → Reader (RecordOf sort)
+oneOf (Sort.Entry greatest) binder first = entry greatest
+oneOf Sort.Nonterminal binder first = nonterminal first
+oneOf (Sort.Variant binders) binder first = placed (variant binder first)
+oneOf (Sort.Step words nonterminals binders) binder first = step words nonterminals binder
 
 abbrev pub sizeOf : (sort : Sort) → RecordOf sort → ℕ
 sizeOf (Sort.Entry greatest) x = 0
 sizeOf Sort.Nonterminal x = x .count
-sizeOf Sort.Variant x = x .1 .count
-sizeOf (Sort.Step words nonterminals) x = 0
+sizeOf (Sort.Variant binders) x = x .1 .count
+sizeOf (Sort.Step words nonterminals binders) x = 0
 
 abbrev pub recordFrom : (sort : Sort) → List ℕ → ℕ → ℕ → RecordOf sort
 recordFrom (Sort.Entry greatest) book at first = entryFrom book at
 recordFrom Sort.Nonterminal book at first = nonterminalFrom book at first
-recordFrom Sort.Variant book at first = (at, variantFrom book at first)
-recordFrom (Sort.Step words nonterminals) book at first = stepFrom book at
+recordFrom (Sort.Variant binders) book at first = (at, variantFrom book at first)
+recordFrom (Sort.Step words nonterminals binders) book at first = stepFrom book at
 
 -- ---- The index: where each section's region begins, and how many numbers it has in all
 abbrev pub wordsAt : ℕ
@@ -116,7 +119,7 @@ nonterminalsIn book index = recordsIn Sort.Nonterminal book index nonterminalsAt
 
 -- each with its place
 abbrev pub placedIn : List ℕ → List ℕ → List (ℕ × Variant)
-placedIn book index = recordsIn Sort.Variant book index variantsAt (countIn index variantsAt)
+placedIn book index = recordsIn (Sort.Variant false) book index variantsAt (countIn index variantsAt)
 
 abbrev pub stepsIn : List ℕ → List ℕ → List Step
 stepsIn book index = upTo (countIn index stepsAt) (λ k. stepFrom book (placeIn index stepsAt k))
@@ -137,6 +140,46 @@ bookIn book index =
 abbrev pub bookAt : Lent → Lent → Book
 bookAt book index = bookIn (atEntry book) (atEntry index)
 
+-- ---- Records of a binder
+-- the number that is looked for, and a nonterminal's: where any will do, all have number 0
+abbrev pub soughtNumber : Sought → ℕ
+soughtNumber Sought.Any = 0
+soughtNumber (Sought.OfVariant j) = j
+soughtNumber (Sought.OfStep k) = k
+
+abbrev pub ownNumber : Sought → List ℕ → List ℕ → Nonterminal → ℕ
+ownNumber Sought.Any book index n = 0
+ownNumber (Sought.OfVariant j) book index n = n .first
+ownNumber (Sought.OfStep k) book index n = firstStep (placedIn book index) n
+
+abbrev pub isSought : Sought → List ℕ → List ℕ → Nonterminal → Bool
+isSought sought book index n =
+    eqb (markNumber (n .mark)) binderMark && eqb (ownNumber sought book index n) (soughtNumber sought)
+
+abbrev pub hasBinder : Sought → List ℕ → List ℕ → Bool
+hasBinder sought book index =
+    ofBinder (ownNumber sought book index) (nonterminalsIn book index) (soughtNumber sought)
+
+-- whether record i is a binder's. A sort that says that there are no binders looks for none
+abbrev pub binderIn : Sort → List ℕ → List ℕ → ℕ → Bool
+binderIn (Sort.Entry greatest) book index i = false
+binderIn Sort.Nonterminal book index i = false
+binderIn (Sort.Variant binders) book index i = binders && hasBinder (Sought.OfVariant i) book index
+binderIn (Sort.Step words nonterminals binders) book index i = binders && hasBinder (Sought.OfStep i) book index
+
+-- each record of a section, by its number
+abbrev pub eachOf : (sort : Sort) → List ℕ → List ℕ → ℕ → ℕ → Reader (RecordOf sort)
+eachOf sort book index i first = oneOf sort (binderIn sort book index i) first
+
+-- what tells a binder's records stands before a place of the index
+abbrev pub Before : Sort → ℕ → List ℕ → Type 0
+Before (Sort.Entry greatest) base index = Unit {0}
+Before Sort.Nonterminal base index = Unit {0}
+Before (Sort.Variant binders) base index = nonterminalsAt + 1 + 2 * countIn index nonterminalsAt ≤ base
+Before (Sort.Step words nonterminals binders) base index =
+    (nonterminalsAt + 1 + 2 * countIn index nonterminalsAt ≤ base) ×
+    (variantsAt + 1 + 2 * countIn index variantsAt ≤ base)
+
 -- ---- The ranges of a step's arguments
 abbrev pub belowRange : ℕ → Range
 belowRange n = cond (eqb n 0) (record { low = 1; high = 0 }) (record { low = 0; high = n - 1 })
@@ -153,9 +196,10 @@ abbrev pub delimiterRange : ℕ → Range
 delimiterRange kind =
     cond (leb 12 kind) (record { low = firstCharacter; high = lastCharacter }) (record { low = 0; high = 0 })
 
-abbrev pub allowed : ℕ → ℕ → ℕ → Allowed
-allowed words nonterminals kind =
-    cond (leb kind lastStepKind) (Allowed.Ranges (argumentRange words nonterminals kind) (delimiterRange kind))
+abbrev pub allowed : ℕ → ℕ → Bool → ℕ → Allowed
+allowed words nonterminals binder kind =
+    cond (fixed binder binderKind (between 0 lastStepKind) kind)
+    (Allowed.Ranges (argumentRange words nonterminals kind) (delimiterRange kind))
     Allowed.Refused
 
 -- ---- What the code's answers say
@@ -180,8 +224,8 @@ pub record KeptOutside (low high : ℕ) (before after : List ℕ) : Type 0 where
   pub above : (k : ℕ) → high ≤ k → getD after k 0 ≡ getD before k 0
 
 -- one record was read
-pub record One (sort : Sort) (book : List ℕ) (at : ℕ) (part : Part) : Type 0 where
-  pub reads : (first : ℕ) → oneOf sort first book at ≡ readingOf part (λ v. recordFrom sort book at first)
+pub record One (sort : Sort) (binder : Bool) (book : List ℕ) (at : ℕ) (part : Part) : Type 0 where
+  pub reads : (first : ℕ) → oneOf sort binder first book at ≡ readingOf part (λ v. recordFrom sort book at first)
   pub valued : (first : ℕ) → Valued part (sizeOf sort (recordFrom sort book at first))
   pub small : Small part
 
@@ -189,7 +233,8 @@ pub record One (sort : Sort) (book : List ℕ) (at : ℕ) (part : Part) : Type 0
 pub record RecordsRead (sort : Sort) (book : List ℕ) (at count base : ℕ) (before after : List ℕ)
     (part : Part) : Type 0 where
   pub reads :
-      records (sizeOf sort) (oneOf sort) count 0 book at ≡ readingOf part (λ v. recordsIn sort book after base count)
+      records (sizeOf sort) (eachOf sort book before) count 0 0 book at ≡
+      readingOf part (λ v. recordsIn sort book after base count)
   pub valued : Valued part (total (sizeOf sort) (recordsIn sort book after base count))
   pub kept : KeptOutside (base + 1) (base + 1 + 2 * count) before after
 
@@ -202,7 +247,7 @@ Few (Part.Refused number place) n high = Unit {0}
 pub record Section (sort : Sort) (fits : ℕ → Bool) (book : List ℕ) (at high base : ℕ) (before after : List ℕ)
     (part : Part) : Type 0 where
   pub reads :
-      section fits (sizeOf sort) (oneOf sort) book at ≡
+      section fits (sizeOf sort) (eachOf sort book before) book at ≡
       readingOf part (λ v. recordsIn sort book after base (countIn after base))
   pub valued : Valued part (total (sizeOf sort) (recordsIn sort book after base (countIn after base)))
   pub few : Few part (countIn after base) high
@@ -220,9 +265,9 @@ Heads = List Entry → List Entry → List Nonterminal → ℕ → Checked Book
 -- words, names and nonterminals, and what follows them
 abbrev pub heads : List ℕ → Heads → Checked Book
 heads book K =
-    andThen (section (between 0 mostWords) (λ w. 0) (λ first. entry reserved) book 0) (λ words p.
-    andThen (section (between 0 mostNames) (λ w. 0) (λ first. entry lastKind) book p) (λ names q.
-    andThen (section (between 1 mostNonterminals) (λ n. n .count) nonterminal book q) (λ nonterminals r.
+    andThen (section (between 0 mostWords) (λ w. 0) (λ i first. entry reserved) book 0) (λ words p.
+    andThen (section (between 0 mostNames) (λ w. 0) (λ i first. entry lastKind) book p) (λ names q.
+    andThen (section (between 1 mostNonterminals) (λ n. n .count) (λ i. nonterminal) book q) (λ nonterminals r.
     K words names nonterminals r)))
 
 pub record HeadsRead (book before after : List ℕ) (part : Part) : Type 0 where
@@ -243,10 +288,11 @@ abbrev pub fiveSections : List ℕ → Sections → Checked Book
 fiveSections book K =
     heads book (λ words names nonterminals p.
     andThen
-    (section (variantsFit (total (λ n. n .count) nonterminals)) (λ v. v .1 .count) (λ first. placed (variant first))
-    book p) (λ variants q.
+    (section (variantsFit (total (λ n. n .count) nonterminals)) (λ v. v .1 .count)
+    (λ j first. placed (variant (ofBinder (λ n. n .first) nonterminals j) first)) book p) (λ variants q.
     andThen
-    (section (eqb (total (λ v. v .1 .count) variants)) (λ s. 0) (λ first. step (length words) (length nonterminals))
+    (section (eqb (total (λ v. v .1 .count) variants)) (λ s. 0)
+    (λ k first. step (length words) (length nonterminals) (ofBinder (firstStep variants) nonterminals k))
     book q) (λ steps r.
     K words names nonterminals variants steps r)))
 

@@ -8,6 +8,7 @@ pub mod RecordLaws
 pub mod EntryLaws
 pub mod SectionLaws
 pub mod ReadingLaws
+pub mod BinderLaws
 pub mod WholeLaws
 pub mod EndLaws
 pub mod BoundLaws

@@ -65,6 +65,9 @@ reserved = 1
 abbrev pub lastKind : ℕ
 lastKind = 7
 
+abbrev pub kinds : ℕ
+kinds = 8
+
 -- "length 1 to 15"
 abbrev pub longestSpelling : ℕ
 longestSpelling = 15
@@ -72,6 +75,14 @@ longestSpelling = 15
 -- "Mark 0 plain; 1 calls `try_claim_as_var` first; 2 is `identifier_nonterminal`, with 0 variants"
 abbrev pub identifierMark : ℕ
 identifierMark = 2
+
+-- document 02 d, "the binder of `CoreBinder::parse` as mark 3"
+abbrev pub binderMark : ℕ
+binderMark = 3
+
+-- the last mark that a book may have: no book has a binder yet
+abbrev pub lastMark : ℕ
+lastMark = 2
 
 -- "number of variants 0 to 16"
 abbrev pub variantsEach : ℕ
@@ -88,7 +99,10 @@ largestByte = 255
 abbrev pub both : ℕ
 both = 3
 
--- "flags 0 to 3"
+-- "flags 0 to 3 (1 committed, plus 2 passing)"
+abbrev pub committedFlags : ℕ
+committedFlags = 1
+
 abbrev pub lastFlags : ℕ
 lastFlags = 3
 
@@ -99,6 +113,10 @@ stepsEach = 8
 -- "Kinds: 0 character a; .. 13 the same, optional"
 abbrev pub lastStepKind : ℕ
 lastStepKind = 13
+
+-- document 02 d, "a step of kind 14: body, opening, closing"
+abbrev pub binderKind : ℕ
+binderKind = 14
 
 -- "Characters are 33 to 126"
 abbrev pub firstCharacter : ℕ

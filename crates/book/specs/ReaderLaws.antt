@@ -2,23 +2,24 @@
 --
 --   between-                        a number inside, under and over a range
 --   checked-, field-                a byte of the book: good, bad, missing
+--   same-test, fixed-               a test under another name; the test of a byte that a binder's record fixes
 --   read, stopped, stop, handed     what follows a part that was read, and one that was refused
 --   no-value, value-of, ..          the value of a part
 --   after, records-, total-snoc         records, of which some have been read
 --
 -- Not here: the records themselves (RecordLaws, EntryLaws), and records with their index (SectionLaws).
-use mathlib.Core.Path.{_≡_, refl, sym, ap, _∙_}
+use mathlib.Core.Path.{_≡_, refl, sym, ap, _∙_, fun-ext}
 use mathlib.Core.Bool.{Bool, true, false, and-false}
 use mathlib.Core.List.{List, [], _∷_, _++_, append-nil, append-assoc}
 use Prim.Native.Nat.{ℕ, suc, _+_, _-_, _≤_, _<_}
 use native.Mathlib.Omega.{arith}
 use native.Mathlib.Nat.{sub-zero}
-use lib.Dec.{leb, ltb}
+use lib.Dec.{leb, ltb, eqb}
 use lib.ListN.{length, getD}
-use borrow.Author.Tests.{lt-ltb, le-ltb, le-leb, lt-leb, leb-true, ltb-true, ltb-false}
+use borrow.Author.Tests.{lt-ltb, le-ltb, le-leb, lt-leb, leb-true, ltb-true, ltb-false, eqb-true, eqb-false}
 use Rattle.characters.specs.Cases.{by-test, clash}
 use Rattle.characters.specs.Classes.{between}
-use Rattle.book.specs.Check.{Checked, refused, accepted, andThen, Reader, checked, records, total}
+use Rattle.book.specs.Check.{Checked, refused, accepted, andThen, Reader, checked, records, fixed, total}
 use Rattle.book.specs.Index.{readingOf, Valued, Small}
 use Rattle.book.specs.declared.parts.Part.{Part}
 
@@ -37,6 +38,16 @@ between-high low high b e = by-test (leb b high) (λ t. leb-true b high t) (λ t
 
 pub between-low : (low high b : ℕ) → between low high b ≡ true → low ≤ b
 between-low low high b e = by-test (leb low b) (λ t. leb-true low b t) (λ t. clash e (rw t refl))
+
+pub between-one : (n b : ℕ) → between n n b ≡ eqb b n
+between-one n b =
+    by-test (eqb b n)
+    (λ t. let e = eqb-true b n t in between-inside n n b (omega arith) (omega arith) ∙ sym t)
+    (λ t.
+    let other = eqb-false b n t in
+    by-test (ltb b n)
+    (λ l. between-under n n b (ltb-true b n l) ∙ sym t)
+    (λ l. between-over n n b (omega (arith, ltb-false b n l, other)) ∙ sym t))
 
 -- ---- A byte
 module _ (fits : ℕ → Bool) (number at : ℕ) (book : List ℕ) (place : ℕ) where
@@ -91,6 +102,29 @@ module _ (low high number at : ℕ) (book : List ℕ) (place value : ℕ) (h : p
       checked-good (between low high) number at book place h
       (between-inside low high (getD book place 0) (omega arith) (omega arith)) ∙ rw value-is
 
+-- the same test under another name
+pub same-test : (fits wanted : ℕ → Bool) → ((b : ℕ) → fits b ≡ wanted b) →
+    (number at : ℕ) (book : List ℕ) (place : ℕ) {c : Checked ℕ} →
+    checked fits number at book place ≡ c → checked wanted number at book place ≡ c
+same-test fits wanted h number at book place e =
+    ap (λ (f : ℕ → Bool). checked f number at book place) (sym (fun-ext h)) ∙ e
+
+-- a binder's byte, which is n, and another's, up to `high`
+module _ (n high number at : ℕ) (book : List ℕ) (place : ℕ) {c : Checked ℕ} where
+  pub fixed-binder : {binder : Bool} → binder ≡ true → checked (between n n) number at book place ≡ c →
+      checked (fixed binder n (between 0 high)) number at book place ≡ c
+  fixed-binder told e = rw told (same-test (between n n) (λ b. eqb b n) (between-one n) number at book place e)
+
+  pub fixed-other : {binder : Bool} → binder ≡ false → checked (between 0 high) number at book place ≡ c →
+      checked (fixed binder n (between 0 high)) number at book place ≡ c
+  fixed-other told e = rw told e
+
+-- it is at most `most`, where both are
+pub fixed-most : (binder : Bool) (n high most b : ℕ) → n ≤ most → high ≤ most →
+    fixed binder n (between 0 high) b ≡ true → b ≤ most
+fixed-most true n high most b h k e = omega (arith, eqb-true b n e)
+fixed-most false n high most b h k e = omega (arith, between-high 0 high b e)
+
 -- ---- What follows a part
 module _ {A : Type 0} (c : Checked A) (part : Part) (f : ℕ → A) (e : c ≡ readingOf part f) where
   pub read : {v q : ℕ} → part ≡ Part.Read v q → c ≡ accepted (f v) q
@@ -122,8 +156,8 @@ small-of told h = rw told at h
 pub value-of : {part : Part} {v q : ℕ} → part ≡ Part.Read v q → (k : ℕ) → Valued part k → v ≡ k
 value-of told k h = rw told at h
 
--- ---- Rows. `before` has been read; what is left is read from here
-module _ {A : Type 0} (size : A → ℕ) (one : ℕ → Reader A) (book : List ℕ) where
+-- ---- Records. `before` has been read; what is left is read from here
+module _ {A : Type 0} (size : A → ℕ) (one : ℕ → ℕ → Reader A) (book : List ℕ) where
   abbrev pub after : List A → Checked (List A) → Checked (List A)
   after before c = andThen c (λ xs next. accepted (before ++ xs) next)
 
@@ -137,24 +171,25 @@ module _ {A : Type 0} (size : A → ℕ) (one : ℕ → Reader A) (book : List �
   after-one before x (accepted xs next) = ap (λ (l : List A). accepted l next) (sym (append-assoc before (x ∷ []) xs))
 
   pub records-begins : (n sum place : ℕ) →
-      after [] (records size one (n - 0) sum book place) ≡ records size one n sum book place
-  records-begins n sum place = rw sub-zero (after-nothing (records size one n sum book place))
+      after [] (records size one (n - 0) 0 sum book place) ≡ records size one n 0 sum book place
+  records-begins n sum place = rw sub-zero (after-nothing (records size one n 0 sum book place))
 
+  -- i of them have been read
   module _ (before : List A) (n i sum place : ℕ) where
-    pub records-refused : i < n → {number at : ℕ} → one sum book place ≡ refused number at →
-        after before (records size one (n - i) sum book place) ≡ refused number at
+    pub records-refused : i < n → {number at : ℕ} → one i sum book place ≡ refused number at →
+        after before (records size one (n - i) i sum book place) ≡ refused number at
     unfolding records
     records-refused h e = let left : n - i ≡ suc (n - (i + 1)) = omega arith in rw left (rw e)
 
-    pub records-on : i < n → {x : A} {next : ℕ} → one sum book place ≡ accepted x next →
-        after before (records size one (n - i) sum book place)
-        ≡ after (before ++ (x ∷ [])) (records size one (n - (i + 1)) (sum + size x) book next)
+    pub records-on : i < n → {x : A} {next : ℕ} → one i sum book place ≡ accepted x next →
+        after before (records size one (n - i) i sum book place)
+        ≡ after (before ++ (x ∷ [])) (records size one (n - (i + 1)) (i + 1) (sum + size x) book next)
     unfolding records
     records-on h {x} {next} e =
         let left : n - i ≡ suc (n - (i + 1)) = omega arith in
-        rw left (rw e (after-one before x (records size one (n - (i + 1)) (sum + size x) book next)))
+        rw left (rw e (after-one before x (records size one (n - (i + 1)) (i + 1) (sum + size x) book next)))
 
-    pub records-ends : n ≤ i → after before (records size one (n - i) sum book place) ≡ accepted before place
+    pub records-ends : n ≤ i → after before (records size one (n - i) i sum book place) ≡ accepted before place
     unfolding records
     records-ends h =
         let none-left : n - i ≡ 0 = omega arith in

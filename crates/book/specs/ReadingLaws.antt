@@ -5,27 +5,30 @@
 --   nonterminal-, variant-, step-, entry-       a record that the book has, and one that it doesn't
 --   reserved-, words-length                     the loop that looks for a reserved word
 --   lookup-                                     the loop that looks for the last equal name
+--   kind-                                       the loop that looks for a kind's word
 --
 -- Not here: that the index gives the book of the check (WholeLaws, EndLaws).
 use mathlib.Core.Path.{_≡_, refl, sym, ap, _∙_}
 use mathlib.Core.Bool.{true, false, cond}
 use mathlib.Core.List.{List, [], _∷_, _++_}
-use Prim.Native.Nat.{ℕ, zero, suc, _+_, _-_, _%_, _≤_, _<_}
+use Prim.Native.Nat.{ℕ, zero, suc, _+_, _-_, _%_, _≤_, _<_, min}
 use native.Mathlib.Omega.{arith}
 use native.Mathlib.Nat.{add-zero}
 use native.Mathlib.Numerals.{add-one}
 use lib.Dec.{leb, ltb, eqb}
-use lib.ListN.{length, getD, drop, length-append, List·getD-append, List·getD-eq-default, drop-of-length-le}
-use lib.Seq.{drop-cons, getD-at}
+use lib.ListN.{length, getD, take, drop, length-append, length-take, List·getD-append, List·getD-eq-default}
+use lib.ListN.{drop-of-length-le}
+use lib.Seq.{drop-cons, getD-at, getD-take}
 use borrow.Author.Tests.{ltb-true, ltb-false}
 use Rattle.characters.specs.Cases.{by-test}
 use Rattle.characters.specs.Spelling.{same}
 use Rattle.book.specs.Book.{Entry, markNumber, associativityNumber, nthEntry, nthNonterminal, nthVariant, nthStep}
-use Rattle.book.specs.Book.{reservedAs, isReserved, lookupFrom, lookupName}
+use Rattle.book.specs.Book.{reservedAs, isReserved, lookupFrom, lookupName, leastWord}
 use Rattle.book.specs.Check.{markOf, associativityOf, stepOf}
 use Rattle.book.specs.Index.{upTo, countIn, placeIn, firstIn, entryFrom, nonterminalFrom, entriesIn, bookIn}
 use Rattle.book.specs.SectionLaws.{upTo-more}
 use Rattle.book.specs.declared.names.Found.{Found}
+use Rattle.book.specs.declared.names.KindWord.{KindWord}
 use Rattle.book.specs.declared.records.Mark.{Mark}
 use Rattle.book.specs.declared.records.Associativity.{Associativity}
 use Rattle.book.specs.declared.records.Nonterminal.{Nonterminal}
@@ -37,6 +40,7 @@ pub mark-of-number : (mark : Mark) → markOf (markNumber mark) ≡ mark
 mark-of-number Mark.Plain = refl
 mark-of-number Mark.Variable = refl
 mark-of-number Mark.Identifier = refl
+mark-of-number Mark.Binder = refl
 
 pub associativity-of-number : (associativity : Associativity) →
     associativityOf (associativityNumber associativity) ≡ associativity
@@ -212,3 +216,35 @@ module _ (book index wanted : List ℕ) where
     pub lookup-on : same wanted (nthEntry (bookIn book index .names) (i - 1) .spelling) ≡ false →
         lookupBelow i ≡ lookupBelow (i - 1)
     lookup-on e = one-less ∙ rw (rw last-name at e)
+
+-- ---- The words of kinds
+pub kind-words : (book index : List ℕ) → length (take 8 (bookIn book index .words)) ≡ min 8 (countIn index 0)
+kind-words book index = length-take 8 (bookIn book index .words) ∙ rw (words-length book index)
+
+module _ (wanted : List ℕ) (book index : List ℕ) (i : ℕ) where
+  abbrev words : List Entry
+  words = take 8 (bookIn book index .words)
+
+  -- what decides from word i on
+  abbrev pub kindFrom : KindWord
+  kindFrom = leastWord i (drop i words) wanted
+
+  pub kind-end : length words ≤ i → kindFrom ≡ KindWord.Nothing
+  unfolding leastWord
+  kind-end h = rw (drop-of-length-le words h)
+
+  module _ (h : i < length words) where
+    first-word : drop i words ≡ nthEntry (bookIn book index .words) i ∷ drop (suc i) words
+    first-word =
+        let d : Entry = record { label = 0; spelling = [] } in
+        let less : i < 8 = omega (arith, kind-words book index) in
+        drop-cons words i d h ∙ rw (getD-take 8 (bookIn book index .words) i d less)
+
+    pub kind-hit : same wanted (nthEntry (bookIn book index .words) i .spelling) ≡ true → kindFrom ≡ KindWord.Kind i
+    unfolding leastWord
+    kind-hit e = rw (first-word, e)
+
+    pub kind-on : same wanted (nthEntry (bookIn book index .words) i .spelling) ≡ false →
+        kindFrom ≡ leastWord (i + 1) (drop (i + 1) words) wanted
+    unfolding leastWord
+    kind-on e = rw (first-word, e, add-one)

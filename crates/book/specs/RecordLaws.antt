@@ -5,7 +5,7 @@
 --   past, Known, allowed-known, -refused     what the dispatch over the kinds of steps tells
 --
 -- Not here: words and names (EntryLaws).
-use mathlib.Core.Path.{_≡_, refl, sym, ap, _∙_, fun-ext}
+use mathlib.Core.Path.{_≡_, refl, sym, ap, _∙_}
 use mathlib.Core.Bool.{Bool, true, false, cond}
 use mathlib.Core.List.{List}
 use Prim.Native.Nat.{ℕ, _+_, _-_, _≤_, _<_}
@@ -15,20 +15,25 @@ use lib.ListN.{length, getD}
 use borrow.Author.Tests.{le-ltb, eqb-true, eqb-false, leb-true, leb-false, ltb-true, ltb-false}
 use Rattle.characters.specs.Cases.{by-test, clash}
 use Rattle.characters.specs.Classes.{between}
-use Rattle.book.specs.Check.{Checked, refused, accepted, checked, nonterminal, variant, step, argument, delimiter}
+use Rattle.book.specs.Check.{Checked, refused, accepted, checked, fixed, nonterminal, variant, step, argument}
+use Rattle.book.specs.Check.{delimiter}
 use Rattle.book.specs.Index.{readingOf, One, oneOf, recordFrom, belowRange, argumentRange, delimiterRange}
 use Rattle.book.specs.Index.{allowed}
 use Rattle.book.specs.ReaderLaws.{between-high, between-inside, between-under, between-over, ByteRead}
-use Rattle.book.specs.ReaderLaws.{checked-short, checked-bad, checked-good, checked-told, no-value, no-size}
+use Rattle.book.specs.ReaderLaws.{checked-short, checked-bad, checked-good, checked-told, same-test, fixed-most}
+use Rattle.book.specs.ReaderLaws.{no-value, no-size}
+use Rattle.book.specs.Numbers.{lastMark}
 use Rattle.book.specs.declared.parts.Part.{Part}
 use Rattle.book.specs.declared.sections.Sort.{Sort}
 use Rattle.book.specs.declared.sections.Range.{Range}
 use Rattle.book.specs.declared.sections.Allowed.{Allowed}
+use Rattle.book.specs.declared.records.Step.{Step}
 
 -- a record that is refused
-pub one-refused : (sort : Sort) (book : List ℕ) (at : ℕ) (part : Part) {n p : ℕ} → part ≡ Part.Refused n p →
-    ((first : ℕ) → oneOf sort first book at ≡ refused n p) → One sort book at part
-one-refused sort book at part told h = record {
+pub one-refused : (sort : Sort) (binder : Bool) (book : List ℕ) (at : ℕ) (part : Part) {n p : ℕ} →
+    part ≡ Part.Refused n p →
+    ((first : ℕ) → oneOf sort binder first book at ≡ refused n p) → One sort binder book at part
+one-refused sort binder book at part told h = record {
   reads = λ first. h first ∙ sym (ap (λ (x : Part). readingOf x (λ v. recordFrom sort book at first)) told);
   valued = λ first. no-value told _;
   small = no-size told;
@@ -40,62 +45,68 @@ Byte fits book place c = checked fits 6 place book place ≡ c
 
 -- ---- Nonterminals
 module _ (book : List ℕ) (place : ℕ) where
-  pub nonterminal-stop : {n p : ℕ} → Byte (between 0 2) book place (refused n p) → (first : ℕ) →
+  pub nonterminal-stop : {n p : ℕ} → Byte (between 0 lastMark) book place (refused n p) → (first : ℕ) →
       nonterminal first book place ≡ refused n p
   unfolding nonterminal
   nonterminal-stop e first = rw e
 
-  pub nonterminal-read : (mark next most : ℕ) (part : Part) → Byte (between 0 2) book place (accepted mark next) →
-      most ≡ cond (eqb mark 2) 0 16 →
-      Byte (between 0 most) book next (readingOf part (λ v. v)) → One Sort.Nonterminal book place part
+  pub nonterminal-read : (mark next most : ℕ) (part : Part) →
+      Byte (between 0 lastMark) book place (accepted mark next) → most ≡ cond (eqb mark 2) 0 16 →
+      Byte (fixed (eqb mark 3) 1 (between 0 most)) book next (readingOf part (λ v. v)) →
+      (binder : Bool) → One Sort.Nonterminal binder book place part
   unfolding nonterminal
-  nonterminal-read mark next most (Part.Refused n p) m most-is e =
-      one-refused Sort.Nonterminal book place (Part.Refused n p) refl (λ first. rw m (rw (rw most-is at e)))
-  nonterminal-read mark next most (Part.Read number last) m most-is e =
+  nonterminal-read mark next most (Part.Refused n p) m most-is e binder =
+      one-refused Sort.Nonterminal binder book place (Part.Refused n p) refl (λ first. rw m (rw (rw most-is at e)))
+  nonterminal-read mark next most (Part.Read number last) m most-is e binder =
       let few : most ≤ 16 =
       by-test (eqb mark 2) (λ t. rw (most-is, t) (omega arith)) (λ t. rw (most-is, t) (omega arith)) in
-      let mark-told = checked-told (between 0 2) 6 place book place mark next m in
-      let told = checked-told (between 0 most) 6 next book next number last e in
+      let mark-told = checked-told (between 0 lastMark) 6 place book place mark next m in
+      let told = checked-told (fixed (eqb mark 3) 1 (between 0 most)) 6 next book next number last e in
       let next-is = mark-told .next in
       let number-is : number ≡ getD book (place + 1) 0 = rw next-is at (told .value) in
       record {
         reads = λ first. rw m (rw (rw most-is at e) (rw (mark-told .value, number-is)));
         valued = λ first. number-is;
-        small = omega (arith, between-high 0 most number (told .fitted));
+        small = fixed-most (eqb mark 3) 1 most 255 number (omega arith) (omega arith) (told .fitted);
       }
 
 -- ---- Variants
-module _ (book : List ℕ) (place : ℕ) where
-  pub variant-stop-level : {n p : ℕ} → Byte (between 0 255) book place (refused n p) → (first : ℕ) →
-      oneOf Sort.Variant first book place ≡ refused n p
+module _ (binders binder : Bool) (book : List ℕ) (place : ℕ) where
+  abbrev Level : Checked ℕ → Type 0
+  Level c = Byte (fixed binder 255 (between 0 255)) book place c
+
+  pub variant-stop-level : {n p : ℕ} → Level (refused n p) → (first : ℕ) →
+      oneOf (Sort.Variant binders) binder first book place ≡ refused n p
   unfolding variant
   variant-stop-level e first = rw e
 
-  module _ (level next least : ℕ) (l : Byte (between 0 255) book place (accepted level next))
-      (least-is : least ≡ cond (eqb level 255) 3 0) where
+  module _ (level next least : ℕ) (l : Level (accepted level next)) (least-is : least ≡ cond (eqb level 255) 3 0) where
     pub variant-stop-associativity : {n p : ℕ} → Byte (between least 3) book next (refused n p) → (first : ℕ) →
-        oneOf Sort.Variant first book place ≡ refused n p
+        oneOf (Sort.Variant binders) binder first book place ≡ refused n p
     unfolding variant
     variant-stop-associativity e first = rw l (rw (rw least-is at e))
 
     module _ (associativity flags-at : ℕ) (a : Byte (between least 3) book next (accepted associativity flags-at)) where
-      pub variant-stop-flags : {n p : ℕ} → Byte (between 0 3) book flags-at (refused n p) → (first : ℕ) →
-          oneOf Sort.Variant first book place ≡ refused n p
+      abbrev Flags : Checked ℕ → Type 0
+      Flags c = Byte (fixed binder 1 (between 0 3)) book flags-at c
+
+      pub variant-stop-flags : {n p : ℕ} → Flags (refused n p) → (first : ℕ) →
+          oneOf (Sort.Variant binders) binder first book place ≡ refused n p
       unfolding variant
       variant-stop-flags e first = rw l (rw (rw least-is at a) (rw e))
 
-      pub variant-read : (flags number-at : ℕ) (part : Part) →
-          Byte (between 0 3) book flags-at (accepted flags number-at) →
-          Byte (between 0 8) book number-at (readingOf part (λ v. v)) → One Sort.Variant book place part
+      pub variant-read : (flags number-at : ℕ) (part : Part) → Flags (accepted flags number-at) →
+          Byte (fixed binder 1 (between 0 8)) book number-at (readingOf part (λ v. v)) →
+          One (Sort.Variant binders) binder book place part
       unfolding variant
       variant-read flags number-at (Part.Refused n p) f e =
-          one-refused Sort.Variant book place (Part.Refused n p) refl
+          one-refused (Sort.Variant binders) binder book place (Part.Refused n p) refl
           (λ first. rw l (rw (rw least-is at a) (rw f (rw e))))
       variant-read flags number-at (Part.Read number last) f e =
-          let lt = checked-told (between 0 255) 6 place book place level next l in
+          let lt = checked-told (fixed binder 255 (between 0 255)) 6 place book place level next l in
           let at = checked-told (between least 3) 6 next book next associativity flags-at a in
-          let ft = checked-told (between 0 3) 6 flags-at book flags-at flags number-at f in
-          let nt = checked-told (between 0 8) 6 number-at book number-at number last e in
+          let ft = checked-told (fixed binder 1 (between 0 3)) 6 flags-at book flags-at flags number-at f in
+          let nt = checked-told (fixed binder 1 (between 0 8)) 6 number-at book number-at number last e in
           let second : next ≡ place + 1 = lt .next in
           let third : flags-at ≡ place + 2 = omega (arith, at .next) in
           let fourth : number-at ≡ place + 3 = omega (arith, ft .next) in
@@ -105,7 +116,7 @@ module _ (book : List ℕ) (place : ℕ) where
           record {
             reads = λ first. rw l (rw (rw least-is at a) (rw f (rw e (rw (lt .value, a-is, f-is, n-is)))));
             valued = λ first. n-is;
-            small = omega (arith, between-high 0 8 number (nt .fitted));
+            small = fixed-most binder 1 8 255 number (omega arith) (omega arith) (nt .fitted);
           }
 
 -- ---- Steps
@@ -146,50 +157,48 @@ delimiter-fits kind b = by-test (leb 12 kind) (λ t. rw t) (λ t. rw t (zero-ran
 pub past : (n : ℕ) {k : ℕ} → n ≤ k → (k ≡ n → ⊥) → n + 1 ≤ k
 past n h other = omega (arith, other)
 
+-- which kinds a step may have
+abbrev pub kindFits : Bool → ℕ → Bool
+kindFits binder = fixed binder 14 (between 0 13)
+
 -- what the dispatch over the kinds tells
-pub record Known (words nonterminals kind : ℕ) (a d : Range) : Type 0 where
-  pub in-range : leb kind 13 ≡ true
+pub record Known (words nonterminals : ℕ) (binder : Bool) (kind : ℕ) (a d : Range) : Type 0 where
+  pub in-range : kindFits binder kind ≡ true
   pub argument-is : Within a (argument words nonterminals kind)
   pub delimiter-is : Within d (delimiter kind)
 
-pub allowed-known : (words nonterminals kind : ℕ) (a d : Range) → Allowed.Ranges a d ≡ allowed words nonterminals kind →
-    Known words nonterminals kind a d
-allowed-known words nonterminals kind a d e =
-    by-test (leb kind 13)
-    (λ t. let f : allowed words nonterminals kind
-    ≡ Allowed.Ranges (argumentRange words nonterminals kind) (delimiterRange kind) = rw t in
-    let a-is : a ≡ argumentRange words nonterminals kind = cc in
-    let d-is : d ≡ delimiterRange kind = cc in
-    record {
-      in-range = t;
-      argument-is =
-          λ b. ap (λ (r : Range). between (r .low) (r .high) b) a-is ∙ argument-fits words nonterminals kind b;
-      delimiter-is = λ b. ap (λ (r : Range). between (r .low) (r .high) b) d-is ∙ delimiter-fits kind b;
-    })
-    (λ t.
-    let f : allowed words nonterminals kind ≡ Allowed.Refused = rw t in
-    let z : _≡_ {A = ℕ} 0 1 = cc in absurd (omega arith))
+module _ (words nonterminals : ℕ) (binder : Bool) (kind : ℕ) where
+  allowed-in-range : kindFits binder kind ≡ true → allowed words nonterminals binder kind
+      ≡ Allowed.Ranges (argumentRange words nonterminals kind) (delimiterRange kind)
+  allowed-in-range t = rw t
 
-pub allowed-refused : (words nonterminals kind : ℕ) →
-    Allowed.Refused ≡ allowed words nonterminals kind → leb kind 13 ≡ false
-allowed-refused words nonterminals kind e =
-    by-test (leb kind 13)
-    (λ t. let f : allowed words nonterminals kind
-    ≡ Allowed.Ranges (argumentRange words nonterminals kind) (delimiterRange kind) = rw t in
-    let z : _≡_ {A = ℕ} 0 1 = cc in absurd (omega arith))
-    (λ t. t)
+  pub allowed-known : (a d : Range) → Allowed.Ranges a d ≡ allowed words nonterminals binder kind →
+      Known words nonterminals binder kind a d
+  allowed-known a d e =
+      by-test (kindFits binder kind)
+      (λ t. let f = allowed-in-range t in
+      let a-is : a ≡ argumentRange words nonterminals kind = cc in
+      let d-is : d ≡ delimiterRange kind = cc in
+      record {
+        in-range = t;
+        argument-is =
+            λ b. ap (λ (r : Range). between (r .low) (r .high) b) a-is ∙ argument-fits words nonterminals kind b;
+        delimiter-is = λ b. ap (λ (r : Range). between (r .low) (r .high) b) d-is ∙ delimiter-fits kind b;
+      })
+      (λ t.
+      let f : allowed words nonterminals binder kind ≡ Allowed.Refused = rw t in
+      let z : _≡_ {A = ℕ} 0 1 = cc in absurd (omega arith))
 
--- the same test under another name
-same-test : (fits wanted : ℕ → Bool) → ((b : ℕ) → fits b ≡ wanted b) → (book : List ℕ) (place : ℕ) {c : Checked ℕ} →
-    Byte fits book place c → Byte wanted book place c
-same-test fits wanted h book place e = ap (λ (f : ℕ → Bool). checked f 6 place book place) (sym (fun-ext h)) ∙ e
+  pub allowed-refused : Allowed.Refused ≡ allowed words nonterminals binder kind → kindFits binder kind ≡ false
+  allowed-refused e =
+      by-test (kindFits binder kind)
+      (λ t. let f = allowed-in-range t in let z : _≡_ {A = ℕ} 0 1 = cc in absurd (omega arith))
+      (λ t. t)
 
 -- the kind, which the code reads whatever it is
-module _ (book : List ℕ) (place : ℕ) where
-  over : (b : ℕ) → leb b 13 ≡ false → between 0 13 b ≡ false
-  over b t = between-over 0 13 b (leb-false b 13 t)
-
-  kind-stop : {n p : ℕ} → Byte (between 0 255) book place (refused n p) → Byte (between 0 13) book place (refused n p)
+module _ (binder : Bool) (book : List ℕ) (place : ℕ) where
+  kind-stop : {n p : ℕ} → Byte (between 0 255) book place (refused n p) →
+      Byte (kindFits binder) book place (refused n p)
   kind-stop e =
       by-test (ltb place (length book))
       (λ t. let h = ltb-true place (length book) t in
@@ -197,51 +206,44 @@ module _ (book : List ℕ) (place : ℕ) where
       (λ good.
       let g = checked-good (between 0 255) 6 place book place h good in
       let z : _≡_ {A = ℕ} 0 1 = cc in absurd (omega arith))
-      (λ bad. checked-bad (between 0 13) 6 place book place h
-      (by-test (leb (getD book place 0) 13)
+      (λ bad. checked-bad (kindFits binder) 6 place book place h
+      (by-test (kindFits binder (getD book place 0))
       (λ u.
-      clash (between-inside 0 255 (getD book place 0) (omega arith) (omega (arith, leb-true (getD book place 0) 13 u)))
-      bad)
-      (λ u. over (getD book place 0) u))
+      clash (between-inside 0 255 (getD book place 0) (omega arith)
+      (fixed-most binder 14 13 255 (getD book place 0) (omega arith) (omega arith) u)) bad)
+      (λ u. u))
       ∙ sym (checked-bad (between 0 255) 6 place book place h bad) ∙ e))
       (λ t. let h = ltb-false place (length book) t in
-      checked-short (between 0 13) 6 place book place h ∙ sym (checked-short (between 0 255) 6 place book place h) ∙ e)
+      checked-short (kindFits binder) 6 place book place h
+      ∙ sym (checked-short (between 0 255) 6 place book place h) ∙ e)
 
   module _ (kind next : ℕ) (k : Byte (between 0 255) book place (accepted kind next)) where
     kind-told : ByteRead (between 0 255) 6 place book place kind next
     kind-told = checked-told (between 0 255) 6 place book place kind next k
 
-    inside : place < length book
-    inside =
-        by-test (ltb place (length book)) (λ t. ltb-true _ _ t)
-        (λ t.
-        let s = checked-short (between 0 255) 6 place book place (ltb-false place (length book) t) in
-        let z : _≡_ {A = ℕ} 0 1 = cc in absurd (omega arith))
-
-    kind-unknown : leb kind 13 ≡ false → Byte (between 0 13) book place (refused 6 place)
+    kind-unknown : kindFits binder kind ≡ false → Byte (kindFits binder) book place (refused 6 place)
     kind-unknown t =
-        checked-bad (between 0 13) 6 place book place inside (over (getD book place 0) (rw (kind-told .value) at t))
+        checked-bad (kindFits binder) 6 place book place (kind-told .inside) (rw (kind-told .value) at t)
 
-    kind-known : leb kind 13 ≡ true → Byte (between 0 13) book place (accepted kind next)
+    kind-known : kindFits binder kind ≡ true → Byte (kindFits binder) book place (accepted kind next)
     kind-known t =
-        let b = rw (kind-told .value) at t in
-        checked-good (between 0 13) 6 place book place inside
-        (between-inside 0 13 (getD book place 0) (omega arith) (leb-true (getD book place 0) 13 b))
+        checked-good (kindFits binder) 6 place book place (kind-told .inside) (rw (kind-told .value) at t)
         ∙ rw (kind-told .value, kind-told .next)
 
-module _ (words nonterminals : ℕ) (book : List ℕ) (place : ℕ) where
-  pub step-stop-kind : {n p : ℕ} → Byte (between 0 255) book place (refused n p) → (first : ℕ) →
-      oneOf (Sort.Step words nonterminals) first book place ≡ refused n p
+module _ (words nonterminals : ℕ) (binders binder : Bool) (book : List ℕ) (place : ℕ) where
+  abbrev Reads : Checked Step → Type 0
+  Reads c = (first : ℕ) → oneOf (Sort.Step words nonterminals binders) binder first book place ≡ c
+
+  pub step-stop-kind : {n p : ℕ} → Byte (between 0 255) book place (refused n p) → Reads (refused n p)
   unfolding step
-  step-stop-kind e first = rw (kind-stop book place e)
+  step-stop-kind e first = rw (kind-stop binder book place e)
 
   module _ (kind next : ℕ) (k : Byte (between 0 255) book place (accepted kind next)) where
-    pub step-unknown : leb kind 13 ≡ false → (first : ℕ) →
-        oneOf (Sort.Step words nonterminals) first book place ≡ refused 6 place
+    pub step-unknown : kindFits binder kind ≡ false → Reads (refused 6 place)
     unfolding step
-    step-unknown t first = rw (kind-unknown book place kind next k t)
+    step-unknown t first = rw (kind-unknown binder book place kind next k t)
 
-    module _ (a d : Range) (known : Known words nonterminals kind a d) where
+    module _ (a d : Range) (known : Known words nonterminals binder kind a d) where
       abbrev Argument : ℕ → Checked ℕ → Type 0
       Argument at c = Byte (between (a .low) (a .high)) book at c
 
@@ -250,38 +252,35 @@ module _ (words nonterminals : ℕ) (book : List ℕ) (place : ℕ) where
 
       argument-byte : (at : ℕ) {c : Checked ℕ} → Argument at c → Byte (argument words nonterminals kind) book at c
       argument-byte at e =
-          same-test (between (a .low) (a .high)) (argument words nonterminals kind) (known .argument-is) book at e
+          same-test (between (a .low) (a .high)) (argument words nonterminals kind) (known .argument-is) 6 at book at e
 
       delimiter-byte : (at : ℕ) {c : Checked ℕ} → Delimiter at c → Byte (delimiter kind) book at c
-      delimiter-byte at e = same-test (between (d .low) (d .high)) (delimiter kind) (known .delimiter-is) book at e
+      delimiter-byte at e = same-test (between (d .low) (d .high)) (delimiter kind) (known .delimiter-is) 6 at book at e
 
-      kind-read : Byte (between 0 13) book place (accepted kind next)
-      kind-read = kind-known book place kind next k (known .in-range)
+      kind-read : Byte (kindFits binder) book place (accepted kind next)
+      kind-read = kind-known binder book place kind next k (known .in-range)
 
-      pub step-stop-a : {n p : ℕ} → Argument next (refused n p) → (first : ℕ) →
-          oneOf (Sort.Step words nonterminals) first book place ≡ refused n p
+      pub step-stop-a : {n p : ℕ} → Argument next (refused n p) → Reads (refused n p)
       unfolding step
       step-stop-a e first = rw kind-read (rw (argument-byte next e))
 
       module _ (x second-at : ℕ) (ea : Argument next (accepted x second-at)) where
-        pub step-stop-b : {n p : ℕ} → Delimiter second-at (refused n p) → (first : ℕ) →
-            oneOf (Sort.Step words nonterminals) first book place ≡ refused n p
+        pub step-stop-b : {n p : ℕ} → Delimiter second-at (refused n p) → Reads (refused n p)
         unfolding step
         step-stop-b e first = rw kind-read (rw (argument-byte next ea) (rw (delimiter-byte second-at e)))
 
         module _ (y third-at : ℕ) (eb : Delimiter second-at (accepted y third-at)) where
-          pub step-stop-c : {n p : ℕ} → Delimiter third-at (refused n p) → (first : ℕ) →
-              oneOf (Sort.Step words nonterminals) first book place ≡ refused n p
+          pub step-stop-c : {n p : ℕ} → Delimiter third-at (refused n p) → Reads (refused n p)
           unfolding step
           step-stop-c e first =
               rw kind-read
               (rw (argument-byte next ea) (rw (delimiter-byte second-at eb) (rw (delimiter-byte third-at e))))
 
           pub step-read : (z last : ℕ) → Delimiter third-at (accepted z last) →
-              One (Sort.Step words nonterminals) book place (Part.Read 0 last)
+              One (Sort.Step words nonterminals binders) binder book place (Part.Read 0 last)
           unfolding step
           step-read z last e =
-              let kt = kind-told book place kind next k in
+              let kt = kind-told binder book place kind next k in
               let at = checked-told (between (a .low) (a .high)) 6 next book next x second-at ea in
               let bt = checked-told (between (d .low) (d .high)) 6 second-at book second-at y third-at eb in
               let ct = checked-told (between (d .low) (d .high)) 6 third-at book third-at z last e in

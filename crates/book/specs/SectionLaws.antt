@@ -1,13 +1,14 @@
--- Laws of records with its index, in which two numbers are stored for each record.
+-- Laws of records with their index, in which two numbers are stored for each record.
 --
 --   upTo-                 a list of a function's values
 --   Stored, stored        two numbers stored side by side
 --   Begun, begun-         the loop over the records: what has been read stands in the index
+--   Same, -stay, -stays   numbers of the index that later ones leave: records, and what tells a binder's
 --   section-, count-fits  a section: its count and its records
 --
 -- Not here: sections one after the other (WholeLaws).
-use mathlib.Core.Path.{_≡_, refl, sym, _∙_}
-use mathlib.Core.Bool.{Bool}
+use mathlib.Core.Path.{_≡_, refl, sym, ap, _∙_, fun-ext}
+use mathlib.Core.Bool.{Bool, false, _&&_}
 use mathlib.Core.List.{List, [], _∷_, _++_}
 use Prim.Native.Nat.{ℕ, zero, suc, _+_, _-_, _*_, _≤_, _<_}
 use native.Mathlib.Omega.{arith}
@@ -15,14 +16,15 @@ use native.Mathlib.Numerals.{add-one}
 use lib.ListN.{length, getD, set, length-set}
 use lib.Seq.{getD-set-same, getD-set-other}
 use Rattle.characters.specs.Classes.{between}
-use Rattle.book.specs.Check.{refused, accepted, checked, records, total}
-use Rattle.book.specs.Index.{KeptOutside, One, RecordsRead, Few, Section, oneOf, sizeOf}
-use Rattle.book.specs.Index.{recordFrom, recordsIn, upTo, countIn, placeIn, firstIn}
+use Rattle.book.specs.Check.{refused, accepted, checked, records, ofBinder, firstStep, total}
+use Rattle.book.specs.Index.{KeptOutside, One, RecordsRead, Few, Section, oneOf, sizeOf, recordFrom, recordsIn}
+use Rattle.book.specs.Index.{upTo, countIn, placeIn, firstIn, nonterminalsIn, binderIn, eachOf, Before}
 use Rattle.book.specs.ReaderLaws.{between-high, checked-told, after}
 use Rattle.book.specs.ReaderLaws.{records-begins, records-refused, records-on, records-ends}
 use Rattle.book.specs.ReaderLaws.{read, stopped, handed, no-value, value-of, total-snoc}
 use Rattle.book.specs.declared.parts.Part.{Part}
 use Rattle.book.specs.declared.sections.Sort.{Sort}
+use Rattle.book.specs.declared.records.Variant.{Variant}
 
 -- ---- The values of a function below n
 pub upTo-same : {A : Type 0} (n : ℕ) (f g : ℕ → A) → ((k : ℕ) → k < n → f k ≡ g k) → upTo n f ≡ upTo n g
@@ -51,11 +53,57 @@ stored f s a b h =
       others = λ k n m. getD-set-other (set f s a) (s + 1) k b 0 m ∙ getD-set-other f s k a 0 n;
     }
 
+-- ---- What tells a binder's records, when only numbers behind it are stored
+-- the numbers before a place are as they were
+abbrev pub Same : ℕ → List ℕ → List ℕ → Type 0
+Same low f g = (k : ℕ) → k < low → getD g k 0 ≡ getD f k 0
+
+-- a section's records, when only numbers behind it are stored
+module _ (sort : Sort) (book : List ℕ) (base low : ℕ) (f g : List ℕ) (same : Same low f g)
+    (before : base + 1 + 2 * countIn f base ≤ low) where
+  pub count-stays : countIn g base ≡ countIn f base
+  count-stays = same base (omega arith)
+
+  pub records-stay : recordsIn sort book g base (countIn g base) ≡ recordsIn sort book f base (countIn f base)
+  records-stay =
+      rw count-stays
+      (upTo-same (countIn f base) _ _
+      (λ k l.
+      let p : placeIn g base k ≡ placeIn f base k = same (base + 1 + 2 * k) (omega arith) in
+      let q : firstIn g base k ≡ firstIn f base k = same (base + 2 + 2 * k) (omega arith) in
+      rw (p, q)))
+
+module _ (book : List ℕ) (base : ℕ) (f g : List ℕ) (same : Same base f g) where
+  pub binder-stays : (sort : Sort) → Before sort base f → (i : ℕ) → binderIn sort book g i ≡ binderIn sort book f i
+  binder-stays (Sort.Entry greatest) before i = refl
+  binder-stays Sort.Nonterminal before i = refl
+  binder-stays (Sort.Variant binders) before i = rw (records-stay Sort.Nonterminal book 258 base f g same before)
+  binder-stays (Sort.Step words nonterminals binders) before i =
+      rw (records-stay Sort.Nonterminal book 258 base f g same (before .0))
+      (ap (λ (variants : List (ℕ × Variant)). binders && ofBinder (firstStep variants) (nonterminalsIn book f) i)
+      (records-stay (Sort.Variant false) book 323 base f g same (before .1)))
+
+  pub each-stays : (sort : Sort) → Before sort base f → eachOf sort book g ≡ eachOf sort book f
+  each-stays sort before =
+      ap (λ (binder : ℕ → Bool). λ (i first : ℕ). oneOf sort (binder i) first) (fun-ext (binder-stays sort before))
+
+  pub before-stays : (sort : Sort) → Before sort base f → Before sort base g
+  before-stays (Sort.Entry greatest) before = tt
+  before-stays Sort.Nonterminal before = tt
+  before-stays (Sort.Variant binders) before = rw (count-stays Sort.Nonterminal book 258 base f g same before) before
+  before-stays (Sort.Step words nonterminals binders) before = (
+    rw (count-stays Sort.Nonterminal book 258 base f g same (before .0)) (before .0),
+    rw (count-stays (Sort.Variant false) book 323 base f g same (before .1)) (before .1),
+  )
+
+pub put-behind : (base value : ℕ) (f g : List ℕ) → g ≡ set f base value → Same base f g
+put-behind base value f g e k l = rw e (getD-set-other f base k value 0 (λ z. omega arith))
+
 -- ---- Records under way: i records have been read, and their numbers stand in the index
 pub record Begun (sort : Sort) (book : List ℕ) (place count base : ℕ) (f g : List ℕ) (i at sum : ℕ) : Type 0 where
-  pub reads : after (sizeOf sort) (oneOf sort) book (recordsIn sort book g base i)
-      (records (sizeOf sort) (oneOf sort) (count - i) sum book at)
-      ≡ records (sizeOf sort) (oneOf sort) count 0 book place
+  pub reads : after (sizeOf sort) (eachOf sort book f) book (recordsIn sort book g base i)
+      (records (sizeOf sort) (eachOf sort book f) (count - i) i sum book at)
+      ≡ records (sizeOf sort) (eachOf sort book f) count 0 0 book place
   pub totals : sum ≡ total (sizeOf sort) (recordsIn sort book g base i)
   pub kept : KeptOutside (base + 1) (base + 1 + 2 * count) f g
 
@@ -63,13 +111,17 @@ module _ (sort : Sort) (book : List ℕ) (place count base : ℕ) (f : List ℕ)
   pub begun-first : Begun sort book place count base f f 0 place 0
   unfolding upTo
   begun-first = record {
-    reads = records-begins (sizeOf sort) (oneOf sort) book count 0 place;
+    reads = records-begins (sizeOf sort) (eachOf sort book f) book count 0 place;
     totals = refl;
     kept = record { below = λ k l. refl; above = λ k l. refl };
   }
 
   module _ (g g′ : List ℕ) (i at sum : ℕ) (less : i < count) (b : Begun sort book place count base f g i at sum)
-      (s : Stored g g′ (base + 1 + 2 * i) at sum) where
+      (s : Stored g g′ (base + 1 + 2 * i) at sum)
+      (told-before : Before sort base f) (binder : Bool) (binder-is : binder ≡ binderIn sort book g i) where
+    own : binder ≡ binderIn sort book f i
+    own = binder-is ∙ binder-stays book base f g (λ k l. b .kept .below k (omega arith)) sort told-before i
+
     -- the records before are where they were
     before : recordsIn sort book g′ base i ≡ recordsIn sort book g base i
     before = upTo-same i _ _ (λ k l.
@@ -94,30 +146,31 @@ module _ (sort : Sort) (book : List ℕ) (place count base : ℕ) (f : List ℕ)
       above = λ k l. s .others k (λ e. omega arith) (λ e. omega arith) ∙ b .kept .above k l;
     }
 
-    pub begun-on : (part : Part) (value next : ℕ) → One sort book at part → part ≡ Part.Read value next →
+    pub begun-on : (part : Part) (value next : ℕ) → One sort binder book at part → part ≡ Part.Read value next →
         Begun sort book place count base f g′ (i + 1) next (sum + value)
     begun-on part value next o told =
         let x = recordFrom sort book at sum in
-        let e : oneOf sort sum book at ≡ accepted x next =
-        read (oneOf sort sum book at) part (λ v. x) (o .reads sum) told in
+        let e : eachOf sort book f i sum book at ≡ accepted x next =
+        rw (← own) (read (oneOf sort binder sum book at) part (λ v. x) (o .reads sum) told) in
         let v : value ≡ sizeOf sort x = value-of told (sizeOf sort x) (o .valued sum) in
         record {
           reads = rw (one-more, v)
-              (sym (records-on (sizeOf sort) (oneOf sort) book (recordsIn sort book g base i) count i sum at less e)
+              (sym (records-on (sizeOf sort) (eachOf sort book f) book (recordsIn sort book g base i) count i sum at less
+              e)
               ∙ b .reads);
           totals = rw (one-more, total-snoc (sizeOf sort) (recordsIn sort book g base i) x, v, b .totals);
           kept = kept-so;
         }
 
-    pub begun-stop : (part : Part) {n p : ℕ} → One sort book at part → part ≡ Part.Refused n p →
+    pub begun-stop : (part : Part) {n p : ℕ} → One sort binder book at part → part ≡ Part.Refused n p →
         RecordsRead sort book place count base f g′ part
     begun-stop part o told =
         let x = recordFrom sort book at sum in
-        let e = stopped (oneOf sort sum book at) part (λ v. x) (o .reads sum) told in
+        let e = rw own at (stopped (oneOf sort binder sum book at) part (λ v. x) (o .reads sum) told) in
         record {
           reads = handed _ (sym (b .reads)
-              ∙ records-refused (sizeOf sort) (oneOf sort) book (recordsIn sort book g base i) count i sum at less e)
-              told;
+              ∙ records-refused (sizeOf sort) (eachOf sort book f) book (recordsIn sort book g base i) count i sum at less
+              e) told;
           valued = no-value told _;
           kept = kept-so;
         }
@@ -128,7 +181,8 @@ module _ (sort : Sort) (book : List ℕ) (place count base : ℕ) (f : List ℕ)
       let all : i ≡ count = omega arith in
       record {
         reads = sym (b .reads)
-            ∙ records-ends (sizeOf sort) (oneOf sort) book (recordsIn sort book g base i) count i sum at k ∙ rw all;
+            ∙ records-ends (sizeOf sort) (eachOf sort book f) book (recordsIn sort book g base i) count i sum at k
+            ∙ rw all;
         valued = rw all at (b .totals);
         kept = b .kept;
       }
@@ -158,13 +212,14 @@ module _ (sort : Sort) (fits : ℕ → Bool) (book : List ℕ) (place high base 
       }
 
   module _ (value next : ℕ) (e : checked fits 4 place book place ≡ accepted value next) (fitted : value ≤ high) where
-    pub section-read : (g h : List ℕ) (part : Part) → base < length f → g ≡ set f base value →
+    pub section-read : (g h : List ℕ) (part : Part) → base < length f → g ≡ set f base value → Before sort base f →
         RecordsRead sort book next value base g h part → Section sort fits book place high base f h part
-    section-read g h part l e′ r =
+    section-read g h part l e′ before r =
         let counted : countIn h base ≡ value =
         r .kept .below base (omega arith) ∙ rw e′ (getD-set-same f base value 0 l) in
+        let each = each-stays book base f g (put-behind base value f g e′) sort before in
         record {
-          reads = rw (e, counted) (r .reads);
+          reads = rw (e, counted, ← each) (r .reads);
           valued = rw counted (r .valued);
           few = few-of part (omega arith);
           kept = record {

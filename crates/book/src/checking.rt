@@ -6,12 +6,14 @@ ghost use lib.Dec.{ltb, eqb};
 ghost use lib.ListN.{length, getD};
 ghost use Rattle.characters.specs.Slices.{atEntry, atExit};
 ghost use Rattle.book.specs.Book.{stepNumber, nthVariant};
-ghost use Rattle.book.specs.Numbers.{mostVariants, largestByte};
+ghost use Rattle.book.specs.Numbers.{mostNonterminals, mostVariants, largestByte};
 ghost use Rattle.book.specs.Check.{passes as passesIn, allPass, checkBook, variantsFit};
 ghost use Rattle.book.specs.Index.{wordsAt, nonterminalsAt, variantsAt, stepsAt, indexSize};
 ghost use Rattle.book.specs.Index.{readingOf, Section, countIn, placedIn, bookAt, HeadsRead, SectionsRead};
 ghost use Rattle.book.specs.Index.{verdictOf, Says, Checks, CheckedInto};
 ghost use Rattle.book.specs.declared.sections.Sort.{Sort};
+use crate::binders::Sought;
+use crate::binders::has_binder;
 use crate::index::INDEX_SIZE;
 use crate::index::NAMES;
 use crate::index::NONTERMINALS;
@@ -84,49 +86,36 @@ fn heads(book: &[u8], index: &mut [usize]) -> Part
 }
 
 // The variants, `total` of them and at most 128; the value is the number of steps.
-fn variants(book: &[u8], at: usize, total: usize, index: &mut [usize]) -> Part
-    requires { ⌜ indexSize ≤ length (now index) ⌝ }
-    ensures { λ r. ⌜ Section Sort.Variant (variantsFit total) (atEntry book) at mostVariants variantsAt
+fn variants(book: &[u8], at: usize, total: usize, binders: bool, index: &mut [usize]) -> Part
+    requires { ⌜ (indexSize ≤ length (now index)) × (countIn (now index) nonterminalsAt ≤ mostNonterminals) ⌝ }
+    ensures { λ r. ⌜ Section (Sort.Variant binders) (variantsFit total) (atEntry book) at mostVariants variantsAt
         (atEntry index) (atExit index) r ⌝ }
 {
+    let sort = Sort::Variant(binders);
     if total <= MOST_VARIANTS {
-        section(book, at, total, total, Sort::Variant, index, VARIANTS)
+        section(book, at, total, total, sort, index, VARIANTS)
     } else {
         // from 1 to 0: no count is accepted
-        section(book, at, 1, 0, Sort::Variant, index, VARIANTS)
+        section(book, at, 1, 0, sort, index, VARIANTS)
     }
 }
 
 // The steps, `total` of them. A byte counts no more than 255, so a larger total is none that a count equals.
-fn steps(book: &[u8], at: usize, total: usize, index: &mut [usize]) -> Part
-    requires { ⌜ indexSize ≤ length (now index) ⌝ }
+fn steps(book: &[u8], at: usize, total: usize, binders: bool, index: &mut [usize]) -> Part
+    requires { ⌜ (indexSize ≤ length (now index)) × (countIn (now index) nonterminalsAt ≤ mostNonterminals) ×
+        (countIn (now index) variantsAt ≤ mostVariants) ⌝ }
     ensures { λ r. ⌜ Section
-        (Sort.Step (countIn (atEntry index) wordsAt) (countIn (atEntry index) nonterminalsAt)) (eqb total)
+        (Sort.Step (countIn (atEntry index) wordsAt) (countIn (atEntry index) nonterminalsAt) binders) (eqb total)
         (atEntry book) at largestByte stepsAt (atEntry index) (atExit index) r ⌝ }
 {
     let words = count(index, WORDS);
     let nonterminals = count(index, NONTERMINALS);
+    let sort = Sort::Step(words, nonterminals, binders);
     if total <= LARGEST_BYTE {
-        section(
-            book,
-            at,
-            total,
-            total,
-            Sort::Step(words, nonterminals),
-            index,
-            STEPS,
-        )
+        section(book, at, total, total, sort, index, STEPS)
     } else {
         // from 1 to 0: no count is accepted
-        section(
-            book,
-            at,
-            1,
-            0,
-            Sort::Step(words, nonterminals),
-            index,
-            STEPS,
-        )
+        section(book, at, 1, 0, sort, index, STEPS)
     }
 }
 
@@ -142,7 +131,8 @@ fn five_sections(book: &[u8], index: &mut [usize]) -> Part
     else {
         return head;
     };
-    let body = variants(book, variants_at, variants_total, index);
+    let binders = has_binder(book, index, Sought::Any);
+    let body = variants(book, variants_at, variants_total, binders, index);
     let Part::Read {
         value: steps_total,
         next: steps_at,
@@ -150,7 +140,7 @@ fn five_sections(book: &[u8], index: &mut [usize]) -> Part
     else {
         return body;
     };
-    steps(book, steps_at, steps_total, index)
+    steps(book, steps_at, steps_total, binders, index)
 }
 
 // A passing variant is one step of kind 8.

@@ -9,6 +9,7 @@
 //
 // The crate relies on the promises of `characters`, and assumes nothing. specs/ has the definitions (Numbers, Book,
 // Check), the index (Index), and laws.
+mod binders;
 mod checking;
 mod index;
 mod limits;
@@ -26,7 +27,9 @@ pub use checking::check_into;
 pub use index::INDEX_SIZE;
 pub use limits::DEFAULT_LEVEL;
 pub use names::Found;
+pub use names::KindWord;
 pub use names::is_reserved;
+pub use names::kind_word;
 pub use names::lookup;
 pub use names::name;
 pub use names::name_kind;

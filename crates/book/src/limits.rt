@@ -21,11 +21,19 @@ pub const RESERVED: usize = 1;
 // "kind 0 to 7"
 pub const LAST_KIND: usize = 7;
 
+pub const KINDS: usize = LAST_KIND + 1;
+
 // "length 1 to 15"
 pub const LONGEST_SPELLING: usize = 15;
 
-// "2 is `identifier_nonterminal`, with 0 variants"; the last mark
+// "2 is `identifier_nonterminal`, with 0 variants"
 pub const IDENTIFIER_MARK: usize = 2;
+
+// Document 02 d, "the binder of `CoreBinder::parse` as mark 3".
+pub const BINDER_MARK: usize = 3;
+
+// The last mark that a book may have: no book has a binder yet.
+pub const LAST_MARK: usize = 2;
 
 // "number of variants 0 to 16"
 pub const VARIANTS_EACH: usize = 16;
@@ -36,11 +44,16 @@ pub const DEFAULT_LEVEL: usize = 255;
 // The last associativity.
 pub const BOTH: usize = 3;
 
-// "flags 0 to 3"
+// "flags 0 to 3 (1 committed, plus 2 passing)"
+pub const COMMITTED_FLAGS: usize = 1;
+
 pub const LAST_FLAGS: usize = 3;
 
 // "steps 0 to 8"
 pub const STEPS_EACH: usize = 8;
+
+// Document 02 d, "a step of kind 14: body, opening, closing".
+pub const BINDER_KIND: usize = 14;
 
 // "Characters are 33 to 126"
 pub const FIRST_CHARACTER: usize = 33;

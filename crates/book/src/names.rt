@@ -1,21 +1,30 @@
-// Words and starting names by their numbers, whether a spelling is reserved, and which starting name it is.
+// Words and starting names by their numbers, whether a spelling is reserved, which starting name it is, and which kind's
+// word.
 ghost use mathlib.Core.Path.{_≡_};
-ghost use Prim.Native.Nat.{_+_, _≤_};
-ghost use lib.ListN.{getD, length};
+ghost use mathlib.Core.List.{List};
+ghost use Prim.Native.Nat.{ℕ, _+_, _≤_};
+ghost use lib.ListN.{getD, length, take};
 ghost use Rattle.characters.specs.Slices.{atEntry};
 ghost use Rattle.characters.specs.Spelling.{partOf, same};
-ghost use Rattle.book.specs.Book.{nthEntry, reservedAs, isReserved, lookupName};
-ghost use Rattle.book.specs.Index.{stepsAt, entriesIn, entryFrom, bookAt};
+ghost use Rattle.book.specs.Book.{nthEntry, reservedAs, isReserved, lookupName, kindWord};
+ghost use Rattle.book.specs.Index.{stepsAt, entriesIn, entryFrom, bookIn, bookAt};
+ghost use Rattle.book.specs.Numbers.{kinds};
 use crate::index::NAMES;
 use crate::index::WORDS;
 use crate::index::count;
 use crate::index::place;
+use crate::limits::KINDS;
 use crate::reading::number_after;
 use characters::part;
 use characters::same_bytes;
 
 pub enum Found {
     Name { number: usize, kind: usize },
+    Nothing,
+}
+
+pub enum KindWord {
+    Kind(usize),
     Nothing,
 }
 
@@ -133,4 +142,28 @@ pub fn lookup(book: &[u8], index: &[usize], text: &[u8], start: usize, size: usi
         i -= 1;
     }
     Found::Nothing
+}
+
+// How many words name a kind, whatever the bytes are.
+fn kind_words(index: &[usize]) -> usize
+    ensures { λ r. ⌜ ((book : List ℕ) → r ≡ length (take kinds (bookIn book (atEntry index) .words))) ⌝ }
+{
+    let words = count(index, WORDS);
+    if words < KINDS { words } else { KINDS }
+}
+
+// Which kind's word a part of the text is: the first equal one.
+pub fn kind_word(book: &[u8], index: &[usize], text: &[u8], start: usize, size: usize) -> KindWord
+    ensures { λ r. ⌜ r ≡ kindWord (bookAt book index .words) (partOf (atEntry text) start size) ⌝ }
+{
+    let wanted = part(text, start, size);
+    let words = kind_words(index);
+    let mut kind = 0;
+    while kind < words {
+        if spelled(book, index, WORDS, kind, wanted) {
+            return KindWord::Kind(kind);
+        }
+        kind += 1;
+    }
+    KindWord::Nothing
 }

@@ -2,8 +2,10 @@
 ghost use mathlib.Core.Path.{_≡_};
 ghost use Rattle.characters.specs.Slices.{atEntry};
 ghost use Rattle.characters.specs.Classes.{between};
-ghost use Rattle.book.specs.Check.{checked};
+ghost use Rattle.book.specs.Check.{checked, fixed as isFixed};
 ghost use Rattle.book.specs.Index.{readingOf};
+ghost use Rattle.book.specs.Numbers.{badField};
+use crate::refusals::BAD_FIELD;
 use crate::refusals::BOOK_ENDS_EARLY;
 use characters::byte_at;
 
@@ -34,5 +36,17 @@ pub fn field(book: &[u8], place: usize, low: usize, high: usize, number: usize) 
     Part::Read {
         value,
         next: place + 1,
+    }
+}
+
+// A binder's byte, which is n, or another's, up to `high`; else 6 at its place.
+pub fn fixed(book: &[u8], place: usize, binder: bool, n: usize, high: usize) -> Part
+    ensures { λ r. ⌜ checked (isFixed binder n (between 0 high)) badField place (atEntry book) place ≡
+        readingOf r (λ v. v) ⌝ }
+{
+    if binder {
+        field(book, place, n, n, BAD_FIELD)
+    } else {
+        field(book, place, 0, high, BAD_FIELD)
     }
 }

@@ -26,6 +26,7 @@ fn mark_of(number: u8) -> Mark
     match number {
         1 => Mark::Variable,
         2 => Mark::Identifier,
+        3 => Mark::Binder,
         _ => Mark::Plain,
     }
 }

@@ -5,6 +5,8 @@ pub enum Mark {
     Variable,
     // `identifier_nonterminal`
     Identifier,
+    // `CoreBinder::parse`
+    Binder,
 }
 
 pub enum Associativity {

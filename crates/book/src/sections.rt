@@ -1,6 +1,6 @@
 // The records of each section, checked byte by byte, and a section as a whole.
 ghost use mathlib.Core.Path.{_≡_};
-ghost use mathlib.Core.Bool.{cond};
+ghost use mathlib.Core.Bool.{Bool, false, cond};
 ghost use Prim.Native.Nat.{_+_, _*_, _≤_};
 ghost use lib.Dec.{eqb};
 ghost use lib.ListN.{length};
@@ -8,9 +8,14 @@ ghost use Rattle.characters.specs.Slices.{atEntry, atExit};
 ghost use Rattle.characters.specs.Classes.{between};
 ghost use Rattle.book.specs.Numbers.{identifierMark, variantsEach, defaultLevel, both};
 ghost use Rattle.book.specs.Numbers.{largestByte};
-ghost use Rattle.book.specs.Index.{belowRange, allowed, One, RecordsRead, Section};
+ghost use Rattle.book.specs.Index.{belowRange, allowed, binderIn, Before, One, RecordsRead, Section};
+use crate::binders::Sought;
+use crate::binders::has_binder;
 use crate::index::put;
+use crate::limits::BINDER_KIND;
+use crate::limits::BINDER_MARK;
 use crate::limits::BOTH;
+use crate::limits::COMMITTED_FLAGS;
 use crate::limits::DEFAULT_LEVEL;
 use crate::limits::FIRST_CHARACTER;
 use crate::limits::IDENTIFIER_MARK;
@@ -18,10 +23,12 @@ use crate::limits::LARGEST_BYTE;
 use crate::limits::LAST_CHARACTER;
 use crate::limits::LAST_FLAGS;
 use crate::limits::LAST_KIND;
+use crate::limits::LAST_MARK;
 use crate::limits::STEPS_EACH;
 use crate::limits::VARIANTS_EACH;
 use crate::parts::Part;
 use crate::parts::field;
+use crate::parts::fixed;
 use crate::refusals::BAD_COUNT;
 use crate::refusals::BAD_FIELD;
 use crate::spellings::entry;
@@ -38,13 +45,13 @@ fn most_variants(mark: usize) -> usize
 
 // Mark and number of variants; the value is the latter.
 fn nonterminal(book: &[u8], place: usize) -> Part
-    ensures { λ r. ⌜ One Sort.Nonterminal (atEntry book) place r ⌝ }
+    ensures { λ r. ⌜ ((binder : Bool) → One Sort.Nonterminal binder (atEntry book) place r) ⌝ }
 {
-    let mark = field(book, place, 0, IDENTIFIER_MARK, BAD_FIELD);
+    let mark = field(book, place, 0, LAST_MARK, BAD_FIELD);
     let Part::Read { value, next } = mark else {
         return mark;
     };
-    field(book, next, 0, most_variants(value), BAD_FIELD)
+    fixed(book, next, value == BINDER_MARK, 1, most_variants(value))
 }
 
 fn least_associativity(level: usize) -> usize
@@ -54,10 +61,10 @@ fn least_associativity(level: usize) -> usize
 }
 
 // Level, associativity, flags and number of steps; the value is the last.
-fn variant(book: &[u8], place: usize) -> Part
-    ensures { λ r. ⌜ One Sort.Variant (atEntry book) place r ⌝ }
+fn variant(book: &[u8], place: usize, binder: bool) -> Part
+    ensures { λ r. ⌜ ((binders : Bool) → One (Sort.Variant binders) binder (atEntry book) place r) ⌝ }
 {
-    let level = field(book, place, 0, LARGEST_BYTE, BAD_FIELD);
+    let level = fixed(book, place, binder, DEFAULT_LEVEL, LARGEST_BYTE);
     let Part::Read { value, next } = level else {
         return level;
     };
@@ -69,7 +76,7 @@ fn variant(book: &[u8], place: usize) -> Part
     else {
         return associativity;
     };
-    let flags = field(book, flags_at, 0, LAST_FLAGS, BAD_FIELD);
+    let flags = fixed(book, flags_at, binder, COMMITTED_FLAGS, LAST_FLAGS);
     let Part::Read {
         value: _,
         next: number_at,
@@ -77,7 +84,7 @@ fn variant(book: &[u8], place: usize) -> Part
     else {
         return flags;
     };
-    field(book, number_at, 0, STEPS_EACH, BAD_FIELD)
+    fixed(book, number_at, binder, 1, STEPS_EACH)
 }
 
 pub struct Range {
@@ -107,7 +114,7 @@ fn below(n: usize) -> Range
 }
 
 fn arguments(kind: usize, words: usize, nonterminals: usize) -> Allowed
-    ensures { λ r. ⌜ r ≡ allowed words nonterminals kind ⌝ }
+    ensures { λ r. ⌜ r ≡ allowed words nonterminals false kind ⌝ }
 {
     let unused = Range { low: 0, high: 0 };
     let character = Range {
@@ -139,14 +146,35 @@ fn arguments(kind: usize, words: usize, nonterminals: usize) -> Allowed
     }
 }
 
-fn step(book: &[u8], place: usize, words: usize, nonterminals: usize) -> Part
-    ensures { λ r. ⌜ One (Sort.Step words nonterminals) (atEntry book) place r ⌝ }
+// A binder's step has kind 14: body, opening, closing. No other has that kind.
+fn step_arguments(kind: usize, words: usize, nonterminals: usize, binder: bool) -> Allowed
+    ensures { λ r. ⌜ r ≡ allowed words nonterminals binder kind ⌝ }
+{
+    if !binder {
+        return arguments(kind, words, nonterminals);
+    }
+    if kind == BINDER_KIND {
+        Allowed::Ranges(
+            below(nonterminals),
+            Range {
+                low: FIRST_CHARACTER,
+                high: LAST_CHARACTER,
+            },
+        )
+    } else {
+        Allowed::Refused
+    }
+}
+
+fn step(book: &[u8], place: usize, words: usize, nonterminals: usize, binder: bool) -> Part
+    ensures { λ r. ⌜ ((binders : Bool) →
+        One (Sort.Step words nonterminals binders) binder (atEntry book) place r) ⌝ }
 {
     let kind = field(book, place, 0, LARGEST_BYTE, BAD_FIELD);
     let Part::Read { value, next } = kind else {
         return kind;
     };
-    let Allowed::Ranges(a, delimiter) = arguments(value, words, nonterminals) else {
+    let Allowed::Ranges(a, delimiter) = step_arguments(value, words, nonterminals, binder) else {
         return Part::Refused {
             number: BAD_FIELD,
             place,
@@ -187,19 +215,44 @@ pub enum Sort {
     // with the greatest label
     Entry(usize),
     Nonterminal,
-    Variant,
-    // with the numbers of words and of nonterminals
-    Step(usize, usize),
+    // with whether the book has binders
+    Variant(bool),
+    // with the numbers of words and of nonterminals, and whether the book has binders
+    Step(usize, usize, bool),
 }
 
-fn one_record(book: &[u8], place: usize, sort: Sort) -> Part
-    ensures { λ r. ⌜ One sort (atEntry book) place r ⌝ }
+// Whether record i is a binder's. It is looked for only in a book that has binders.
+fn of_binder(book: &[u8], index: &[usize], sort: Sort, i: usize) -> bool
+    ensures { λ r. ⌜ r ≡ binderIn sort (atEntry book) (atEntry index) i ⌝ }
+{
+    match sort {
+        Sort::Entry(_) => false,
+        Sort::Nonterminal => false,
+        Sort::Variant(binders) => {
+            if binders {
+                has_binder(book, index, Sought::OfVariant(i))
+            } else {
+                false
+            }
+        }
+        Sort::Step(_, _, binders) => {
+            if binders {
+                has_binder(book, index, Sought::OfStep(i))
+            } else {
+                false
+            }
+        }
+    }
+}
+
+fn one_record(book: &[u8], place: usize, sort: Sort, binder: bool) -> Part
+    ensures { λ r. ⌜ One sort binder (atEntry book) place r ⌝ }
 {
     match sort {
         Sort::Entry(greatest) => entry(book, place, greatest),
         Sort::Nonterminal => nonterminal(book, place),
-        Sort::Variant => variant(book, place),
-        Sort::Step(words, nonterminals) => step(book, place, words, nonterminals),
+        Sort::Variant(_) => variant(book, place, binder),
+        Sort::Step(words, nonterminals, _) => step(book, place, words, nonterminals, binder),
     }
 }
 
@@ -213,17 +266,18 @@ fn records(
     index: &mut [usize],
     base: usize,
 ) -> Part
-    requires { ⌜ (base + 1 + 2 * count ≤ length (now index)) × (count ≤ largestByte) ⌝ }
+    requires { ⌜ (base + 1 + 2 * count ≤ length (now index)) × (count ≤ largestByte) × Before sort base (now index) ⌝ }
     ensures { λ r. ⌜ RecordsRead sort (atEntry book) place count base (atEntry index) (atExit index) r ⌝ }
 {
     let mut i = 0;
     let mut at = place;
     let mut sum = 0;
     while i < count {
+        let binder = of_binder(book, index, sort, i);
         let slot = base + 1 + 2 * i;
         put(index, slot, at);
         put(index, slot + 1, sum);
-        let part = one_record(book, at, sort);
+        let part = one_record(book, at, sort, binder);
         let Part::Read { value, next } = part else {
             return part;
         };
@@ -247,7 +301,7 @@ pub fn section(
     index: &mut [usize],
     base: usize,
 ) -> Part
-    requires { ⌜ (base + 1 + 2 * high ≤ length (now index)) × (high ≤ largestByte) ⌝ }
+    requires { ⌜ (base + 1 + 2 * high ≤ length (now index)) × (high ≤ largestByte) × Before sort base (now index) ⌝ }
     ensures { λ r. ⌜ Section sort (between low high) (atEntry book) place high base
         (atEntry index) (atExit index) r ⌝ }
 {

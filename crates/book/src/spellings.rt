@@ -1,5 +1,6 @@
 // Words and starting names: a label and a spelling.
 ghost use mathlib.Core.Path.{_≡_};
+ghost use mathlib.Core.Bool.{Bool};
 ghost use lib.ListN.{getD};
 ghost use Prim.Native.Nat.{_+_};
 ghost use Rattle.characters.specs.Slices.{atEntry};
@@ -56,7 +57,7 @@ fn spelling_byte(book: &[u8], place: usize, i: usize, at: usize) -> Part
 }
 
 fn spelling_bytes(book: &[u8], place: usize, size: usize, at: usize) -> Part
-    ensures { λ r. ⌜ (records (λ b. 1) (λ i. checked (isShaped i) badSpelling at) size 0 (atEntry book) place ≡
+    ensures { λ r. ⌜ (records (λ b. 0) (λ i sum. checked (isShaped i) badSpelling at) size 0 0 (atEntry book) place ≡
         readingOf r (λ v. partOf (atEntry book) place size)) × Valued r 0 ⌝ }
 {
     let mut i = 0;
@@ -87,7 +88,7 @@ fn spelling(book: &[u8], place: usize) -> Part
 }
 
 pub fn entry(book: &[u8], place: usize, greatest: usize) -> Part
-    ensures { λ r. ⌜ One (Sort.Entry greatest) (atEntry book) place r ⌝ }
+    ensures { λ r. ⌜ ((binder : Bool) → One (Sort.Entry greatest) binder (atEntry book) place r) ⌝ }
 {
     let label = field(book, place, 0, greatest, BAD_FIELD);
     let Part::Read { value: _, next } = label else {

@@ -368,6 +368,7 @@ fn is_variable(book: &[u8], index: &[usize], nonterminal: usize) -> bool
         Mark::Plain => false,
         Mark::Variable => true,
         Mark::Identifier => false,
+        Mark::Binder => false,
     }
 }
 

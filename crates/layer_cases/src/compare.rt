@@ -71,6 +71,7 @@ fn mark_number(mark: Mark) -> usize {
         Mark::Plain => 0,
         Mark::Variable => 1,
         Mark::Identifier => 2,
+        Mark::Binder => 3,
     }
 }
 

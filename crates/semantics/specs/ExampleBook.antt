@@ -11,9 +11,8 @@ use Rattle.characters.specs.Skipping.{leading, spanEnd, commentAt, commentEnd, 
 use Rattle.characters.specs.Lexemes.{identifierAt, decimal, numberOf, numberAt}
 use Rattle.characters.specs.Spelling.{same}
 use Rattle.book.specs.Book.{isReserved, lookupFrom, leastWord}
-use Rattle.book.specs.Check.{checked, records, spelling, entry, nonterminal, variant, stepOf, step, allPass, ended}
-use Rattle.book.specs.Check.{entireBook}
-use Rattle.book.specs.Check.{checkBook}
+use Rattle.book.specs.Check.{checked, records, spelling, entry, ofBinder, nonterminal, variant, stepOf, step}
+use Rattle.book.specs.Check.{allPass, ended, entireBook, checkBook}
 use Rattle.semantics.specs.Uses.{scopeOf, outwards, govern, governor}
 use Rattle.semantics.specs.Tokens.{isSome, characterEnd, identifierEnd, reservedAt, freeEnd, variableIn}
 use Rattle.semantics.specs.Tokens.{variableAt, hasClaimant, kindAt, nameOfKind, declarationAt, when}
@@ -78,7 +77,7 @@ times a b = Tree.variant 2 (no-trees ▸ a ▸ b)
 -- what the rows compute with: every definition that is shut
 unfoldable pub computing : Unit {0}
 unfolding classOf leading spanEnd commentAt commentEnd roundEnd skipRounds skipFrom identifierAt decimal numberOf
-    numberAt same isReserved lookupFrom leastWord checked records spelling entry nonterminal variant stepOf step
+    numberAt same isReserved lookupFrom leastWord checked records spelling entry ofBinder nonterminal variant stepOf step
     allPass ended entireBook checkBook outwards govern governor isSome characterEnd identifierEnd reservedAt freeEnd
     scopeOf variableIn variableAt stepAt hasClaimant kindAt nameOfKind declarationAt afterElement closed numbersOf
     cellsIn identityOf findCell treeIn treesIn meaningOf meanings join beyond joinWith choiceError identifierError

@@ -51,10 +51,6 @@ mostRounds = 65
 abbrev pub mostDeclared : ℕ
 mostDeclared = 64
 
--- "the word whose number is its kind, 0 to 7"
-abbrev pub kindWords : ℕ
-kindWords = 8
-
 -- "a 4,097th cell"
 abbrev pub mostCells : ℕ
 mostCells = 4096

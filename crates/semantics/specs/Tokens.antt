@@ -5,14 +5,14 @@ use mathlib.Core.List.{List, [], _∷_}
 use mathlib.Core.Option.{Option, none, some}
 use Prim.Native.Nat.{ℕ, suc, _+_, _-_}
 use lib.Dec.{ltb, eqb}
-use lib.ListN.{length, getD, take}
+use lib.ListN.{length, getD}
 use Rattle.characters.specs.Skipping.{skipFrom}
 use Rattle.characters.specs.Spelling.{partOf}
 use Rattle.characters.specs.Lexemes.{identifierAt}
 use Rattle.characters.specs.declared.lexemes.Identifier.{Identifier}
-use Rattle.book.specs.Book.{Entry, Book, isReserved, lookupName, leastWord}
+use Rattle.book.specs.Book.{Entry, Book, isReserved, lookupName, kindWord}
 use Rattle.book.specs.declared.names.Found.{Found}
-use Rattle.semantics.specs.Numbers.{kindWords}
+use Rattle.book.specs.declared.names.KindWord.{KindWord}
 use Rattle.semantics.specs.Uses.{within, behind, Path, Scope, scopeOf, hasMark}
 
 -- a branch waits for its test
@@ -109,9 +109,9 @@ module _ (book : Book) (text : List ℕ) where
   unfoldable pub kindAt : ℕ → Option (Read ℕ)
   kindAt at =
       elim (identifierEnd text at) [
-        | some end ↦ elim (leastWord 0 (take kindWords (book .words)) (spelled text at end)) [
-          | some kind ↦ some (record { end = end; value = kind })
-          | none ↦ none
+        | some end ↦ elim (kindWord (book .words) (spelled text at end)) [
+          | KindWord.Kind kind ↦ some (record { end = end; value = kind })
+          | KindWord.Nothing ↦ none
         ]
         | none ↦ none
       ]

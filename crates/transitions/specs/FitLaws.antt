@@ -5,7 +5,7 @@
 -- - the records
 -- - the whole book: accepted-fits
 use mathlib.Core.Path.{_≡_, subst}
-use mathlib.Core.Bool.{and-eq-true-iff}
+use mathlib.Core.Bool.{Bool, and-eq-true-iff}
 use mathlib.Core.List.{List}
 use Prim.Native.Nat.{ℕ, _+_, _≤_}
 use native.Mathlib.Omega.{arith}
@@ -14,7 +14,7 @@ use Rattle.characters.specs.Classes.{between}
 use Rattle.book.specs.Book.{Entry, Book, noVariant}
 use Rattle.book.specs.Check.{accepted, placed, spelling, entry, variant, Outcome, checkBook}
 use Rattle.book.specs.Numbers.{badField}
-use Rattle.book.specs.ReaderLaws.{between-high}
+use Rattle.book.specs.ReaderLaws.{between-high, fixed-most}
 use Rattle.book.specs.declared.records.Variant.{Variant}
 use Rattle.semantics.specs.Theorem.Records.{accepted-inj, by-then, by-byte, records-length, records-each}
 use Rattle.semantics.specs.Theorem.Records.{records-total}
@@ -38,19 +38,19 @@ module _ (bytes : List ℕ) where
       subst (λ (x : Entry). x .label ≤ greatest) (accepted-inj all)
       (between-high 0 greatest (getD bytes place 0) (label .fitted))))
 
-  variant-fits : (first place : ℕ) (x : ℕ × Variant) (end : ℕ) →
-      placed (variant first) bytes place ≡ accepted x end → VariantFits (x .1)
+  variant-fits : (binder : Bool) (first place : ℕ) (x : ℕ × Variant) (end : ℕ) →
+      placed (variant binder first) bytes place ≡ accepted x end → VariantFits (x .1)
   unfolding variant
-  variant-fits first place x end e =
-      by-then (variant first bytes place) _ e (λ v after told same.
+  variant-fits binder first place x end e =
+      by-then (variant binder first bytes place) _ e (λ v after told same.
       subst (λ (x : ℕ × Variant). VariantFits (x .1)) (accepted-inj same)
       (by-byte _ badField place bytes place (place + 1) (omega arith) _ told (λ level next₁.
       by-byte _ badField (place + 1) bytes (place + 1) (place + 2) (omega arith) _ next₁ (λ _ next₂.
       by-byte _ badField (place + 2) bytes (place + 2) (place + 3) (omega arith) _ next₂ (λ _ next₃.
       by-byte _ badField (place + 3) bytes (place + 3) (place + 4) (omega arith) _ next₃ (λ number all.
       subst VariantFits (accepted-inj all) (record {
-        level = between-high 0 255 (getD bytes place 0) (level .fitted);
-        few = between-high 0 8 (getD bytes (place + 3) 0) (number .fitted);
+        level = fixed-most binder 255 255 255 (getD bytes place 0) (omega arith) (omega arith) (level .fitted);
+        few = fixed-most binder 1 8 8 (getD bytes (place + 3) 0) (omega arith) (omega arith) (number .fitted);
       })))))))
 
 -- ---- The whole book
@@ -61,16 +61,16 @@ whole-fits bytes book text short a =
     let variants = getD bytes (a .variantsAt) 0 in
     let few-variants : variants ≤ 128 =
     between-high 0 128 variants (and-eq-true-iff (between 0 128 variants) _ .0 (a .variants .fitted) .0) in
-    let fits = records-each _ _ (λ x. VariantFits (x .1)) bytes (variant-fits bytes) (0, noVariant)
-    (record { level = omega arith; few = omega arith }) variants 0 (a .variantsAt + 1) (a .variants .read) in
-    let few-steps = records-total (λ v. v .1 .count) (λ sum. placed (variant sum)) bytes 8
-    (λ sum place x end told. variant-fits bytes sum place x end told .few) variants 0 (a .variantsAt + 1)
+    let fits = records-each _ _ (λ x. VariantFits (x .1)) bytes (λ j. variant-fits bytes _) (0, noVariant)
+    (record { level = omega arith; few = omega arith }) variants 0 0 (a .variantsAt + 1) (a .variants .read) in
+    let few-steps = records-total (λ v. v .1 .count) _ bytes 8
+    (λ j sum place x end told. variant-fits bytes _ sum place x end told .few) variants 0 0 (a .variantsAt + 1)
     (a .variants .read) in
     record {
       short = short;
-      names = omega (arith, records-length _ _ bytes names 0 (a .namesAt + 1) _ _ (a .names .read));
+      names = omega (arith, records-length _ _ bytes names 0 0 (a .namesAt + 1) _ _ (a .names .read));
       kinds = records-each _ _ (λ (x : Entry). Fits (x .label)) bytes
-          (λ sum place x end told. omega (arith, entry-fits bytes 7 place x end told)) _ (omega arith) names 0
+          (λ i sum place x end told. omega (arith, entry-fits bytes 7 place x end told)) _ (omega arith) names 0 0
           (a .namesAt + 1) (a .names .read);
       variants = λ N. omega (arith, variants-inside bytes book a N, variants-length bytes book a);
       levels = λ j. rw (unplaced-variant bytes book a j) (omega (arith, fits j .level));

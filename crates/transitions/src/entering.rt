@@ -145,6 +145,7 @@ fn is_identifier(book: &[u8], index: &[usize], nonterminal: u32) -> bool
         Mark::Plain => false,
         Mark::Variable => false,
         Mark::Identifier => true,
+        Mark::Binder => false,
     }
 }
 

@@ -18,8 +18,13 @@ returns-3 c =
     let nonterminal = c .before .before .nonterminal in
     rw (← nonterminal .ensures, c .enum-told3 .given .1)
 
+returns-4 : tie.Need-returns-4
+returns-4 c =
+    let nonterminal = c .before .before .nonterminal in
+    rw (← nonterminal .ensures, c .enum-told4 .given .1)
+
 pub is-variable-spec : {M : Type 1} → statement M
 is-variable-spec =
     tie.close
-    (tie.spec (λ c κs. search needs) (λ c. search needs) (λ c. search needs) (λ c. search needs)
-    returns returns-2 returns-3)
+    (tie.spec (λ c κs. search needs) (λ c. search needs) (λ c. search needs) (λ c. search needs) (λ c. search needs)
+    returns returns-2 returns-3 returns-4)

@@ -8,7 +8,7 @@ use mathlib.Core.Option.{Option, none, some}
 use Prim.Native.Nat.{ℕ, _≤_, _<_}
 use native.Mathlib.Omega.{arith}
 use lib.Dec.{ltb, eqb}
-use lib.ListN.{length, getD, take}
+use lib.ListN.{length, getD}
 use borrow.Author.Tests.{eqb-true}
 use Rattle.characters.specs.Cases.{by-test}
 use Rattle.characters.specs.Skipping.{skipFrom}
@@ -17,9 +17,10 @@ use Rattle.characters.specs.Spelling.{same}
 use Rattle.characters.specs.Lexemes.{numberAt}
 use Rattle.characters.specs.LexemeLaws.{number-bounds}
 use Rattle.characters.specs.declared.lexemes.Number.{Number}
-use Rattle.book.specs.Book.{Entry, Book, nthEntry, leastWord}
+use Rattle.book.specs.Book.{Entry, Book, nthEntry, kindWord}
+use Rattle.book.specs.declared.names.KindWord.{KindWord}
 use Rattle.book.specs.declared.records.Step.{Step}
-use Rattle.semantics.specs.Numbers.{kindWords, identifierWanted}
+use Rattle.semantics.specs.Numbers.{identifierWanted}
 use Rattle.semantics.specs.Uses.{Use, Enclosing, within, behind, Path, behindAny, hasMark, Governor, minimum}
 use Rattle.semantics.specs.Uses.{same-start, Scope, outwards, govern, governor}
 use Rattle.semantics.specs.Tokens.{Variable, Read, isSome, characterEnd, identifierEnd, spelled, reservedAt}
@@ -127,11 +128,11 @@ module _ (text : List ℕ) where
       (λ end e. rw (e, afterElement) (character-forward 44 x end e))
 
 module _ (book : Book) (text : List ℕ) where
-  -- what is read ends behind its place, if its identifier does
-  read-forward : {A : Type 0} {at end : ℕ} (f : Option A) (v : Read A) → at < end →
+  -- a variable ends behind its place, if its identifier does
+  read-forward : {at end : ℕ} (f : Option Variable) (v : Read Variable) → at < end →
       elim f [ some w ↦ some (record { end = end; value = w }) | none ↦ none ] ≡ some v → at < v .end
-  read-forward {A} {end = end} (some w) v l p =
-      let is : end ≡ v .end = ap (λ (r : Read A). r .end) (some-inj p) in omega arith
+  read-forward {end = end} (some w) v l p =
+      let is : end ≡ v .end = ap (λ (r : Read Variable). r .end) (some-inj p) in omega arith
   read-forward none v l p = absurd (none-some p)
 
   variable-forward : (scope : Scope) (at : ℕ) (v : Read Variable) → variableAt book text scope at ≡ some v → at < v .end
@@ -149,8 +150,17 @@ module _ (book : Book) (text : List ℕ) where
       option-cases (identifierEnd text at)
       (λ e. absurd (none-some (rw (e, kindAt) at q)))
       (λ end e.
-      read-forward (leastWord 0 (take kindWords (book .words)) (spelled text at end)) k
-      (identifier-within text at end e .0) (rw (e, kindAt) at q))
+      by end (identifier-within text at end e .0) (kindWord (book .words) (spelled text at end))
+      (rw (e, kindAt) at q))
+    where
+      by : (end : ℕ) → at < end → (w : KindWord) →
+          elim w [
+            | KindWord.Kind kind ↦ some (record { end = end; value = kind })
+            | KindWord.Nothing ↦ none
+          ] ≡ some k → at < k .end
+      by end l (KindWord.Kind kind) p =
+          let is : end ≡ k .end = ap (λ (r : Read ℕ). r .end) (some-inj p) in omega arith
+      by end l KindWord.Nothing p = absurd (none-some p)
 
   name-forward : (kind at : ℕ) (d : Read Entry) → nameOfKind book text kind at ≡ some d → at < d .end
   unfolding nameOfKind

@@ -18,7 +18,7 @@ use Rattle.characters.specs.Cases.{by-test, clash}
 use Rattle.book.specs.Book.{Entry, Book, nthVariant}
 use Rattle.book.specs.declared.records.Step.{Step}
 use Rattle.semantics.specs.Values.{Tree, Trees, Parse}
-use Rattle.semantics.specs.Numbers.{kindWords}
+use Rattle.book.specs.Numbers.{kinds}
 use Rattle.semantics.specs.Uses.{Use, keeps}
 use Rattle.semantics.specs.Tokens.{Item as Read, when}
 use Rattle.semantics.specs.Steps.{Todo, taking, elements, ending, naming, closing, stepsOf, todoOf}
@@ -404,7 +404,7 @@ module _ {text : List ℕ} (s : State) (m : Made) (tabled : Tabled text (s .cell
   new-read (Read.declared depth index) fits e = make-item (Cell.declared depth index) _ refl tt e
 
   -- the kind of a declared name
-  pub new-kind : (kind : ℕ) → kind < kindWords → make text (Cell.number 0 kind) s ≡ ok m → NewItem text (s .cells) m
+  pub new-kind : (kind : ℕ) → kind < kinds → make text (Cell.number 0 kind) s ≡ ok m → NewItem text (s .cells) m
   unfolding meaningOf Fits
   new-kind kind below e = make-item (Cell.number 0 kind) _ refl (omega arith, omega arith) e
 

@@ -12,7 +12,8 @@ use Rattle.characters.specs.Cases.{by-test}
 use Rattle.characters.specs.Classes.{between}
 use Rattle.book.specs.Book.{Book, noVariant, nthVariant}
 use Rattle.book.specs.Check.{Checked, refused, accepted, Reader, records, placed, section, entry, nonterminal, variant}
-use Rattle.book.specs.Check.{step, total, variantsFit, passes, allPass, ended, entireBook, Outcome, outcome, checkBook}
+use Rattle.book.specs.Check.{ofBinder, firstStep, step, total, variantsFit, passes, allPass, ended, entireBook}
+use Rattle.book.specs.Check.{Outcome, outcome, checkBook}
 use Rattle.book.specs.Numbers.{badCount, badField, mostWords, mostNames, mostNonterminals, nonterminalSize}
 use Rattle.book.specs.Numbers.{recordSize, reserved, lastKind}
 use Rattle.book.specs.Index.{nonterminalFrom, variantFrom, stepFrom}
@@ -34,12 +35,13 @@ module _ (bytes : List ℕ) where
       by-byte _ badField (place + 1) bytes (place + 1) (place + 2) (omega arith) _ e₁ (λ _ e₂.
       (sym (accepted-inj e₂), sym (accepted-end e₂))))
 
-  pub variant-told : (first place : ℕ) (x : ℕ × Variant) (end : ℕ) →
-      placed (variant first) bytes place ≡ accepted x end →
+  -- a binder's or not
+  pub variant-told : (binder : Bool) (first place : ℕ) (x : ℕ × Variant) (end : ℕ) →
+      placed (variant binder first) bytes place ≡ accepted x end →
       (x ≡ (place, variantFrom bytes place first)) × (end ≡ place + recordSize)
   unfolding variant
-  variant-told first place x end e =
-      by-then (variant first bytes place) _ e (λ v last told same.
+  variant-told binder first place x end e =
+      by-then (variant binder first bytes place) _ e (λ v last told same.
       by-byte _ badField place bytes place (place + 1) (omega arith) _ told (λ _ e₁.
       by-byte _ badField (place + 1) bytes (place + 1) (place + 2) (omega arith) _ e₁ (λ _ e₂.
       by-byte _ badField (place + 2) bytes (place + 2) (place + 3) (omega arith) _ e₂ (λ _ e₃.
@@ -48,11 +50,11 @@ module _ (bytes : List ℕ) where
         sym (accepted-end e₄ ∙ accepted-end same),
       ))))))
 
-  pub step-told : (words nonterminals place : ℕ) (x : Step) (end : ℕ) →
-      step words nonterminals bytes place ≡ accepted x end →
+  pub step-told : (words nonterminals : ℕ) (binder : Bool) (place : ℕ) (x : Step) (end : ℕ) →
+      step words nonterminals binder bytes place ≡ accepted x end →
       (x ≡ stepFrom bytes place) × (end ≡ place + recordSize) × (end ≤ length bytes)
   unfolding step
-  step-told words nonterminals place x end e =
+  step-told words nonterminals binder place x end e =
       by-byte _ badField place bytes place (place + 1) (omega arith) _ e (λ _ e₁.
       by-byte _ badField (place + 1) bytes (place + 1) (place + 2) (omega arith) _ e₁ (λ _ e₂.
       by-byte _ badField (place + 2) bytes (place + 2) (place + 3) (omega arith) _ e₂ (λ _ e₃.
@@ -62,17 +64,17 @@ module _ (bytes : List ℕ) where
 
 -- ---- Sections
 -- a section: its count, which the book has and which passed a test, and its records
-pub record Counted {A : Type 0} (fits : ℕ → Bool) (size : A → ℕ) (one : ℕ → Reader A) (bytes : List ℕ) (place : ℕ)
-    (xs : List A) (end : ℕ) : Type 0 where
+pub record Counted {A : Type 0} (fits : ℕ → Bool) (size : A → ℕ) (one : ℕ → ℕ → Reader A) (bytes : List ℕ)
+    (place : ℕ) (xs : List A) (end : ℕ) : Type 0 where
   pub inside : place < length bytes
   pub fitted : fits (getD bytes place 0) ≡ true
-  pub read : records size one (getD bytes place 0) 0 bytes (place + 1) ≡ accepted xs end
+  pub read : records size one (getD bytes place 0) 0 0 bytes (place + 1) ≡ accepted xs end
 
-counted : {A : Type 0} (fits : ℕ → Bool) (size : A → ℕ) (one : ℕ → Reader A) (bytes : List ℕ) (place : ℕ)
+counted : {A : Type 0} (fits : ℕ → Bool) (size : A → ℕ) (one : ℕ → ℕ → Reader A) (bytes : List ℕ) (place : ℕ)
     (xs : List A) (end : ℕ) → section fits size one bytes place ≡ accepted xs end →
     Counted fits size one bytes place xs end
 counted fits size one bytes place xs end e =
-    by-then _ (λ n next. records size one n 0 bytes next) e (λ n next told read.
+    by-then _ (λ n next. records size one n 0 0 bytes next) e (λ n next told read.
     let b = checked-told fits badCount place bytes place n next told in
     record {
       inside = b .inside;
@@ -101,19 +103,21 @@ pub record Sections (bytes : List ℕ) (book : Book) : Type 0 where
   pub end : ℕ
   pub placedVariants : List (ℕ × Variant)
   pub words :
-      Counted (between 0 mostWords) (λ w. 0) (λ first. entry reserved) bytes 0 (book .words) namesAt
+      Counted (between 0 mostWords) (λ w. 0) (λ i first. entry reserved) bytes 0 (book .words) namesAt
   pub names :
-      Counted (between 0 mostNames) (λ w. 0) (λ first. entry lastKind) bytes namesAt (book .names) nonterminalsAt
+      Counted (between 0 mostNames) (λ w. 0) (λ i first. entry lastKind) bytes namesAt (book .names) nonterminalsAt
   pub nonterminals :
-      Counted (between 1 mostNonterminals) (λ n. n .count) nonterminal bytes nonterminalsAt (book .nonterminals)
-      variantsAt
+      Counted (between 1 mostNonterminals) (λ n. n .count) (λ i. nonterminal) bytes nonterminalsAt
+      (book .nonterminals) variantsAt
   pub variants :
       Counted (variantsFit (total (λ n. n .count) (book .nonterminals))) (λ v. v .1 .count)
-      (λ first. placed (variant first)) bytes variantsAt placedVariants stepsAt
+      (λ j first. placed (variant (ofBinder (λ n. n .first) (book .nonterminals) j) first)) bytes variantsAt
+      placedVariants stepsAt
   pub unplaced : book .variants ≡ map (λ v. v .1) placedVariants
   pub steps :
       Counted (eqb (total (λ v. v .1 .count) placedVariants)) (λ s. 0)
-      (λ first. step (length (book .words)) (length (book .nonterminals))) bytes stepsAt (book .steps) end
+      (λ k first. step (length (book .words)) (length (book .nonterminals))
+      (ofBinder (firstStep placedVariants) (book .nonterminals) k)) bytes stepsAt (book .steps) end
   pub passed : (j : ℕ) → passes (book .steps) (nthVariant book j) ≡ true
 
 sections : (bytes : List ℕ) (book : Book) (end : ℕ) → entireBook bytes 0 ≡ accepted book end → Sections bytes book

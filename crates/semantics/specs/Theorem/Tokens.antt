@@ -14,10 +14,11 @@ use Rattle.characters.specs.Lexemes.{identifierAt, numberAt}
 use Rattle.characters.specs.LexemeLaws.{identifier-bounds, number-bounds}
 use Rattle.characters.specs.declared.lexemes.Identifier.{Identifier}
 use Rattle.characters.specs.declared.lexemes.Number.{Number}
-use Rattle.book.specs.Book.{Entry, Book, nthEntry, lookupName, leastWord}
+use Rattle.book.specs.Book.{Entry, Book, nthEntry, lookupName, leastWord, kindWord}
+use Rattle.book.specs.Numbers.{kinds}
 use Rattle.book.specs.declared.names.Found.{Found}
+use Rattle.book.specs.declared.names.KindWord.{KindWord}
 use Rattle.book.specs.declared.records.Step.{Step}
-use Rattle.semantics.specs.Numbers.{kindWords}
 use Rattle.semantics.specs.Uses.{Scope}
 use Rattle.semantics.specs.Tokens.{Item, Variable, Read, characterEnd, identifierEnd, spelled, reservedAt, freeEnd}
 use Rattle.semantics.specs.Tokens.{variableIn, variableAt, kindAt, nameOfKind, declarationAt}
@@ -45,33 +46,44 @@ free-end-within book text at end q =
     (λ t. identifier-within text at end (rw (t, freeEnd) at q))
 
 -- ---- Declared names
+nothing-kind : {kind : ℕ} → KindWord.Nothing ≡ KindWord.Kind kind → ⊥
+nothing-kind e = let z : _≡_ {A = ℕ} 0 1 = cc in omega arith
+
+kind-inj : {i kind : ℕ} → KindWord.Kind i ≡ KindWord.Kind kind → i ≡ kind
+kind-inj e = cc
+
 -- the number of a word is one of those looked at
-least-below : (i : ℕ) (words : List Entry) (spelling : List ℕ) (kind : ℕ) → leastWord i words spelling ≡ some kind →
-    kind < i + length words
+least-below : (i : ℕ) (words : List Entry) (spelling : List ℕ) (kind : ℕ) →
+    leastWord i words spelling ≡ KindWord.Kind kind → kind < i + length words
 unfolding leastWord
-least-below i [] spelling kind e = absurd (none-some e)
+least-below i [] spelling kind e = absurd (nothing-kind e)
 least-below i (w ∷ words) spelling kind e =
     by-test (same spelling (w .spelling))
-    (λ t. let is : i ≡ kind = some-inj (rw (t, leastWord) at e) in omega arith)
+    (λ t. let is : i ≡ kind = kind-inj (rw (t, leastWord) at e) in omega arith)
     (λ t. let k = least-below (suc i) words spelling kind (rw (t, leastWord) at e) in omega arith)
 
 module _ (book : Book) (text : List ℕ) where
-  kind-below : (at : ℕ) (k : Read ℕ) → kindAt book text at ≡ some k → k .value < kindWords
+  kind-below : (at : ℕ) (k : Read ℕ) → kindAt book text at ≡ some k → k .value < kinds
   unfolding kindAt
   kind-below at k q =
       option-cases (identifierEnd text at)
       (λ e. absurd (none-some (rw (e, kindAt) at q)))
-      (λ end e.
-      let words = take kindWords (book .words) in
-      let few : length words ≤ kindWords = rw (length-take kindWords (book .words)) (omega arith) in
-      option-cases (leastWord 0 words (spelled text at end))
-      (λ missing. absurd (none-some (rw (e, missing, kindAt) at q)))
-      (λ kind there.
-      let is : kind ≡ k .value = ap (λ (z : Read ℕ). z .value) (some-inj (rw (e, there, kindAt) at q)) in
-      let below = least-below 0 words (spelled text at end) kind there in omega arith))
+      (λ end e. by end (kindWord (book .words) (spelled text at end)) refl (rw (e, kindAt) at q))
+    where
+      by : (end : ℕ) (w : KindWord) → kindWord (book .words) (spelled text at end) ≡ w →
+          elim w [
+            | KindWord.Kind kind ↦ some (record { end = end; value = kind })
+            | KindWord.Nothing ↦ none
+          ] ≡ some k → k .value < kinds
+      by end (KindWord.Kind kind) there is =
+          let words = take kinds (book .words) in
+          let few : length words ≤ kinds = rw (length-take kinds (book .words)) (omega arith) in
+          let same : kind ≡ k .value = ap (λ (z : Read ℕ). z .value) (some-inj is) in
+          let below = least-below 0 words (spelled text at end) kind there in omega arith
+      by end KindWord.Nothing there is = absurd (none-some is)
 
   -- the kind of a declared name is the number of one of the words for kinds
-  pub declared-kind : (at : ℕ) (d : Read Entry) → declarationAt book text at ≡ some d → d .value .label < kindWords
+  pub declared-kind : (at : ℕ) (d : Read Entry) → declarationAt book text at ≡ some d → d .value .label < kinds
   unfolding declarationAt nameOfKind
   declared-kind at d q =
       option-cases (kindAt book text at)

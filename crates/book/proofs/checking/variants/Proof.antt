@@ -15,7 +15,7 @@ returns c =
     let if1 = c .before .before .before .before .if1 in
     let section = c .before .before .section in
     let total = args .total in
-    retest Sort.Variant (between total total) (variantsFit total) _ _ total 128 323 _ _ _
+    retest (Sort.Variant (args .binders)) (between total total) (variantsFit total) _ _ total 128 323 _ _ _
     (variants-fit total _ (if1 .taken)) (if1 .taken) (section .ensures)
 
 returns-2 : tie.Need-returns-2
@@ -24,7 +24,7 @@ returns-2 c =
     let if1 = c .before .before .before .before .if1 in
     let section2 = c .before .before .section2 in
     let total = args .total in
-    retest Sort.Variant (between 1 0) (variantsFit total) _ _ 0 128 323 _ _ _
+    retest (Sort.Variant (args .binders)) (between 1 0) (variantsFit total) _ _ 0 128 323 _ _ _
     (too-many-variants total (getD (args .book .now) (args .at) 0) (if1 .left)) (omega arith) (section2 .ensures)
 
 pub variants-spec : {M : Type 1} → statement M

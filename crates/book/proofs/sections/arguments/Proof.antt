@@ -1,6 +1,6 @@
 -- `book::arguments` meets its contract, kind by kind; a number that is none of the fourteen is above 13.
 use borrow.Author.Needs.{zero≤, needs}
-use borrow.Author.Tests.{lt-leb}
+use Rattle.book.specs.ReaderLaws.{between-over}
 use Rattle.book.specs.RecordLaws.{past}
 use Rattle.book.proofs.sections.arguments.Statement.{statement}
 use Rattle.book.proofs.sections.arguments.Tie as tie
@@ -53,7 +53,7 @@ returns-15 : tie.Need-returns-15
 returns-15 c =
     let args = c .before .before .before .args in
     let not-one-of = c .match .rest in
-    rw (lt-leb (args .kind) 13 (past 13 (past 12 (past 11 (past 10 (past 9 (past 8 (past 7 (past 6
+    rw (between-over 0 13 (args .kind) (past 13 (past 12 (past 11 (past 10 (past 9 (past 8 (past 7 (past 6
     (past 5 (past 4 (past 3 (past 2 (past 1 (past 0 (zero≤) (not-one-of .0 .0 .0 .0 .0 .0 .0 .0 .0 .0 .0 .0 .0 .1))
     (not-one-of .0 .0 .0 .0 .0 .0 .0 .0 .0 .0 .0 .0 .1)) (not-one-of .0 .0 .0 .0 .0 .0 .0 .0 .0 .0 .0 .1))
     (not-one-of .0 .0 .0 .0 .0 .0 .0 .0 .0 .0 .1)) (not-one-of .0 .0 .0 .0 .0 .0 .0 .0 .0 .1))

@@ -8,48 +8,48 @@ use Rattle.book.proofs.sections.variant.Statement.{statement}
 use Rattle.book.proofs.sections.variant.Tie as tie
 
 returns : tie.Need-returns
-returns c =
-    let field = c .before .before .field in
-    one-refused Sort.Variant _ _ _ (c .enum-told .given .1)
-    (variant-stop-level _ _ (stopped _ _ _ (field .ensures) (c .enum-told .given .1)))
+returns c binders =
+    let fixed = c .before .before .fixed in
+    one-refused (Sort.Variant binders) _ _ _ _ (c .enum-told .given .1)
+    (variant-stop-level binders _ _ _ (stopped _ _ _ (fixed .ensures) (c .enum-told .given .1)))
 
 returns-2 : tie.Need-returns-2
-returns-2 c =
-    let field = c .before .before .before .before .before .before .before .field in
+returns-2 c binders =
+    let fixed = c .before .before .before .before .before .before .before .fixed in
     let level = c .before .before .before .before .before .level in
     let least-associativity = c .before .before .before .least-associativity in
-    let field2 = c .before .before .field2 in
-    one-refused Sort.Variant _ _ _ (c .enum-told2 .given .1)
-    (variant-stop-associativity _ _ _ _ _ (read _ _ _ (field .ensures) (level .given .1)) (least-associativity .ensures)
-    (stopped _ _ _ (field2 .ensures) (c .enum-told2 .given .1)))
+    let field = c .before .before .field in
+    one-refused (Sort.Variant binders) _ _ _ _ (c .enum-told2 .given .1)
+    (variant-stop-associativity binders _ _ _ _ _ _ (read _ _ _ (fixed .ensures) (level .given .1)) (least-associativity .ensures)
+    (stopped _ _ _ (field .ensures) (c .enum-told2 .given .1)))
 
 returns-3 : tie.Need-returns-3
-returns-3 c =
-    let field = c .before .before .before .before .before .before .before .before .before .before .before .field in
+returns-3 c binders =
+    let fixed = c .before .before .before .before .before .before .before .before .before .before .before .fixed in
     let level = c .before .before .before .before .before .before .before .before .before .level in
     let least-associativity = c .before .before .before .before .before .before .before .least-associativity in
-    let field2 = c .before .before .before .before .before .before .field2 in
+    let field = c .before .before .before .before .before .before .field in
     let associativity = c .before .before .before .before .associativity in
-    let field3 = c .before .before .field3 in
-    one-refused Sort.Variant _ _ _ (c .enum-told3 .given .1)
-    (variant-stop-flags _ _ _ _ _ (read _ _ _ (field .ensures) (level .given .1)) (least-associativity .ensures) _ _
-    (read _ _ _ (field2 .ensures) (associativity .given .1))
-    (stopped _ _ _ (field3 .ensures) (c .enum-told3 .given .1)))
+    let fixed2 = c .before .before .fixed2 in
+    one-refused (Sort.Variant binders) _ _ _ _ (c .enum-told3 .given .1)
+    (variant-stop-flags binders _ _ _ _ _ _ (read _ _ _ (fixed .ensures) (level .given .1)) (least-associativity .ensures) _ _
+    (read _ _ _ (field .ensures) (associativity .given .1))
+    (stopped _ _ _ (fixed2 .ensures) (c .enum-told3 .given .1)))
 
 returns-4 : tie.Need-returns-4
-returns-4 c =
-    let field =
-    c .before .before .before .before .before .before .before .before .before .before .before .before .before .field in
+returns-4 c binders =
+    let fixed =
+    c .before .before .before .before .before .before .before .before .before .before .before .before .before .fixed in
     let level = c .before .before .before .before .before .before .before .before .before .before .before .level in
     let least-associativity =
     c .before .before .before .before .before .before .before .before .before .least-associativity in
-    let field2 = c .before .before .before .before .before .before .before .before .field2 in
+    let field = c .before .before .before .before .before .before .before .before .field in
     let associativity = c .before .before .before .before .before .before .associativity in
-    let field3 = c .before .before .before .before .field3 in
+    let fixed2 = c .before .before .before .before .fixed2 in
     let flags = c .before .before .flags in
-    variant-read _ _ _ _ _ (read _ _ _ (field .ensures) (level .given .1)) (least-associativity .ensures) _ _
-    (read _ _ _ (field2 .ensures) (associativity .given .1)) _ _ _
-    (read _ _ _ (field3 .ensures) (flags .given .1)) (c .field4 .ensures)
+    variant-read binders _ _ _ _ _ _ (read _ _ _ (fixed .ensures) (level .given .1)) (least-associativity .ensures) _ _
+    (read _ _ _ (field .ensures) (associativity .given .1)) _ _ _
+    (read _ _ _ (fixed2 .ensures) (flags .given .1)) (c .fixed3 .ensures)
 
 pub variant-spec : {M : Type 1} → statement M
 variant-spec =

@@ -8,11 +8,11 @@ use Rattle.book.proofs.spellings.entry.Statement.{statement}
 use Rattle.book.proofs.spellings.entry.Tie as tie
 
 returns : tie.Need-returns
-returns c =
+returns c binder =
     let args = c .before .before .before .before .args in
     let field = c .before .before .field in
     let told = c .enum-told .given .1 in
-    one-refused (Sort.Entry (args .greatest)) _ _ _ told (entry-stop _ _ _ (stopped _ _ _ (field .ensures) told))
+    one-refused (Sort.Entry (args .greatest)) binder _ _ _ told (entry-stop _ _ _ (stopped _ _ _ (field .ensures) told))
 
 returns-2 : tie.Need-returns-2
 returns-2 c =

@@ -12,11 +12,11 @@ use Rattle.semantics.specs.Uses.{hasMark}
 use Rattle.semantics.specs.Derivations.{DerivesText}
 use Rattle.semantics.specs.Extension.{stepCountAt, ownStepCount, Extends, AddingLosesNothing}
 use Rattle.semantics.specs.Theorem.Sections.{Sections, book-sections}
-use Rattle.semantics.specs.Theorem.BookFacts.{no-variants}
+use Rattle.semantics.specs.Theorem.BookFacts.{no-variants, one-variant}
 use Rattle.semantics.specs.Theorem.Found.{found-is-exactly-derivable}
 use Rattle.semantics.specs.Theorem.Extension.Places.{steps-place}
 use Rattle.semantics.specs.Theorem.Extension.Bytes.{BytesAgree, bytes-agree}
-use Rattle.semantics.specs.Theorem.Extension.Books.{last-grown, Grown, book-grown}
+use Rattle.semantics.specs.Theorem.Extension.Books.{last-was, last-grown, Grown, book-grown}
 use Rattle.semantics.specs.Theorem.Extension.Retained.{retained}
 use Rattle.semantics.specs.Theorem.Extension.Derivations.{Retains, derives-still}
 
@@ -39,17 +39,41 @@ module _ (bytes extended : List ℕ) (e : Extends bytes extended) where
   retains : Retains (e .book) (e .extendedBook)
   retains = retained bytes (e .book) before (e .extendedBook) grown
 
-  -- the last nonterminal, which has a variant more, is "of mark 0 or 1": one of mark 2 has none
-  pub extended-mark : (N : ℕ) → N + 1 ≡ length (e .book .nonterminals) → hasMark (e .book) 2 N ≡ false
-  extended-mark N last =
-      by-test (hasMark (e .book) 2 N)
-      (λ two.
-      let l = grown .nonterminals in
-      let is : nthNonterminal (e .extendedBook) N ≡ l .grown =
-      last-grown (e .book .nonterminals) (e .extendedBook .nonterminals) l N _ last in
-      let none = no-variants extended (e .extendedBook) (e .accepted-too) N (rw (retains .marks N) two) in
-      absurd (omega (arith, l .one-more .count, ap (λ (n : Nonterminal). n .count) is)))
-      (λ other. other)
+  -- the last nonterminal, which has a variant more, is "of mark 0 or 1": one of mark 2 has none, and one of mark 3 one
+  module _ (N : ℕ) (last : N + 1 ≡ length (e .book .nonterminals)) where
+    abbrev more : ℕ
+    more = nthNonterminal (e .extendedBook) N .count
+
+    one-more : more ≡ nthNonterminal (e .book) N .count + 1
+    one-more =
+        let l = grown .nonterminals in
+        let was : nthNonterminal (e .book) N ≡ l .last =
+        last-was (e .book .nonterminals) (e .extendedBook .nonterminals) l N _ last in
+        let is : nthNonterminal (e .extendedBook) N ≡ l .grown =
+        last-grown (e .book .nonterminals) (e .extendedBook .nonterminals) l N _ last in
+        omega (
+          arith,
+          l .one-more .count,
+          ap (λ (n : Nonterminal). n .count) is,
+          ap (λ (n : Nonterminal). n .count) was,
+        )
+
+    pub extended-mark : hasMark (e .book) 2 N ≡ false
+    extended-mark =
+        by-test (hasMark (e .book) 2 N)
+        (λ two.
+        let none = no-variants extended (e .extendedBook) (e .accepted-too) N (rw (retains .marks N) two) in
+        absurd (omega (arith, one-more)))
+        (λ other. other)
+
+    pub extended-binder : hasMark (e .book) 3 N ≡ false
+    extended-binder =
+        by-test (hasMark (e .book) 3 N)
+        (λ three.
+        let one = one-variant bytes (e .book) (e .accepted) N three in
+        let still = one-variant extended (e .extendedBook) (e .accepted-too) N (rw (retains .marks N) three) in
+        absurd (omega (arith, one-more)))
+        (λ other. other)
 
 pub adding-loses-nothing : AddingLosesNothing
 adding-loses-nothing bytes extended text cells parses cells′ parses′ start allowance allowance′ e a b p listed =

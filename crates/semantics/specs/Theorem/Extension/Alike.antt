@@ -38,23 +38,24 @@ module _ (some other : List ℕ) (from to shift : ℕ)
       let q-is = b .next in
       (b .value ∙ agree place low (omega arith) ∙ sym (a .value), omega arith)
 
-  module _ {A : Type 0} (size width : A → ℕ) (one one′ : ℕ → Reader A)
-      (ends : (sum place : ℕ) (x : A) (end : ℕ) → one sum some place ≡ accepted x end → end ≡ place + width x)
-      (each : (sum : ℕ) → Alike (one sum) (one′ sum)) where
-    pub records-alike : (n sum : ℕ) → Alike (records size one n sum) (records size one′ n sum)
+  module _ {A : Type 0} (size width : A → ℕ) (one one′ : ℕ → ℕ → Reader A)
+      (ends : (i sum place : ℕ) (x : A) (end : ℕ) → one i sum some place ≡ accepted x end → end ≡ place + width x)
+      (each : (i sum : ℕ) → Alike (one i sum) (one′ i sum)) where
+    pub records-alike : (n i sum : ℕ) → Alike (records size one n i sum) (records size one′ n i sum)
     unfolding records
-    records-alike zero sum place xs ys p q low high e e′ =
+    records-alike zero i sum place xs ys p q low high e e′ =
         let here : place ≡ p = accepted-end e in
         let there : place + shift ≡ q = accepted-end e′ in
         (sym (accepted-inj e′) ∙ accepted-inj e, omega arith)
-    records-alike (suc n) sum place xs ys p q low high e e′ =
-        let f = records-first size one some n sum place xs p e in
-        let g = records-first size one′ other n sum (place + shift) ys q e′ in
-        let next = ends sum place (f .first) (f .at) (f .read) in
-        let last = records-end size one some width ends n (sum + size (f .first)) (f .at) (f .others) p (f .read-on) in
-        let same = each sum place (f .first) (g .first) (f .at) (g .at) low (omega arith) (f .read) (g .read) in
-        let rest = records-alike n (sum + size (f .first)) (f .at) (f .others) (g .others) p q (omega arith) high
-        (f .read-on) (rw (same .0, same .1) at (g .read-on)) in
+    records-alike (suc n) i sum place xs ys p q low high e e′ =
+        let f = records-first size one some n i sum place xs p e in
+        let g = records-first size one′ other n i sum (place + shift) ys q e′ in
+        let next = ends i sum place (f .first) (f .at) (f .read) in
+        let last = records-end size one some width ends n (i + 1) (sum + size (f .first)) (f .at) (f .others) p
+        (f .read-on) in
+        let same = each i sum place (f .first) (g .first) (f .at) (g .at) low (omega arith) (f .read) (g .read) in
+        let rest = records-alike n (i + 1) (sum + size (f .first)) (f .at) (f .others) (g .others) p q (omega arith)
+        high (f .read-on) (rw (same .0, same .1) at (g .read-on)) in
         (rw (f .all, g .all, same .0, rest .0) refl, rest .1)
 
   -- ---- Words and names
@@ -65,11 +66,11 @@ module _ (some other : List ℕ) (from to shift : ℕ)
       by-byte _ badSpelling (place + shift) other (place + shift) (place + 1 + shift) (omega arith) _ e′ (λ _ letters′.
       let ends = letters-end some place _ (place + 1) x p letters in
       let size = agree place low (omega arith) in
-      records-alike (λ b. 1) (λ b. 1) (λ i. checked (shaped i) badSpelling place)
-      (λ i. checked (shaped i) badSpelling (place + shift))
-      (λ sum at b end told. checked-told (shaped sum) badSpelling place some at b end told .next)
-      (λ sum. byte-alike (shaped sum) (shaped sum) badSpelling place badSpelling (place + shift))
-      (getD some place 0) 0 (place + 1) x y p q (omega arith) high letters (rw size at letters′)))
+      records-alike (λ b. 0) (λ b. 1) (λ i sum. checked (shaped i) badSpelling place)
+      (λ i sum. checked (shaped i) badSpelling (place + shift))
+      (λ i sum at b end told. checked-told (shaped i) badSpelling place some at b end told .next)
+      (λ i sum. byte-alike (shaped i) (shaped i) badSpelling place badSpelling (place + shift))
+      (getD some place 0) 0 0 (place + 1) x y p q (omega arith) high letters (rw size at letters′)))
 
   entry-alike : (greatest : ℕ) → Alike (entry greatest) (entry greatest)
   unfolding entry
@@ -86,11 +87,12 @@ module _ (some other : List ℕ) (from to shift : ℕ)
       let shifted = same .1 in
       (sym (accepted-inj all′) ∙ rw (label, same .0) (accepted-inj all), omega arith)))))
 
-  pub entries-alike : (greatest n sum : ℕ) →
-      Alike (records (λ w. 0) (λ first. entry greatest) n sum) (records (λ w. 0) (λ first. entry greatest) n sum)
-  entries-alike greatest n sum =
-      records-alike (λ w. 0) entrySize (λ first. entry greatest) (λ first. entry greatest)
-      (λ first. entry-end some greatest) (λ first. entry-alike greatest) n sum
+  pub entries-alike : (greatest n i sum : ℕ) →
+      Alike (records (λ w. 0) (λ i first. entry greatest) n i sum)
+      (records (λ w. 0) (λ i first. entry greatest) n i sum)
+  entries-alike greatest n i sum =
+      records-alike (λ w. 0) entrySize (λ i first. entry greatest) (λ i first. entry greatest)
+      (λ i first. entry-end some greatest) (λ i first. entry-alike greatest) n i sum
 
   -- ---- Nonterminals, variants and steps
   byte-on : (place k : ℕ) → from ≤ place → place + k < to → getD other (place + shift + k) 0 ≡ getD some (place + k) 0
@@ -104,17 +106,18 @@ module _ (some other : List ℕ) (from to shift : ℕ)
       let p-is = a .1 in
       (b .0 ∙ rw (agree place low (omega arith), byte-on place 1 low (omega arith)) (sym (a .0)), omega (arith, b .1))
 
-  pub nonterminals-alike : (n sum : ℕ) →
-      Alike (records (λ x. x .count) nonterminal n sum) (records (λ x. x .count) nonterminal n sum)
-  nonterminals-alike n sum =
-      records-alike (λ x. x .count) (λ x. nonterminalSize) nonterminal nonterminal
-      (λ first place x end told. nonterminal-told some first place x end told .1) nonterminal-alike n sum
+  pub nonterminals-alike : (n i sum : ℕ) →
+      Alike (records (λ x. x .count) (λ i. nonterminal) n i sum) (records (λ x. x .count) (λ i. nonterminal) n i sum)
+  nonterminals-alike n i sum =
+      records-alike (λ x. x .count) (λ x. nonterminalSize) (λ i. nonterminal) (λ i. nonterminal)
+      (λ i first place x end told. nonterminal-told some first place x end told .1) (λ i. nonterminal-alike) n i sum
 
   -- a variant is read with its place
-  variant-alike : shift ≡ 0 → (first : ℕ) → Alike (placed (variant first)) (placed (variant first))
-  variant-alike unshifted first place x y p q low high e e′ =
-      let a = variant-told some first place x p e in
-      let b = variant-told other first (place + shift) y q e′ in
+  variant-alike : shift ≡ 0 → (binder binder′ : Bool) (first : ℕ) →
+      Alike (placed (variant binder first)) (placed (variant binder′ first))
+  variant-alike unshifted binder binder′ first place x y p q low high e e′ =
+      let a = variant-told some binder first place x p e in
+      let b = variant-told other binder′ first (place + shift) y q e′ in
       let p-is = a .1 in
       let here : place + shift ≡ place = omega arith in
       let same : variantFrom other (place + shift) first ≡ variantFrom some place first =
@@ -126,18 +129,21 @@ module _ (some other : List ℕ) (from to shift : ℕ)
       ) refl in
       (b .0 ∙ rw (same, here) (sym (a .0)), omega (arith, b .1))
 
-  pub variants-alike : shift ≡ 0 → (n sum : ℕ) →
-      Alike (records (λ v. v .1 .count) (λ first. placed (variant first)) n sum)
-      (records (λ v. v .1 .count) (λ first. placed (variant first)) n sum)
-  variants-alike unshifted n sum =
-      records-alike (λ v. v .1 .count) (λ v. recordSize) (λ first. placed (variant first))
-      (λ first. placed (variant first)) (λ first place x end told. variant-told some first place x end told .1)
-      (variant-alike unshifted) n sum
+  -- whichever of them are binders'
+  pub variants-alike : shift ≡ 0 → (binder binder′ : ℕ → Bool) (n i sum : ℕ) →
+      Alike (records (λ v. v .1 .count) (λ j first. placed (variant (binder j) first)) n i sum)
+      (records (λ v. v .1 .count) (λ j first. placed (variant (binder′ j) first)) n i sum)
+  variants-alike unshifted binder binder′ n i sum =
+      records-alike (λ v. v .1 .count) (λ v. recordSize) (λ j first. placed (variant (binder j) first))
+      (λ j first. placed (variant (binder′ j) first))
+      (λ j first place x end told. variant-told some (binder j) first place x end told .1)
+      (λ j. variant-alike unshifted (binder j) (binder′ j)) n i sum
 
-  step-alike : (words nonterminals : ℕ) → Alike (step words nonterminals) (step words nonterminals)
-  step-alike words nonterminals place x y p q low high e e′ =
-      let a = step-told some words nonterminals place x p e in
-      let b = step-told other words nonterminals (place + shift) y q e′ in
+  step-alike : (words nonterminals : ℕ) (binder binder′ : Bool) →
+      Alike (step words nonterminals binder) (step words nonterminals binder′)
+  step-alike words nonterminals binder binder′ place x y p q low high e e′ =
+      let a = step-told some words nonterminals binder place x p e in
+      let b = step-told other words nonterminals binder′ (place + shift) y q e′ in
       let p-is = a .1 in (
         b .0 ∙ rw (
           agree place low (omega arith),
@@ -148,44 +154,46 @@ module _ (some other : List ℕ) (from to shift : ℕ)
         omega (arith, b .1),
       )
 
-  pub steps-alike : (words nonterminals n sum : ℕ) →
-      Alike (records (λ s. 0) (λ first. step words nonterminals) n sum)
-      (records (λ s. 0) (λ first. step words nonterminals) n sum)
-  steps-alike words nonterminals n sum =
-      records-alike (λ s. 0) (λ s. recordSize) (λ first. step words nonterminals) (λ first. step words nonterminals)
-      (λ first place x end told. step-told some words nonterminals place x end told .1)
-      (λ first. step-alike words nonterminals) n sum
+  pub steps-alike : (words nonterminals : ℕ) (binder binder′ : ℕ → Bool) (n i sum : ℕ) →
+      Alike (records (λ s. 0) (λ k first. step words nonterminals (binder k)) n i sum)
+      (records (λ s. 0) (λ k first. step words nonterminals (binder′ k)) n i sum)
+  steps-alike words nonterminals binder binder′ n i sum =
+      records-alike (λ s. 0) (λ s. recordSize) (λ k first. step words nonterminals (binder k))
+      (λ k first. step words nonterminals (binder′ k))
+      (λ k first place x end told. step-told some words nonterminals (binder k) place x end told .1)
+      (λ k first. step-alike words nonterminals (binder k) (binder′ k)) n i sum
 
 -- ---- A section of both, where the second has m records more
--- these begin at a place
-pub record Lengthened {A : Type 0} (size : A → ℕ) (one : ℕ → Reader A) (bytes : List ℕ) (m place : ℕ) (xs ys : List A)
-    (end : ℕ) : Type 0 where
+-- these are numbered from i, and begin at a place
+pub record Lengthened {A : Type 0} (size : A → ℕ) (one : ℕ → ℕ → Reader A) (bytes : List ℕ) (m i place : ℕ)
+    (xs ys : List A) (end : ℕ) : Type 0 where
   pub others : List A
   pub all : ys ≡ xs ++ others
-  pub read : records size one m (0 + total size xs) bytes place ≡ accepted others end
+  pub read : records size one m i (0 + total size xs) bytes place ≡ accepted others end
 
-pub nothing-more : {A : Type 0} (size : A → ℕ) (one : ℕ → Reader A) (bytes : List ℕ) (place : ℕ) (xs ys : List A)
-    (end : ℕ) → Lengthened size one bytes 0 place xs ys end → (ys ≡ xs) × (end ≡ place)
+pub nothing-more : {A : Type 0} (size : A → ℕ) (one : ℕ → ℕ → Reader A) (bytes : List ℕ) (i place : ℕ) (xs ys : List A)
+    (end : ℕ) → Lengthened size one bytes 0 i place xs ys end → (ys ≡ xs) × (end ≡ place)
 unfolding records
-nothing-more size one bytes place xs ys end l =
+nothing-more size one bytes i place xs ys end l =
     let none = accepted-inj (l .read) in
     (l .all ∙ rw (sym none) (append-nil xs), sym (accepted-end (l .read)))
 
 module _ {A : Type 0} (some other : List ℕ) (from to shift : ℕ)
     (agree : (i : ℕ) → from ≤ i → i < to → getD other (i + shift) 0 ≡ getD some i 0)
-    (size : A → ℕ) (one : ℕ → Reader A)
-    (alike : (n sum : ℕ) → Alike some other from to shift agree (records size one n sum) (records size one n sum)) where
+    (size : A → ℕ) (one one′ : ℕ → ℕ → Reader A)
+    (alike : (n i sum : ℕ) →
+    Alike some other from to shift agree (records size one n i sum) (records size one′ n i sum)) where
   pub lengthened-section : (f g : ℕ → Bool) (m place place′ : ℕ) (xs ys : List A) (end end′ : ℕ) →
       place′ ≡ place + shift →
       getD other place′ 0 ≡ getD some place 0 + m → from ≤ place + 1 → end ≤ to →
-      Counted f size one some place xs end → Counted g size one other place′ ys end′ →
-      Lengthened size one other m (end + shift) xs ys end′
+      Counted f size one some place xs end → Counted g size one′ other place′ ys end′ →
+      Lengthened size one′ other m (0 + getD some place 0) (end + shift) xs ys end′
   lengthened-section f g m place place′ xs ys end end′ there more low high a b =
       let n = getD some place 0 in
       let next : place′ + 1 ≡ place + 1 + shift = omega arith in
-      let s = records-split size one other n m (getD other place′ 0) 0 (place + 1 + shift) ys end′ more
+      let s = records-split size one′ other n m (getD other place′ 0) 0 0 (place + 1 + shift) ys end′ more
       (rw next at (b .read)) in
-      let same = alike n 0 (place + 1) xs (s .first) end (s .at) low high (a .read) (s .read) in
+      let same = alike n 0 0 (place + 1) xs (s .first) end (s .at) low high (a .read) (s .read) in
       record {
         others = s .others;
         all = s .all ∙ rw (same .0) refl;

@@ -10,7 +10,7 @@ use lib.Dec.{eqb}
 use lib.ListN.{length, getD, length-append}
 use lib.Seq.{getD-append-seam}
 use Rattle.book.specs.Book.{Entry, Book}
-use Rattle.book.specs.Check.{accepted, placed, entry, nonterminal, variant, step, total}
+use Rattle.book.specs.Check.{accepted, placed, entry, ofBinder, firstStep, nonterminal, variant, step, total}
 use Rattle.book.specs.Numbers.{mostNonterminals, nonterminalSize, recordSize, reserved, lastKind}
 use Rattle.book.specs.Index.{nonterminalFrom}
 use Rattle.book.specs.ReaderLaws.{between-low}
@@ -48,13 +48,19 @@ as-many xs ys g =
     let q = length-append (g .init) (g .grown ∷ []) in
     rw (g .before, g .after) (omega arith)
 
-pub last-grown : (xs ys : List Nonterminal) (g : LastGrows xs ys) (N : ℕ) (d : Nonterminal) → N + 1 ≡ length xs →
-    getD ys N d ≡ g .grown
-last-grown xs ys g N d last =
-    let many : length xs ≡ length (g .init) + 1 = ap length (g .before) ∙ length-append (g .init) (g .last ∷ []) in
-    let here : N ≡ length (g .init) = omega arith in
-    ap (λ (l : List Nonterminal). getD l N d) (g .after)
-    ∙ rw here (getD-append-seam (g .init) (g .grown) [] d)
+module _ (xs ys : List Nonterminal) (g : LastGrows xs ys) (N : ℕ) (d : Nonterminal) (last : N + 1 ≡ length xs) where
+  here : N ≡ length (g .init)
+  here =
+      let many : length xs ≡ length (g .init) + 1 = ap length (g .before) ∙ length-append (g .init) (g .last ∷ []) in
+      omega arith
+
+  pub last-was : getD xs N d ≡ g .last
+  last-was =
+      ap (λ (l : List Nonterminal). getD l N d) (g .before) ∙ rw here (getD-append-seam (g .init) (g .last) [] d)
+
+  pub last-grown : getD ys N d ≡ g .grown
+  last-grown =
+      ap (λ (l : List Nonterminal). getD l N d) (g .after) ∙ rw here (getD-append-seam (g .init) (g .grown) [] d)
 
 -- an extension, as books: the last nonterminal has one variant more, and this variant and its steps come last
 pub record Grown (book extension : Book) : Type 0 where
@@ -98,15 +104,15 @@ module _ (book extension : Book) (bytes other : List ℕ) (stepsMore : ℕ)
 
   same-entries : (greatest : ℕ) (f g : ℕ → Bool) (place place′ : ℕ) (xs ys : List Entry) (end end′ : ℕ) →
       place′ ≡ place → end ≤ a .nonterminalsAt → place < lastAt →
-      Counted f (λ w. 0) (λ first. entry greatest) bytes place xs end →
-      Counted g (λ w. 0) (λ first. entry greatest) other place′ ys end′ → (ys ≡ xs) × (end′ ≡ end)
+      Counted f (λ w. 0) (λ i first. entry greatest) bytes place xs end →
+      Counted g (λ w. 0) (λ i first. entry greatest) other place′ ys end′ → (ys ≡ xs) × (end′ ≡ end)
   same-entries greatest f g place place′ xs ys end end′ here low inside c d =
       let count : getD other place′ 0 ≡ getD bytes place 0 + 0 =
       rw (here, add-zero (getD bytes place 0)) (agree .front place inside) in
       let l = lengthened-section bytes other 0 lastAt 0 front-agrees (λ w. 0)
-      (λ first. entry greatest) (entries-alike bytes other 0 lastAt 0 front-agrees greatest)
+      (λ i first. entry greatest) (λ i first. entry greatest) (entries-alike bytes other 0 lastAt 0 front-agrees greatest)
       f g 0 place place′ xs ys end end′ (omega arith) count (omega arith) (omega (arith, places .nonterminals)) c d in
-      let r = nothing-more (λ w. 0) (λ first. entry greatest) other (end + 0) xs ys end′ l in
+      let r = nothing-more (λ w. 0) (λ i first. entry greatest) other _ (end + 0) xs ys end′ l in
       (r .0, omega (arith, r .1))
 
   same-words : (extension .words ≡ book .words) × (b .namesAt ≡ a .namesAt)
@@ -137,21 +143,22 @@ module _ (book extension : Book) (bytes other : List ℕ) (stepsMore : ℕ)
 
   -- all before it are the same
   last-grows : (m at : ℕ) → at + 1 + nonterminalSize * m + 1 ≡ lastAt →
-      Split (λ n. n .count) nonterminal bytes m 1 0 (at + 1) (book .nonterminals) (a .variantsAt) →
-      Split (λ n. n .count) nonterminal other m 1 0 (at + 1 + 0) (extension .nonterminals) (b .variantsAt) →
+      Split (λ n. n .count) (λ i. nonterminal) bytes m 1 0 0 (at + 1) (book .nonterminals) (a .variantsAt) →
+      Split (λ n. n .count) (λ i. nonterminal) other m 1 0 0 (at + 1 + 0) (extension .nonterminals) (b .variantsAt) →
       LastGrows (book .nonterminals) (extension .nonterminals) × (b .variantsAt ≡ a .variantsAt)
   last-grows m at before s t =
-      let ends = records-end (λ n. n .count) nonterminal bytes (λ n. nonterminalSize)
-      (λ first place x end told. nonterminal-told bytes first place x end told .1) m 0 (at + 1) (s .first)
+      let ends = records-end (λ n. n .count) (λ i. nonterminal) bytes (λ n. nonterminalSize)
+      (λ i first place x end told. nonterminal-told bytes first place x end told .1) m 0 0 (at + 1) (s .first)
       (s .at) (s .read) in
-      let many = records-length (λ n. n .count) nonterminal bytes m 0 (at + 1) (s .first) (s .at) (s .read) in
+      let many = records-length (λ n. n .count) (λ i. nonterminal) bytes m 0 0 (at + 1) (s .first) (s .at)
+      (s .read) in
       let twos = total-same nonterminalSize (s .first) in
-      let same = nonterminals-alike bytes other 0 lastAt 0 front-agrees m 0 (at + 1) (s .first)
+      let same = nonterminals-alike bytes other 0 lastAt 0 front-agrees m 0 0 (at + 1) (s .first)
       (t .first) (s .at) (t .at) (omega arith) (omega arith) (s .read) (t .read) in
       let sum : ℕ = 0 + total (λ (n : Nonterminal). n .count) (s .first) in
-      let x = records-single (λ n. n .count) nonterminal bytes sum (s .at) (s .others) (a .variantsAt)
+      let x = records-single (λ n. n .count) (λ i. nonterminal) bytes (0 + m) sum (s .at) (s .others) (a .variantsAt)
       (s .read-on) in
-      let y = records-single (λ n. n .count) nonterminal other sum (s .at) (t .others) (b .variantsAt)
+      let y = records-single (λ n. n .count) (λ i. nonterminal) other (0 + m) sum (s .at) (t .others) (b .variantsAt)
       (rw (same .0, same .1, add-zero (s .at)) at (t .read-on)) in
       let grown = one-more sum (s .at) (x .only) (y .only) (a .variantsAt) (b .variantsAt) (omega arith) (x .read)
       (y .read) in (
@@ -176,9 +183,9 @@ module _ (book extension : Book) (bytes other : List ℕ) (stepsMore : ℕ)
       let count = agree .front at (omega (arith, q .some, q .nonterminals)) in
       let next : at + 1 ≡ at + 1 + 0 = omega arith in
       last-grows m at (omega (arith, q .nonterminals))
-      (records-split (λ n. n .count) nonterminal bytes m 1 nonterminalCount 0 (at + 1) (book .nonterminals)
+      (records-split (λ n. n .count) (λ i. nonterminal) bytes m 1 nonterminalCount 0 0 (at + 1) (book .nonterminals)
       (a .variantsAt) all (a .nonterminals .read))
-      (records-split (λ n. n .count) nonterminal other m 1 nonterminalCount 0 (at + 1 + 0)
+      (records-split (λ n. n .count) (λ i. nonterminal) other m 1 nonterminalCount 0 0 (at + 1 + 0)
       (extension .nonterminals) (b .variantsAt) all
       (rw (same-names .1, count, next) at (b .nonterminals .read)))
 
@@ -187,30 +194,41 @@ module _ (book extension : Book) (bytes other : List ℕ) (stepsMore : ℕ)
       getD other (i + 0) 0 ≡ getD bytes i 0
   variants-agree i low high = rw (add-zero i) (agree .variants i low high)
 
-  grown-variants : Lengthened (λ v. v .1 .count) (λ first. placed (variant first)) other 1 (a .stepsAt + 0)
-      (a .placedVariants) (b .placedVariants) (b .stepsAt)
+  -- which variants are a binder's, in the book and in its extension
+  abbrev binder : ℕ → Bool
+  binder = ofBinder (λ n. n .first) (book .nonterminals)
+
+  abbrev binder′ : ℕ → Bool
+  binder′ = ofBinder (λ n. n .first) (extension .nonterminals)
+
+  abbrev count : ℕ
+  count = 0 + getD bytes (a .variantsAt) 0
+
+  grown-variants : Lengthened (λ v. v .1 .count) (λ j first. placed (variant (binder′ j) first)) other 1 count
+      (a .stepsAt + 0) (a .placedVariants) (b .placedVariants) (b .stepsAt)
   grown-variants =
       let here = grown-nonterminals .1 in
       let at = variants-place bytes book a in
       let one-more : getD other (b .variantsAt) 0 ≡ getD bytes (a .variantsAt) 0 + 1 =
       rw (here, at) (agree .variantCount) in
       lengthened-section bytes other (variantCountAt book + 1) (stepCountAt book) 0 variants-agree (λ v. v .1 .count)
-      (λ first. placed (variant first))
-      (variants-alike bytes other (variantCountAt book + 1) (stepCountAt book) 0 variants-agree refl) _ _ 1
+      (λ j first. placed (variant (binder j) first)) (λ j first. placed (variant (binder′ j) first))
+      (variants-alike bytes other (variantCountAt book + 1) (stepCountAt book) 0 variants-agree refl binder binder′)
+      _ _ 1
       (a .variantsAt) (b .variantsAt) (a .placedVariants) (b .placedVariants) (a .stepsAt) (b .stepsAt)
       (omega arith) one-more (omega arith) (omega (arith, steps-place bytes book a)) (a .variants) (b .variants)
 
-  new-variant : Single (λ v. v .1 .count) (λ first. placed (variant first)) other
+  new-variant : Single (λ v. v .1 .count) (λ j first. placed (variant (binder′ j) first)) other count
       (0 + total (λ v. v .1 .count) (a .placedVariants)) (a .stepsAt + 0) (grown-variants .others) (b .stepsAt)
   new-variant =
-      records-single (λ v. v .1 .count) (λ first. placed (variant first)) other
+      records-single (λ v. v .1 .count) (λ j first. placed (variant (binder′ j) first)) other count
       (0 + total (λ v. v .1 .count) (a .placedVariants)) (a .stepsAt + 0) (grown-variants .others) (b .stepsAt)
       (grown-variants .read)
 
   steps-shifted : b .stepsAt ≡ a .stepsAt + recordSize
   steps-shifted =
       let z = new-variant in
-      let end = variant-told other (0 + total (λ v. v .1 .count) (a .placedVariants)) (a .stepsAt + 0)
+      let end = variant-told other (binder′ count) (0 + total (λ v. v .1 .count) (a .placedVariants)) (a .stepsAt + 0)
       (z .only) (b .stepsAt) (z .read) .1 in
       omega arith
 
@@ -227,23 +245,30 @@ module _ (book extension : Book) (bytes other : List ℕ) (stepsMore : ℕ)
   abbrev nonterminals : ℕ
   nonterminals = length (book .nonterminals)
 
+  -- which steps are a binder's
+  abbrev stepBinder : ℕ → Bool
+  stepBinder = ofBinder (firstStep (a .placedVariants)) (book .nonterminals)
+
+  abbrev stepBinder′ : ℕ → Bool
+  stepBinder′ = ofBinder (firstStep (b .placedVariants)) (extension .nonterminals)
+
   same-reader : Counted (eqb (total (λ v. v .1 .count) (b .placedVariants))) (λ s. 0)
-      (λ first. step words nonterminals) other (b .stepsAt) (extension .steps) (b .end)
+      (λ k first. step words nonterminals (stepBinder′ k)) other (b .stepsAt) (extension .steps) (b .end)
   same-reader =
       let same-words′ : length (extension .words) ≡ words = ap length (same-words .0) in
       let same-nonterminals = as-many (book .nonterminals) (extension .nonterminals) (grown-nonterminals .0) in
       rw (same-words′, same-nonterminals) at (b .steps)
 
-  grown-steps : Lengthened (λ s. 0) (λ first. step words nonterminals) other stepsMore (a .end + recordSize)
-      (book .steps) (extension .steps) (b .end)
+  grown-steps : Lengthened (λ s. 0) (λ k first. step words nonterminals (stepBinder′ k)) other stepsMore
+      (0 + getD bytes (a .stepsAt) 0) (a .end + recordSize) (book .steps) (extension .steps) (b .end)
   grown-steps =
       let at = steps-place bytes book a in
       let more : getD other (b .stepsAt) 0 ≡ getD bytes (a .stepsAt) 0 + stepsMore =
       rw (steps-shifted, at) (agree .stepCount) in
       lengthened-section bytes other (stepCountAt book + 1) (length bytes) recordSize (agree .steps) (λ s. 0)
-      (λ first. step words nonterminals)
-      (steps-alike bytes other (stepCountAt book + 1) (length bytes) recordSize (agree .steps) words nonterminals) _ _
-      stepsMore (a .stepsAt) (b .stepsAt) (book .steps) (extension .steps) (a .end) (b .end) steps-shifted more
+      (λ k first. step words nonterminals (stepBinder k)) (λ k first. step words nonterminals (stepBinder′ k))
+      (steps-alike bytes other (stepCountAt book + 1) (length bytes) recordSize (agree .steps) words nonterminals
+      stepBinder stepBinder′) _ _ stepsMore (a .stepsAt) (b .stepsAt) (book .steps) (extension .steps) (a .end) (b .end) steps-shifted more
       (omega arith) (steps-end bytes book a) (a .steps) same-reader
 
   pub book-grown : Grown book extension

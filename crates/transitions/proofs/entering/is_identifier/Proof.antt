@@ -27,8 +27,15 @@ returns-3 c =
     is-marked (bookIn (args .book .now) (args .index .now)) _ _ Mark.Identifier (nonterminal .ensures)
     (c .enum-told3 .given .1)
 
+returns-4 : tie.Need-returns-4
+returns-4 c =
+    let args = c .before .before .before .before .before .args in
+    let nonterminal = c .before .before .nonterminal in
+    is-marked (bookIn (args .book .now) (args .index .now)) _ _ Mark.Binder (nonterminal .ensures)
+    (c .enum-told4 .given .1)
+
 pub is-identifier-spec : {M : Type 1} → statement M
 is-identifier-spec =
     tie.close
-    (tie.spec (λ c κs. search needs) (λ c. search needs) (λ c. search needs) (λ c. search needs)
-    returns returns-2 returns-3)
+    (tie.spec (λ c κs. search needs) (λ c. search needs) (λ c. search needs) (λ c. search needs) (λ c. search needs)
+    returns returns-2 returns-3 returns-4)
