@@ -56,17 +56,18 @@ impl Sides {
             refusal @ 20..=23 => return Verdict::Limit(refusal),
             _ => (),
         }
-        let reader = self.reader.answer(&case.book, &case.text).sorted();
-        match self.worker.answer(&case.book, &case.text, case.start) {
+        self.worker.judge(case, self.reader.answer(&case.book, &case.text))
+    }
+}
+
+impl Worker {
+    /// The reader's answer to a case against the Rust's.
+    pub fn judge(&mut self, case: &Case, reader: Answer) -> Verdict {
+        let reader = reader.sorted();
+        match self.answer(&case.book, &case.text, case.start).map(Answer::sorted) {
             Err(why) => Verdict::WithoutAnswer(why),
-            Ok(rust) => {
-                let rust = rust.sorted();
-                if rust == reader {
-                    Verdict::Equal(rust)
-                } else {
-                    Verdict::Different { reader, rust }
-                }
-            }
+            Ok(rust) if rust == reader => Verdict::Equal(rust),
+            Ok(rust) => Verdict::Different { reader, rust },
         }
     }
 }

@@ -2,6 +2,8 @@
 use crate::case::{hexadecimal, Case, Sides, Verdict};
 use crate::random::Random;
 use crate::reader::MOST_WORK;
+use crate::vectors::Vector;
+use crate::worker::{Without, Worker};
 use crate::{books, fixed, shrink, small, texts};
 use oracle::book::Book;
 use std::collections::BTreeMap;
@@ -42,7 +44,7 @@ pub struct Counts {
     different: usize,
     limit: BTreeMap<u32, usize>,
     refused: BTreeMap<u32, usize>,
-    without: BTreeMap<crate::worker::Without, usize>,
+    without: BTreeMap<Without, usize>,
     step_kinds: BTreeMap<u8, usize>,
     reserved_names: BTreeMap<u32, usize>,
     most_parses: usize,
@@ -102,6 +104,23 @@ pub fn compare(sides: &mut Sides, cases: impl Iterator<Item = Case>, counts: &mu
                 }
             }
             Verdict::WithoutAnswer(why) => show(&format!("{why:?}"), &case),
+            _ => (),
+        }
+    }
+}
+
+/// The Rust alone against the answers of vectors.
+pub fn compare_with_vectors(worker: &mut Worker, vectors: &[Vector], counts: &mut Counts) {
+    for vector in vectors {
+        let case = &vector.case;
+        let verdict = vector.judge(worker);
+        counts.count(case, &verdict);
+        match verdict {
+            Verdict::Different { reader, rust } => {
+                show("different", case);
+                println!("  vector {reader:?}\n  Rust   {rust:?}");
+            }
+            Verdict::WithoutAnswer(why) => show(&format!("{why:?}"), case),
             _ => (),
         }
     }
