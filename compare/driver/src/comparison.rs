@@ -34,7 +34,24 @@ pub fn random_case(seed: u64, number: u64) -> Case {
 fn common(random: &mut Random) -> Case {
     let book = books::book(random);
     let start = if random.one_in(4) { random.below(book.nonterminals.len()) } else { 0 };
-    let text = texts::text(random, &book, start);
+    with_text(random, &book, start)
+}
+
+/// A random case of a book with binders; of sixteen, one is of a damaged book.
+pub fn binder_case(seed: u64, number: u64) -> Case {
+    let mut random = Random::new(seed, number);
+    let book = books::with_binders(&mut random);
+    let last = book.nonterminals.len() - 1;
+    let start = if random.one_in(2) { random.below(last + 1) } else { last };
+    let case = with_text(&mut random, &book, start);
+    if random.one_in(16) {
+        return Case { book: books::damaged(&mut random, &case.book), ..case };
+    }
+    case
+}
+
+fn with_text(random: &mut Random, book: &Book, start: usize) -> Case {
+    let text = texts::text(random, book, start);
     Case { book: book.bytes(), text, start: start as u32, allowance: SMALL_ALLOWANCE }
 }
 
@@ -128,6 +145,16 @@ pub fn compare_with_vectors(worker: &mut Worker, vectors: &[Vector], counts: &mu
 
 fn show(what: &str, case: &Case) {
     println!("{what}: start {} book {} text {:?}", case.start, hexadecimal(&case.book), String::from_utf8_lossy(&case.text));
+}
+
+/// Books with binders: all short texts of some, and random cases.
+pub fn binders(sides: &mut Sides, seed: u64, random: u64) -> Counts {
+    let mut counts = Counts::default();
+    for exhaustive in fixed::BINDERS {
+        compare(sides, exhaustive.cases(), &mut counts);
+    }
+    compare(sides, (0..random).map(|number| binder_case(seed, number)), &mut counts);
+    counts
 }
 
 /// Rows, all short texts of some books and of all small ones, and random cases.

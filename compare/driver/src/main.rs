@@ -18,6 +18,7 @@ use case::{of_hexadecimal, Case, Sides};
 use worker::Worker;
 
 const USAGE: &str = "all SEED CASES        compares fixed cases and so many random ones
+binders SEED CASES     compares fixed cases and so many random ones of books with binders
 case BOOK TEXT [START] compares one case; the book in hexadecimal
 vectors FILE..         compares the books and texts of files of vectors
 rust-vectors FILE..    compares the Rust alone with the answers of files of vectors
@@ -30,6 +31,7 @@ fn main() {
     match words[..] {
         ["worker"] => worker::work(),
         ["all", seed, cases] => all(seed.parse().expect("a number"), cases.parse().expect("a number")),
+        ["binders", seed, cases] => finish(comparison::binders(&mut Sides::new(), seed.parse().expect("a number"), cases.parse().expect("a number"))),
         ["list", seed, path] => list::write(&mut Sides::new(), seed.parse().expect("a number"), path),
         ["vectors", ref files @ ..] => vectors(files),
         ["rust-vectors", ref files @ ..] => rust_vectors(files),
