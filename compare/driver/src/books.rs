@@ -1,6 +1,6 @@
 //! Random books: every step kind, mark, level and associativity; direct, indirect and hidden left recursion; variants without steps.
 use crate::random::Random;
-use oracle::book::{Book, Entry, Nonterminal, Step, Variant, BOTH, CLAIMS, COMMITTED, DEFAULT_LEVEL, IDENTIFIER, PASSING, PLAIN};
+use oracle::book::{Book, Entry, Nonterminal, Step, Variant, BINDER, BOTH, CLAIMS, COMMITTED, DEFAULT_LEVEL, IDENTIFIER, PASSING, PLAIN};
 
 /// Characters of books: operators, brackets, and some that are also parts of tokens, of comments or of lists.
 pub const CHARACTERS: &[u8] = b"-+*-+*()[],;=!/1a";
@@ -8,12 +8,16 @@ pub const CHARACTERS: &[u8] = b"-+*-+*()[],;=!/1a";
 /// Spellings of words and names; some are both, and some are the beginning of another.
 pub const SPELLINGS: &[&str] = &["a", "b", "ab", "x", "if", "in", "_", "a1", "a_long_spelling"];
 
-/// The most words, and the most names, of a book.
+/// Openings and closings of binders: the Rust's own, others, alike ones, and some that are also parts of tokens or of lists.
+const BINDER_CHARACTERS: &[&[u8; 2]] = &[b"<>", b"<>", b"<>", b"[]", b"()", b"||", b"[,", b",]", b"<-", b"a)"];
+
+/// The most words, and the most names, of a book; and the most nonterminals.
 const MOST_ENTRIES: usize = 64;
+const MOST_NONTERMINALS: usize = 32;
 
 pub fn book(random: &mut Random) -> Book {
     let most = match random.below(16) {
-        0 => 32,
+        0 => MOST_NONTERMINALS,
         1..=4 => 5,
         _ => 3,
     };
@@ -149,6 +153,74 @@ fn step(random: &mut Random, book: &Book, of: usize) -> Step {
         }
         kind @ 6..=7 => [kind as u8, 0, 0, 0],
         _ => token(random, book),
+    }
+}
+
+/// A random book with words for kinds before its own, and with binders.
+pub fn with_binders(random: &mut Random) -> Book {
+    let mut book = if random.one_in(2) { book(random) } else { of_variables(random) };
+    let kinds = if random.one_in(16) { random.below(10) } else { random.between(1, 3) };
+    let word = |random: &mut Random| Entry { label: random.one_in(3) as u8, spelling: random.pick(SPELLINGS).into() };
+    let words: Vec<Entry> = (0..kinds).map(|_| word(random)).collect();
+    book.words.splice(0..0, words);
+    book.words.truncate(MOST_ENTRIES);
+    for _ in 0..random.between(1, 3) {
+        if book.nonterminals.len() < MOST_NONTERMINALS {
+            add_binder(random, &mut book);
+        }
+    }
+    book
+}
+
+/// Nonterminal 0 is a variable or something else; 1 an identifier nonterminal.
+fn of_variables(random: &mut Random) -> Book {
+    let mut book = Book { words: vec![], names: entries(random, 3), nonterminals: vec![] };
+    let mark = if random.one_in(3) { CLAIMS } else { PLAIN };
+    let variable = with_precedence(random, vec![[4, 0, 0, 0]]);
+    let variants = vec![variable, variant(random, &book, 0, 2)];
+    book.nonterminals = vec![Nonterminal { mark, variants }, Nonterminal { mark: IDENTIFIER, variants: vec![] }];
+    book
+}
+
+/// A further nonterminal, a binder of one of those before it, which mostly gets variants for what is declared. Some uses become uses of the binder.
+fn add_binder(random: &mut Random, book: &mut Book) {
+    let binder = book.nonterminals.len() as u8;
+    let mut body = random.below(book.nonterminals.len());
+    if book.nonterminals[body].mark == IDENTIFIER {
+        body = random.below(book.nonterminals.len());
+    }
+    for steps in [use_of_name(random), use_of_binder(random, binder)] {
+        if matches!(book.nonterminals[body].mark, PLAIN | CLAIMS) && !random.one_in(4) {
+            let variant = with_precedence(random, steps);
+            book.nonterminals[body].variants.push(variant);
+        }
+    }
+    for step in book.nonterminals.iter_mut().flat_map(|n| &mut n.variants).flat_map(|v| &mut v.steps) {
+        if step[0] >= 8 && random.one_in(4) {
+            step[1] = binder;
+        }
+    }
+    let [open, close] = *random.pick(BINDER_CHARACTERS);
+    let variant = Variant { level: DEFAULT_LEVEL, associativity: BOTH, flags: COMMITTED, steps: vec![[14, body as u8, open, close]] };
+    book.nonterminals.push(Nonterminal { mark: BINDER, variants: vec![variant] });
+}
+
+/// Steps that read a declared name, or refuse one.
+fn use_of_name(random: &mut Random) -> Vec<Step> {
+    match random.below(6) {
+        0 => vec![[5, random.below(3) as u8, 0, 0]],
+        1 => vec![[6, 0, 0, 0], [2, 0, 0, 0]],
+        _ => vec![[4, 0, 0, 0]],
+    }
+}
+
+/// Steps that read a binder in a binder, or behind one what it declared.
+fn use_of_binder(random: &mut Random, binder: u8) -> Vec<Step> {
+    let operator = [0, random.byte(CHARACTERS), 0, 0];
+    match random.below(4) {
+        0 => vec![[8, binder, 0, 0], operator, [4, 0, 0, 0]],
+        1 => vec![[12, binder, b'(', b')']],
+        _ => vec![operator, [8, binder, 0, 0]],
     }
 }
 

@@ -32,7 +32,7 @@ pub enum Verdict {
         reader: Answer,
         rust: Answer,
     },
-    /// The reader met a limit, 20 to 23.
+    /// The reader met a limit, 20 to 23 or 41.
     Limit(u32),
     /// The reader refused the call, the book or the text, 1 to 11; the Rust has no such check.
     Refused(u32),
@@ -53,20 +53,21 @@ impl Sides {
     pub fn judge(&mut self, case: &Case) -> Verdict {
         match self.reader.call(&case.book, &case.text, case.start, case.allowance) {
             refusal @ 1..=11 => return Verdict::Refused(refusal),
-            refusal @ 20..=23 => return Verdict::Limit(refusal),
+            refusal @ (20..=23 | 41) => return Verdict::Limit(refusal),
             _ => (),
         }
-        let reader = self.reader.answer(&case.book, &case.text).sorted();
-        match self.worker.answer(&case.book, &case.text, case.start) {
+        self.worker.judge(case, self.reader.answer(&case.book, &case.text))
+    }
+}
+
+impl Worker {
+    /// The reader's answer to a case against the Rust's.
+    pub fn judge(&mut self, case: &Case, reader: Answer) -> Verdict {
+        let reader = reader.sorted();
+        match self.answer(&case.book, &case.text, case.start).map(Answer::sorted) {
             Err(why) => Verdict::WithoutAnswer(why),
-            Ok(rust) => {
-                let rust = rust.sorted();
-                if rust == reader {
-                    Verdict::Equal(rust)
-                } else {
-                    Verdict::Different { reader, rust }
-                }
-            }
+            Ok(rust) if rust == reader => Verdict::Equal(rust),
+            Ok(rust) => Verdict::Different { reader, rust },
         }
     }
 }

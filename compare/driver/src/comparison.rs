@@ -2,6 +2,8 @@
 use crate::case::{hexadecimal, Case, Sides, Verdict};
 use crate::random::Random;
 use crate::reader::MOST_WORK;
+use crate::vectors::Vector;
+use crate::worker::{Without, Worker};
 use crate::{books, fixed, shrink, small, texts};
 use oracle::book::Book;
 use std::collections::BTreeMap;
@@ -32,7 +34,24 @@ pub fn random_case(seed: u64, number: u64) -> Case {
 fn common(random: &mut Random) -> Case {
     let book = books::book(random);
     let start = if random.one_in(4) { random.below(book.nonterminals.len()) } else { 0 };
-    let text = texts::text(random, &book, start);
+    with_text(random, &book, start)
+}
+
+/// A random case of a book with binders; of sixteen, one is of a damaged book.
+pub fn binder_case(seed: u64, number: u64) -> Case {
+    let mut random = Random::new(seed, number);
+    let book = books::with_binders(&mut random);
+    let last = book.nonterminals.len() - 1;
+    let start = if random.one_in(2) { random.below(last + 1) } else { last };
+    let case = with_text(&mut random, &book, start);
+    if random.one_in(16) {
+        return Case { book: books::damaged(&mut random, &case.book), ..case };
+    }
+    case
+}
+
+fn with_text(random: &mut Random, book: &Book, start: usize) -> Case {
+    let text = texts::text(random, book, start);
     Case { book: book.bytes(), text, start: start as u32, allowance: SMALL_ALLOWANCE }
 }
 
@@ -42,7 +61,7 @@ pub struct Counts {
     different: usize,
     limit: BTreeMap<u32, usize>,
     refused: BTreeMap<u32, usize>,
-    without: BTreeMap<crate::worker::Without, usize>,
+    without: BTreeMap<Without, usize>,
     step_kinds: BTreeMap<u8, usize>,
     reserved_names: BTreeMap<u32, usize>,
     most_parses: usize,
@@ -107,8 +126,35 @@ pub fn compare(sides: &mut Sides, cases: impl Iterator<Item = Case>, counts: &mu
     }
 }
 
+/// The Rust alone against the answers of vectors.
+pub fn compare_with_vectors(worker: &mut Worker, vectors: &[Vector], counts: &mut Counts) {
+    for vector in vectors {
+        let case = &vector.case;
+        let verdict = vector.judge(worker);
+        counts.count(case, &verdict);
+        match verdict {
+            Verdict::Different { reader, rust } => {
+                show("different", case);
+                println!("  vector {reader:?}\n  Rust   {rust:?}");
+            }
+            Verdict::WithoutAnswer(why) => show(&format!("{why:?}"), case),
+            _ => (),
+        }
+    }
+}
+
 fn show(what: &str, case: &Case) {
     println!("{what}: start {} book {} text {:?}", case.start, hexadecimal(&case.book), String::from_utf8_lossy(&case.text));
+}
+
+/// Books with binders: all short texts of some, and random cases.
+pub fn binders(sides: &mut Sides, seed: u64, random: u64) -> Counts {
+    let mut counts = Counts::default();
+    for exhaustive in fixed::BINDERS {
+        compare(sides, exhaustive.cases(), &mut counts);
+    }
+    compare(sides, (0..random).map(|number| binder_case(seed, number)), &mut counts);
+    counts
 }
 
 /// Rows, all short texts of some books and of all small ones, and random cases.

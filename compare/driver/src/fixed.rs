@@ -98,6 +98,33 @@ impl Exhaustive {
     }
 }
 
+/// The same over tokens.
+pub struct OverTokens {
+    pub book: &'static str,
+    pub tokens: &'static [&'static str],
+    pub longest: usize,
+}
+
+pub const BINDERS: &[OverTokens] = &[
+    // 0 is a binder of 1; 1 is a variable, `-` and 0, or, left recursion through an absent opening, 0, `+` and a number. The name `a` is also a starting name,
+    // and the kind's word `u` reserved
+    OverTokens { book: "02 00 01 74 01 01 75 01 00 01 61 02 03 01 00 03 04 FF030101 FF030101 01000102 02000103 07 0E013C3E 04000000 002D0000 08000000 08000000 002B0000 03000000", tokens: &["<", "t a", "u b", ",", ">", "a", "b", "-", "+1"], longest: 5 },
+    // the closing is a comma. 0 is a binder of 1; 1 claims, and is an identifier nonterminal, a variable of kind 1, or a list of 0
+    OverTokens { book: "02 00 01 74 01 01 75 01 01 01 61 03 03 01 01 03 02 00 04 FF030101 FF030301 FF030101 FF030101 04 0E015B2C 08020000 05010000 0C002829", tokens: &["[", "t a", "u a", ",", "a", "b", "(", ")"], longest: 5 },
+    // opening and closing are alike. 0 is a binder of 1, 1 of 2; 2 is a variable, or an identifier that is none
+    OverTokens { book: "01 00 01 74 00 03 03 01 03 01 00 02 04 FF030101 FF030101 FF030101 FF030102 05 0E017C7C 0E027C7C 04000000 06000000 02000000", tokens: &["|", "t a", "t b", ",", "a", "b"], longest: 6 },
+    // 0 is a binder of 1; 1 is 0 `-` 0, or a number
+    OverTokens { book: "01 00 01 74 00 02 03 01 00 02 03 FF030101 01000103 FF030101 05 0E013C3E 08000000 002D0000 08000000 03000000", tokens: &["<", "t a", ">", "1", "-"], longest: 6 },
+];
+
+impl OverTokens {
+    pub fn cases(&self) -> impl Iterator<Item = Case> {
+        let book = of_hexadecimal(self.book);
+        let texts = sequences(self.tokens, self.longest).into_iter().map(|tokens| tokens.concat().into_bytes());
+        texts.map(move |text| Case { book: book.clone(), text, start: 0, allowance: MOST_WORK })
+    }
+}
+
 /// A book for long texts, what stands between its numbers, and the most numbers.
 pub struct Long {
     pub book: Vec<u8>,

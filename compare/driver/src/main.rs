@@ -11,13 +11,17 @@ mod self_test;
 mod shrink;
 mod small;
 mod texts;
+mod vectors;
 mod worker;
 
 use case::{of_hexadecimal, Case, Sides};
+use worker::Worker;
 
 const USAGE: &str = "all SEED CASES        compares fixed cases and so many random ones
+binders SEED CASES     compares fixed cases and so many random ones of books with binders
 case BOOK TEXT [START] compares one case; the book in hexadecimal
 vectors FILE..         compares the books and texts of files of vectors
+rust-vectors FILE..    compares the Rust alone with the answers of files of vectors
 list SEED FILE         writes the fixed list with the Rust's answers
 bench SEED             times both sides on rules of the example book";
 
@@ -27,8 +31,10 @@ fn main() {
     match words[..] {
         ["worker"] => worker::work(),
         ["all", seed, cases] => all(seed.parse().expect("a number"), cases.parse().expect("a number")),
+        ["binders", seed, cases] => finish(comparison::binders(&mut Sides::new(), seed.parse().expect("a number"), cases.parse().expect("a number"))),
         ["list", seed, path] => list::write(&mut Sides::new(), seed.parse().expect("a number"), path),
         ["vectors", ref files @ ..] => vectors(files),
+        ["rust-vectors", ref files @ ..] => rust_vectors(files),
         ["bench", seed] => bench::run(seed.parse().expect("a number")),
         ["case", book, text] => one(book, text, 0),
         ["case", book, text, start] => one(book, text, start.parse().expect("a number")),
@@ -45,23 +51,22 @@ fn all(seed: u64, cases: u64) {
     finish(comparison::whole(&mut sides, seed, cases));
 }
 
-/// Of each vector, one JSON object a line, its call alone.
+/// Of each vector its call alone.
 fn vectors(files: &[&str]) {
     let mut counts = comparison::Counts::default();
     for file in files {
-        let lines = std::fs::read_to_string(file).expect("a file of vectors");
-        comparison::compare(&mut Sides::new(), lines.lines().map(vector), &mut counts);
+        let cases = vectors::of(file).into_iter().map(|vector| vector.case);
+        comparison::compare(&mut Sides::new(), cases, &mut counts);
     }
     finish(counts);
 }
 
-fn vector(line: &str) -> Case {
-    let field = |name: &str| {
-        let after = line.split(&format!("\"{name}\":")).nth(1).expect(name);
-        after.split([',', '}']).next().unwrap().trim().trim_matches('"')
-    };
-    let number = |name| field(name).parse().expect("a number");
-    Case { book: of_hexadecimal(field("book")), text: of_hexadecimal(field("text")), start: number("start"), allowance: number("allowance") }
+fn rust_vectors(files: &[&str]) {
+    let mut counts = comparison::Counts::default();
+    for file in files {
+        comparison::compare_with_vectors(&mut Worker::default(), &vectors::of(file), &mut counts);
+    }
+    finish(counts);
 }
 
 fn finish(counts: comparison::Counts) {

@@ -82,7 +82,7 @@ impl Reader {
         Answer {
             refusal,
             place: if refusal == 30 { place } else { 0 },
-            parses: parses.map(|p| Parse { rest: p[0], level: p[1], associativity: p[2], value: self.value(text, p[3]).exact() }).collect(),
+            parses: parses.map(|p| Parse { rest: p[0], level: p[1], associativity: p[2], value: value(&self.cells, text, p[3]).exact() }).collect(),
             value: if refusal == 0 { self.printed(book, text, LINE) } else { String::new() },
         }
     }
@@ -104,32 +104,37 @@ impl Reader {
         let line = std::str::from_utf8(&line[..size]).expect("a line is ASCII");
         line.strip_prefix("value ").and_then(|value| value.strip_suffix('\n')).expect("a line with a value").to_string()
     }
+}
 
-    /// What a cell stands for.
-    fn value(&self, text: &[u8], cell: u32) -> Value {
-        let at = 3 * cell as usize - 3;
-        let (form, a, b) = (self.cells[at], self.cells[at + 1], self.cells[at + 2]);
-        match form {
-            3 => Value::Variant(a, self.items(text, b).into()),
-            4 => Value::Name(String::from_utf8_lossy(&text[a as usize..(a + b) as usize]).into()),
-            5 => Value::Number((a as u64) << 32 | b as u64),
-            6 => Value::Variable { name: a, kind: b },
-            7 => Value::Absent,
-            8 => Value::List(self.items(text, a).into()),
-            _ => panic!("cell {cell} of form {form} is no value"),
-        }
+/// What a cell stands for.
+pub fn value(cells: &[u32], text: &[u8], cell: u32) -> Value {
+    let [form, a, b] = numbers(cells, cell);
+    match form {
+        3 => Value::Variant(a, items(cells, text, b).into()),
+        4 => Value::Name(String::from_utf8_lossy(&text[a as usize..(a + b) as usize]).into()),
+        5 => Value::Number((a as u64) << 32 | b as u64),
+        6 => Value::Variable { name: a, kind: b },
+        7 => Value::Absent,
+        8 => Value::List(items(cells, text, a).into()),
+        9 => Value::Declared { depth: a, index: b },
+        _ => panic!("cell {cell} of form {form} is no value"),
     }
+}
 
-    /// The items of a chain, which is linked from its last item to the first.
-    fn items(&self, text: &[u8], chain: u32) -> Vec<Value> {
-        let mut items = Vec::new();
-        let mut at = 3 * chain as usize - 3;
-        while self.cells[at] == 2 {
-            items.push(self.value(text, self.cells[at + 2]));
-            at = 3 * self.cells[at + 1] as usize - 3;
-        }
-        assert_eq!(self.cells[at], 1, "a chain ends with the empty one");
-        items.reverse();
-        items
+/// The items of a chain, which is linked from its last item to the first.
+fn items(cells: &[u32], text: &[u8], mut chain: u32) -> Vec<Value> {
+    let mut items = Vec::new();
+    while let [2, before, item] = numbers(cells, chain) {
+        items.push(value(cells, text, item));
+        chain = before;
     }
+    assert_eq!(numbers(cells, chain)[0], 1, "a chain ends with the empty one");
+    items.reverse();
+    items
+}
+
+/// A cell's three numbers; of a list whose zeros at the end are left out, too.
+fn numbers(cells: &[u32], cell: u32) -> [u32; 3] {
+    let at = 3 * cell as usize - 3;
+    [at, at + 1, at + 2].map(|at| cells.get(at).copied().unwrap_or(0))
 }

@@ -2,7 +2,7 @@
 use crate::books::{CHARACTERS, SPELLINGS};
 use crate::fixed::Long;
 use crate::random::Random;
-use oracle::book::{Book, IDENTIFIER};
+use oracle::book::{Book, Variant, IDENTIFIER};
 
 const NUMBERS: &[&str] = &["0", "1", "2", "12", "007", "18446744073709551615", "18446744073709551616"];
 const GAPS: &[&str] = &[" ", "  ", "\n", "\t", "//\n", " // c\n ", "\x0b\x0c\r", "// 1 - //\n//\n"];
@@ -16,7 +16,7 @@ pub fn text(random: &mut Random, book: &Book, start: usize) -> Vec<u8> {
         0 => (0..random.below(8)).map(|_| any_token(random, book)).collect(),
         _ => derived(random, book, start),
     };
-    let mut text = joined(random, &tokens);
+    let mut text = (joined(random, &tokens) + random.pick(ENDS)).into_bytes();
     if random.one_in(3) {
         damage(random, &mut text);
     }
@@ -24,8 +24,8 @@ pub fn text(random: &mut Random, book: &Book, start: usize) -> Vec<u8> {
     text
 }
 
-/// The tokens with gaps between some, and perhaps a gap before and behind.
-fn joined(random: &mut Random, tokens: &[String]) -> Vec<u8> {
+/// The tokens with gaps between some, and perhaps a gap before.
+fn joined(random: &mut Random, tokens: &[String]) -> String {
     let often = random.between(2, 8);
     let mut text = String::new();
     for token in tokens {
@@ -35,8 +35,7 @@ fn joined(random: &mut Random, tokens: &[String]) -> Vec<u8> {
         }
         text += token;
     }
-    text += random.pick(ENDS);
-    text.into_bytes()
+    text
 }
 
 fn is_wordy(c: char) -> bool {
@@ -70,7 +69,7 @@ fn any_token(random: &mut Random, book: &Book) -> String {
             let steps: Vec<_> = book.nonterminals.iter().flat_map(|n| &n.variants).flat_map(|v| &v.steps).collect();
             match steps.get(random.below(steps.len() + 1)) {
                 Some([0, a, ..]) => (*a as char).to_string(),
-                Some([12 | 13, _, b, c]) => (if random.one_in(2) { *b } else { *c } as char).to_string(),
+                Some([12..=14, _, b, c]) => (if random.one_in(2) { *b } else { *c } as char).to_string(),
                 Some([3, ..]) => number(random),
                 _ => spelling(random, book),
             }
@@ -89,20 +88,28 @@ fn spelling(random: &mut Random, book: &Book) -> String {
 
 /// Tokens of a random derivation, cut off where it grows too deep.
 fn derived(random: &mut Random, book: &Book, start: usize) -> Vec<String> {
-    let mut tokens = Vec::new();
+    let mut derived = Derived::default();
     let deepest = random.between(2, 7);
-    use_of(random, book, start, deepest, &mut tokens);
-    tokens
+    use_of(random, book, start, deepest, &mut derived);
+    derived.tokens
+}
+
+/// The tokens so far, and all names that were declared in them.
+#[derive(Default)]
+struct Derived {
+    tokens: Vec<String>,
+    declared: Vec<String>,
 }
 
 const MOST_TOKENS: usize = 40;
 
-fn use_of(random: &mut Random, book: &Book, n: usize, depth: usize, tokens: &mut Vec<String>) {
+fn use_of(random: &mut Random, book: &Book, n: usize, depth: usize, derived: &mut Derived) {
     let nonterminal = &book.nonterminals[n];
     if nonterminal.mark == IDENTIFIER {
-        return tokens.push(spelling(random, book));
+        let name = name(random, book, derived);
+        return derived.tokens.push(name);
     }
-    if nonterminal.variants.is_empty() || tokens.len() > MOST_TOKENS {
+    if nonterminal.variants.is_empty() || derived.tokens.len() > MOST_TOKENS {
         return;
     }
     // few uses where little depth is left
@@ -114,47 +121,113 @@ fn use_of(random: &mut Random, book: &Book, n: usize, depth: usize, tokens: &mut
             chosen = other;
         }
     }
+    if !derived.declared.is_empty() && random.one_in(2) {
+        let reads_variable = |v: &Variant| matches!(v.steps[..], [[4 | 5, ..]]);
+        chosen = nonterminal.variants.iter().position(reads_variable).unwrap_or(chosen);
+    }
     if depth == 0 && uses(chosen) > 0 {
         return;
     }
     for step in &nonterminal.variants[chosen].steps {
-        take(random, book, step, depth, tokens);
+        take(random, book, step, depth, derived);
     }
 }
 
-fn take(random: &mut Random, book: &Book, step: &[u8; 4], depth: usize, tokens: &mut Vec<String>) {
+fn take(random: &mut Random, book: &Book, step: &[u8; 4], depth: usize, derived: &mut Derived) {
     let [kind, a, b, c] = *step;
-    let character = |c: u8| (c as char).to_string();
-    let child = |random: &mut Random, tokens: &mut Vec<String>| use_of(random, book, a as usize, depth.saturating_sub(1), tokens);
+    let child = |random: &mut Random, derived: &mut Derived| use_of(random, book, a as usize, depth.saturating_sub(1), derived);
     match kind {
-        0 => tokens.push(character(a)),
-        1 => tokens.push(book.words[a as usize].spelling.clone()),
-        2 | 4 | 5 => tokens.push(spelling(random, book)),
-        3 => tokens.push(number(random)),
-        8 => child(random, tokens),
-        9 if random.one_in(2) => child(random, tokens),
-        10 => (0..random.below(4)).for_each(|_| child(random, tokens)),
+        0 => derived.tokens.push(character(a)),
+        1 => derived.tokens.push(book.words[a as usize].spelling.clone()),
+        2 | 4 | 5 => {
+            let name = name(random, book, derived);
+            derived.tokens.push(name);
+        }
+        3 => derived.tokens.push(number(random)),
+        8 => child(random, derived),
+        9 if random.one_in(2) => child(random, derived),
+        10 => (0..random.below(4)).for_each(|_| child(random, derived)),
         11 | 12 | 13 => {
             let delimited = kind == 12 || kind == 13 && random.one_in(2);
             if kind == 13 && !delimited {
                 return;
             }
             if delimited {
-                tokens.push(character(b));
+                derived.tokens.push(character(b));
             }
             let count = random.below(4);
             for i in 0..count {
-                child(random, tokens);
+                child(random, derived);
                 if i + 1 < count || random.one_in(4) {
-                    tokens.push(",".into());
+                    derived.tokens.push(",".into());
                 }
             }
             if delimited {
-                tokens.push(character(c));
+                derived.tokens.push(character(c));
             }
+        }
+        14 => {
+            if !random.one_in(4) {
+                opening(random, book, [b, c], derived);
+            }
+            child(random, derived);
         }
         _ => (),
     }
+}
+
+fn character(c: u8) -> String {
+    (c as char).to_string()
+}
+
+/// A name, where some are declared mostly one of those: also behind its scope.
+fn name(random: &mut Random, book: &Book, derived: &Derived) -> String {
+    if derived.declared.is_empty() || random.one_in(3) {
+        return spelling(random, book);
+    }
+    derived.declared[random.below(derived.declared.len())].clone()
+}
+
+/// A binder's opening, names and closing, as one token.
+fn opening(random: &mut Random, book: &Book, [open, close]: [u8; 2], derived: &mut Derived) {
+    let count = match random.below(24) {
+        0 => random.between(60, 70),
+        1..=3 => 0,
+        _ => random.between(1, 3),
+    };
+    let often = if count > 3 { 400 } else { 16 };
+    let mut tokens = vec![character(open)];
+    for i in 0..count {
+        let name = declared_name(random, book, often);
+        tokens.extend([kind_word(random, book, often), name.clone()]);
+        derived.declared.push(name);
+        if i + 1 < count || random.one_in(4) {
+            tokens.push(",".into());
+        }
+    }
+    if !random.one_in(24) {
+        tokens.push(character(close));
+    }
+    derived.tokens.push(joined(random, &tokens));
+}
+
+/// The word of a kind, but one time in so many any spelling.
+fn kind_word(random: &mut Random, book: &Book, often: usize) -> String {
+    let kinds = &book.words[..book.words.len().min(8)];
+    if kinds.is_empty() || random.one_in(often) {
+        return spelling(random, book);
+    }
+    kinds[random.below(kinds.len())].spelling.clone()
+}
+
+/// A name that isn't reserved, but one time in so many any spelling.
+fn declared_name(random: &mut Random, book: &Book, often: usize) -> String {
+    let is_reserved = |name: &str| book.words.iter().any(|w| w.label == 1 && w.spelling == name);
+    let free: Vec<&str> = SPELLINGS.iter().copied().filter(|name| !is_reserved(name)).collect();
+    if free.is_empty() || random.one_in(often) {
+        return spelling(random, book);
+    }
+    random.pick(&free).into()
 }
 
 /// A long text: many numbers, deep parentheses, long stretches of skipped text.

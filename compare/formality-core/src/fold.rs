@@ -1,4 +1,5 @@
-//! Stands for the module fold: substitution in terms. No book has binders, so nothing is ever substituted.
+//! Stands for the module fold: substitution in terms, by which a binder binds its variables.
+use crate::cast::Upcast;
 use crate::language::{CoreParameter, Language};
 use crate::variable::CoreVariable;
 use crate::visit::CoreVisit;
@@ -11,7 +12,7 @@ pub trait CoreFold<L: Language>: Sized + CoreVisit<L> {
     fn substitute(&self, substitution_fn: SubstitutionFn<'_, L>) -> Self::Output;
 
     fn shift_in(&self) -> Self::Output {
-        self.substitute(&mut |_| None)
+        self.substitute(&mut |v| Some(v.shift_in().upcast()))
     }
 }
 

@@ -1,8 +1,9 @@
-//! A rule book, read from its bytes and written to them. Document 01, "The book".
+//! A rule book, read from its bytes and written to them. Document 01, "The book", and document 02 d.
 
 pub const PLAIN: u8 = 0;
 pub const CLAIMS: u8 = 1;
 pub const IDENTIFIER: u8 = 2;
+pub const BINDER: u8 = 3;
 
 /// The level that stands for the Rust's default precedence.
 pub const DEFAULT_LEVEL: u8 = 255;

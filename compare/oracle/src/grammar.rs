@@ -1,9 +1,12 @@
 //! A book as a grammar of the Rust: one type for each nonterminal number, and each step by the Rust's own method.
+use crate::binder::{self, Body};
 use crate::book::{self, Book, Step};
-use crate::value::Value;
+use crate::term::Term;
 use formality_core::fold::{CoreFold, SubstitutionFn};
 use formality_core::language::{HasKind, Language};
-use formality_core::parse::{ActiveVariant, Binding, CoreParse, CoreParseBinding, ParseError, ParseResult, Parser, Precedence, Scope};
+use formality_core::parse::{
+    ActiveVariant, Binding, CoreParse, CoreParseBinding, ParseError, ParseResult, ParseSuccessType, Parser, Precedence, Scope,
+};
 use formality_core::term::CoreTerm;
 use formality_core::variable::{CoreBoundVar, CoreExistentialVar, CoreUniversalVar, CoreVariable, VarIndex};
 use formality_core::visit::CoreVisit;
@@ -11,7 +14,7 @@ use formality_core::{cast_impl, Set, UpcastFrom};
 use std::cell::RefCell;
 use std::rc::Rc;
 
-type Variable = CoreVariable<Books>;
+pub type Variable = CoreVariable<Books>;
 
 thread_local! {
     static BOOK: RefCell<Rc<Book>> = RefCell::default();
@@ -21,6 +24,11 @@ thread_local! {
 pub fn set_book(book: &Rc<Book>) {
     set_keywords(book);
     BOOK.set(book.clone());
+}
+
+/// The grammar of this thread.
+pub fn book() -> Rc<Book> {
+    BOOK.with_borrow(Rc::clone)
 }
 
 /// The book's starting names as the scope's bindings.
@@ -97,9 +105,9 @@ pub struct Kind(pub u8);
 
 cast_impl!(Kind);
 
-/// What a variable may be replaced by: a language must have it, and no book uses it.
+/// What a variable may be replaced by: in a book, a variable.
 #[derive(Clone, PartialEq, Eq, PartialOrd, Ord, Hash, Debug)]
-pub struct Parameter(Variable);
+pub struct Parameter(pub Variable);
 
 cast_impl!(Parameter);
 
@@ -109,15 +117,28 @@ impl HasKind<Books> for Parameter {
     }
 }
 
-/// A variable's name may be a reserved word (document 02 f); the trait's own body is `identifier`, which refuses them.
 impl CoreParseBinding<Books> for Parameter {
+    /// A kind's word and an identifier (document 02 d).
     fn parse_binding<'t>(scope: &Scope<Books>, text: &'t str) -> ParseResult<'t, Binding<Books>> {
-        formality_core::parse::default_binding_parse(scope, text)
+        let book = book();
+        Parser::single_variant(scope, text, "Binding", |p| {
+            let kind = kind(p, &book)?;
+            let name = p.identifier()?;
+            p.ok(Binding { name, bound_var: CoreBoundVar::fresh(kind) })
+        })
     }
 
+    /// A variable's name may be a reserved word (document 02 f); the trait's own body is `identifier`, which refuses them.
     fn parse_variable_name<'t>(p: &mut ActiveVariant<'_, 't, Books>) -> Result<String, Set<ParseError<'t>>> {
         p.identifier_like_string()
     }
+}
+
+/// The least of the kinds 0 to 7 whose word, that of the same number, stands here.
+fn kind<'t>(p: &mut ActiveVariant<'_, 't, Books>, book: &Book) -> Result<Kind, Set<ParseError<'t>>> {
+    let mut words = (0..8).zip(&book.words);
+    let found = words.find(|(_, word)| p.expect_keyword(&word.spelling).is_ok());
+    found.map(|(kind, _)| Kind(kind)).ok_or_else(|| ParseError::at(p.text(), "kind expected".into()))
 }
 
 macro_rules! parameter_from {
@@ -132,10 +153,10 @@ macro_rules! parameter_from {
 
 parameter_from!(CoreVariable, CoreUniversalVar, CoreExistentialVar, CoreBoundVar);
 
-/// Kinds and parameters are terms, but no book has a step that reads one.
-macro_rules! unread_term {
-    ($($term:ident),*) => {
-        $(impl CoreVisit<Books> for $term {
+/// What a term can do and no parse asks for.
+macro_rules! unvisited {
+    ($(($($parameters:tt)*) $term:ty),*) => {
+        $(impl<$($parameters)*> CoreVisit<Books> for $term {
             fn free_variables(&self) -> Vec<Variable> {
                 vec![]
             }
@@ -145,17 +166,32 @@ macro_rules! unread_term {
             }
 
             fn assert_valid(&self) {}
-        }
+        })*
+    };
+}
 
-        impl CoreFold<Books> for $term {
-            type Output = Self;
+unvisited!(() Kind, () Parameter, () Term, (const N: usize) Body<N>);
 
-            fn substitute(&self, _: SubstitutionFn<'_, Books>) -> Self {
-                self.clone()
-            }
-        }
+impl CoreFold<Books> for Kind {
+    type Output = Self;
 
-        impl CoreParse<Books> for $term {
+    fn substitute(&self, _: SubstitutionFn<'_, Books>) -> Self {
+        *self
+    }
+}
+
+impl CoreFold<Books> for Parameter {
+    type Output = Self;
+
+    fn substitute(&self, substitution: SubstitutionFn<'_, Books>) -> Self {
+        substitution(self.0).unwrap_or(self.clone())
+    }
+}
+
+/// Kinds and parameters are terms, but no book has a step that reads one.
+macro_rules! unread_term {
+    ($($term:ident),*) => {
+        $(impl CoreParse<Books> for $term {
             fn parse<'t>(scope: &Scope<Books>, text: &'t str) -> ParseResult<'t, Self> {
                 Parser::multi_variant(scope, text, stringify!($term), |_| {})
             }
@@ -168,40 +204,36 @@ macro_rules! unread_term {
 unread_term!(Kind, Parameter);
 
 // ---- Nonterminals
-/// A value of nonterminal N. The number in the type makes each nonterminal's `TypeId` its own.
+/// A term of nonterminal N. The number in the type makes each nonterminal's `TypeId` its own.
 #[derive(Clone, Debug, PartialEq, Eq, PartialOrd, Ord)]
-pub struct Nonterminal<const N: usize>(pub Value);
+pub struct Nonterminal<const N: usize>(pub Term);
 
 impl<const N: usize> UpcastFrom<Nonterminal<N>> for Nonterminal<N> {
-    fn upcast_from(value: Self) -> Self {
-        value
+    fn upcast_from(term: Self) -> Self {
+        term
     }
 }
 
-impl<const N: usize> UpcastFrom<Value> for Nonterminal<N> {
-    fn upcast_from(value: Value) -> Self {
-        Nonterminal(value)
+impl<const N: usize> UpcastFrom<Term> for Nonterminal<N> {
+    fn upcast_from(term: Term) -> Self {
+        Nonterminal(term)
     }
 }
 
 impl<const N: usize> From<String> for Nonterminal<N> {
     fn from(spelling: String) -> Self {
-        Nonterminal(Value::Name(spelling.into()))
-    }
-}
-
-impl UpcastFrom<Value> for Value {
-    fn upcast_from(value: Value) -> Self {
-        value
+        Nonterminal(Term::Name(spelling.into()))
     }
 }
 
 impl<const N: usize> CoreParse<Books> for Nonterminal<N> {
     fn parse<'t>(scope: &Scope<Books>, text: &'t str) -> ParseResult<'t, Self> {
-        let book = BOOK.with_borrow(Rc::clone);
+        let book = book();
         let nonterminal = &book.nonterminals[N];
-        if nonterminal.mark == book::IDENTIFIER {
-            return Parser::identifier_nonterminal(scope, text, "identifier");
+        match nonterminal.mark {
+            book::IDENTIFIER => return Parser::identifier_nonterminal(scope, text, "identifier"),
+            book::BINDER => return binder::parse(&book, scope, text),
+            _ => (),
         }
         Parser::multi_variant(scope, text, "nonterminal", |parser| {
             if nonterminal.mark == book::CLAIMS {
@@ -228,7 +260,7 @@ struct Path<'a> {
 
 /// The items so far, last first.
 struct Items<'a> {
-    item: Value,
+    item: Term,
     before: Option<&'a Items<'a>>,
 }
 
@@ -250,11 +282,21 @@ macro_rules! with_nonterminal {
 
 pub(crate) use with_nonterminal;
 
+/// The parses of a nonterminal by its number.
+pub fn parse<'t>(nonterminal: u8, scope: &Scope<Books>, text: &'t str) -> ParseResult<'t, Term> {
+    with_nonterminal!(nonterminal, N => mapped(Nonterminal::<N>::parse(scope, text), |child| child.0))
+}
+
+/// The parses with other values.
+pub fn mapped<'t, T, U: ParseSuccessType>(parses: ParseResult<'t, T>, op: impl Fn(T) -> U) -> ParseResult<'t, U> {
+    Ok(parses?.into_iter().map(|parse| parse.map(&op)).collect())
+}
+
 impl Path<'_> {
     /// Takes the steps that are left, and ends the variant.
-    fn steps<'t>(&self, p: &mut ActiveVariant<'_, 't, Books>, steps: &[Step], items: Option<&Items<'_>>) -> ParseResult<'t, Value> {
+    fn steps<'t>(&self, p: &mut ActiveVariant<'_, 't, Books>, steps: &[Step], items: Option<&Items<'_>>) -> ParseResult<'t, Term> {
         let Some((&step, rest)) = steps.split_first() else {
-            return p.ok(self.value(items));
+            return p.ok(self.term(items));
         };
         let [kind, a, ..] = step;
         match kind {
@@ -278,10 +320,10 @@ impl Path<'_> {
         [kind, _, open, close]: Step,
         rest: &[Step],
         items: Option<&Items<'_>>,
-    ) -> ParseResult<'t, Value> {
+    ) -> ParseResult<'t, Term> {
         match kind {
             8 => p.each_nonterminal(|child: Nonterminal<N>, p| self.added(p, rest, items, child.0)),
-            9 => p.each_opt_nonterminal(|child: Option<Nonterminal<N>>, p| self.added(p, rest, items, child.map_or(Value::Absent, |c| c.0))),
+            9 => p.each_opt_nonterminal(|child: Option<Nonterminal<N>>, p| self.added(p, rest, items, child.map_or(Term::Absent, |c| c.0))),
             10 => p.each_many_nonterminal(|list: Vec<Nonterminal<N>>, p| self.added(p, rest, items, listed(list))),
             11 => p.each_comma_nonterminal(|list: Vec<Nonterminal<N>>, p| self.added(p, rest, items, listed(list))),
             _ => p.each_delimited_nonterminal(open as char, kind == 13, close as char, |list: Vec<Nonterminal<N>>, p| {
@@ -291,36 +333,31 @@ impl Path<'_> {
     }
 
     /// The steps behind an item.
-    fn added<'t>(&self, p: &mut ActiveVariant<'_, 't, Books>, rest: &[Step], items: Option<&Items<'_>>, item: Value) -> ParseResult<'t, Value> {
+    fn added<'t>(&self, p: &mut ActiveVariant<'_, 't, Books>, rest: &[Step], items: Option<&Items<'_>>, item: Term) -> ParseResult<'t, Term> {
         self.steps(p, rest, Some(&Items { item, before: items }))
     }
 
-    /// The variant's value: its number and items, or, passing, its child's.
-    fn value(&self, items: Option<&Items<'_>>) -> Value {
+    /// The variant's term: its number and items, or, passing, its child's.
+    fn term(&self, items: Option<&Items<'_>>) -> Term {
         if self.variant.flags & book::PASSING != 0 {
             return items.expect("a passing variant has one child").item.clone();
         }
-        let mut listed: Vec<Value> = std::iter::successors(items, |i| i.before).map(|i| i.item.clone()).collect();
+        let mut listed: Vec<Term> = std::iter::successors(items, |i| i.before).map(|i| i.item.clone()).collect();
         listed.reverse();
-        Value::Variant(self.number as u32, listed.into())
+        Term::Variant(self.number as u32, listed.into())
     }
 }
 
 /// A token that is an item.
-fn token<'t>(p: &mut ActiveVariant<'_, 't, Books>, kind: u8, a: u8) -> Result<Value, Set<ParseError<'t>>> {
+fn token<'t>(p: &mut ActiveVariant<'_, 't, Books>, kind: u8, a: u8) -> Result<Term, Set<ParseError<'t>>> {
     Ok(match kind {
-        2 => Value::Name(p.identifier()?.into()),
-        3 => Value::Number(p.number()?),
-        4 => variable(p.variable()?),
-        _ => variable(p.variable_of_kind(Kind(a))?),
+        2 => Term::Name(p.identifier()?.into()),
+        3 => Term::Number(p.number()?),
+        4 => Term::Variable(p.variable()?),
+        _ => Term::Variable(p.variable_of_kind(Kind(a))?),
     })
 }
 
-fn variable(variable: Variable) -> Value {
-    let CoreVariable::UniversalVar(v) = variable else { unreachable!("the scope holds universal variables") };
-    Value::Variable { name: v.var_index.index as u32, kind: v.kind.0 as u32 }
-}
-
-fn listed<const N: usize>(list: Vec<Nonterminal<N>>) -> Value {
-    Value::List(list.into_iter().map(|t| t.0).collect())
+fn listed<const N: usize>(list: Vec<Nonterminal<N>>) -> Term {
+    Term::List(list.into_iter().map(|t| t.0).collect())
 }

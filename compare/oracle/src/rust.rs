@@ -32,7 +32,12 @@ fn parses<const N: usize>(book: &Book, text: &str) -> (u32, Vec<Parse>) {
             let parse = |p: SuccessfulParse<'_, Nonterminal<N>>| {
                 let precedence = p.precedence();
                 let (tree, rest) = p.finish();
-                Parse { rest: place(rest), level: grammar::level(precedence), associativity: precedence.associativity(), value: tree.0.exact() }
+                Parse {
+                    rest: place(rest),
+                    level: grammar::level(precedence),
+                    associativity: precedence.associativity(),
+                    value: tree.0.value().exact(),
+                }
             };
             (0, parses.into_iter().map(parse).collect())
         }
@@ -51,7 +56,7 @@ enum Whole {
 fn whole<const N: usize>(book: &Book, text: &str) -> (u32, Whole) {
     let done = catch_unwind(AssertUnwindSafe(|| core_term_with::<Books, Nonterminal<N>, _>(grammar::bindings(book), text)));
     match done {
-        Ok(Ok(tree)) => (0, Whole::Value(tree.0)),
+        Ok(Ok(tree)) => (0, Whole::Value(tree.0.value())),
         Ok(Err(error)) if error.0.starts_with("extra tokens after parsing") => (31, Whole::Nothing),
         Ok(Err(error)) => (30, Whole::Place(said_place(&error.0))),
         Err(panic) => {

@@ -1,7 +1,11 @@
 //! What the driver relies on and the Rust doesn't say, tested before anything is compared.
 use crate::answer::Answer;
-use crate::book::{Book, Entry, Nonterminal, Variant, BOTH, COMMITTED, DEFAULT_LEVEL, LEFT, NONE, RIGHT};
+use crate::binder::{parse_between, Bound};
+use crate::book::{Book, Entry, Nonterminal, Variant, BINDER, BOTH, COMMITTED, DEFAULT_LEVEL, LEFT, NONE, PLAIN, RIGHT};
 use crate::grammar;
+use crate::term::Term;
+use formality_core::parse::{CoreParse, Scope};
+use formality_core::variable::CoreVariable;
 use std::rc::Rc;
 
 pub fn test() {
@@ -9,6 +13,9 @@ pub fn test() {
     associativities();
     keywords();
     reserved_names();
+    binders();
+    binder_bodies();
+    binder_depths();
 }
 
 fn variant(level: u8, associativity: u8, steps: &[[u8; 4]]) -> Variant {
@@ -64,5 +71,78 @@ fn reserved_names() {
         let got = answer(book, "-if");
         let value = if refusal == 0 { "(0 $if)" } else { "" };
         assert_eq!((got.refusal, got.value.as_str()), (refusal, value), "kind {kind}");
+    }
+}
+
+fn binder(body: u8, open: u8, close: u8) -> Nonterminal {
+    Nonterminal { mark: BINDER, variants: vec![variant(DEFAULT_LEVEL, BOTH, &[[14, body, open, close]])] }
+}
+
+/// 0 is a binder of 1 between these characters; 1 is a variable, `-` and 0, or 0, `+` and a number. The words are `t` and `u`, a name is `a`.
+fn with_binder(open: u8, close: u8) -> Book {
+    let words = ["t", "u"].map(|word| Entry { label: 0, spelling: word.into() }).to_vec();
+    let names = vec![Entry { label: 0, spelling: "a".into() }];
+    let variants = vec![
+        variant(DEFAULT_LEVEL, BOTH, &[[4, 0, 0, 0]]),
+        variant(1, RIGHT, &[[0, b'-', 0, 0], [8, 0, 0, 0]]),
+        variant(1, LEFT, &[[8, 0, 0, 0], [0, b'+', 0, 0], [3, 0, 0, 0]]),
+    ];
+    let body = Nonterminal { mark: PLAIN, variants };
+    Book { words, names, nonterminals: vec![binder(1, open, close), body] }
+}
+
+/// Document 02 d: declared names, with the language's characters and with others.
+fn binders() {
+    let rows = [
+        ("a", "(0 - (1 $a))"),
+        ("<>a", "(0 [] (1 $a))"),
+        ("<t a>a", "(0 [0] (1 $0.0))"),
+        ("<t b, u a,>a", "(0 [0 1] (1 $0.1))"),
+        ("<u b, t b>b", "(0 [1 0] (1 $0.1))"),
+        ("<t b>-<>-<u c>b", "(0 [0] (2 (0 [] (2 (0 [1] (1 $2.0))))))"),
+        ("<t b>-a", "(0 [0] (2 (0 - (1 $a))))"),
+        ("<t b>-b", "(0 [0] (2 (0 - (1 $0.0))))"),
+    ];
+    for (text, value) in rows {
+        for [open, close] in [*b"<>", *b"||", *b"[)"] {
+            let text = text.replace('<', &char::from(open).to_string()).replace('>', &char::from(close).to_string());
+            let got = answer(with_binder(open, close), &text);
+            assert_eq!((got.refusal, got.value.as_str()), (0, value), "{text}");
+        }
+    }
+}
+
+/// With `<` and `>`, the Rust's `CoreBinder::parse` and its body here give the same parses and errors.
+fn binder_bodies() {
+    let book = Rc::new(with_binder(b'<', b'>'));
+    grammar::set_book(&book);
+    let scope = Scope::new(grammar::bindings(&book));
+    let mut texts = vec![String::new()];
+    for _ in 0..5 {
+        texts = texts.iter().flat_map(|text| ["<", "t b", ",", ">", "b", "-", "+1"].map(|token| format!("{text} {token}"))).collect();
+        for text in &texts {
+            assert_eq!(Bound::<0>::parse(&scope, text), parse_between('<', '>', &scope, text), "{text}");
+        }
+    }
+}
+
+/// The Rust's depth counts a binder without its opening; document 02's, and so a value's, doesn't.
+fn binder_depths() {
+    let words = vec![Entry { label: 0, spelling: "t".into() }];
+    let variable = Nonterminal { mark: PLAIN, variants: vec![variant(DEFAULT_LEVEL, BOTH, &[[4, 0, 0, 0]])] };
+    let book = Rc::new(Book { words, names: vec![], nonterminals: vec![binder(1, b'<', b'>'), binder(2, b'<', b'>'), variable] });
+    assert_eq!(crate::answer(&book, "<t a>a", 0).value, "(0 [0] (1 - (2 $0.0)))");
+    let parses = grammar::parse(0, &Scope::new([]), "<t a>a").expect("a parse");
+    let depths = parses.into_iter().flat_map(|parse| counted_depths(&parse.finish().0));
+    assert_eq!(depths.collect::<Vec<_>>(), [1]);
+}
+
+/// The depths of a term's declared variables as the Rust counts them.
+fn counted_depths(term: &Term) -> Vec<usize> {
+    match term {
+        Term::Variable(CoreVariable::BoundVar(v)) => v.debruijn.map(|depth| depth.index).into_iter().collect(),
+        Term::Variant(_, items) | Term::List(items) => items.iter().flat_map(counted_depths).collect(),
+        Term::Binder(binder) => counted_depths(binder.bound.peek()),
+        _ => vec![],
     }
 }

@@ -10,6 +10,7 @@ pub enum Value {
     Name(Arc<str>),
     Number(u64),
     Variable { name: u32, kind: u32 },
+    Declared { depth: u32, index: u32 },
     Absent,
     List(Arc<[Value]>),
 }
@@ -42,6 +43,7 @@ impl Value {
             Value::Name(spelling) => out.push_str(spelling),
             Value::Number(n) => write!(out, "{n}").unwrap(),
             Value::Variable { name, kind } => write!(out, "${}", variable(*name, *kind)).unwrap(),
+            Value::Declared { depth, index } => write!(out, "${depth}.{index}").unwrap(),
             Value::Absent => out.push('-'),
             Value::List(items) => {
                 out.push('[');
