@@ -52,6 +52,8 @@ identity-numbers text (Cell.variable i kind) c e =
 identity-numbers text Cell.absent c e = let form : c .form ≡ 7 = cc in identity-other text c (λ z. omega arith) ∙ e
 identity-numbers text (Cell.list items) c e =
     let form : c .form ≡ 8 = cc in identity-other text c (λ z. omega arith) ∙ e
+identity-numbers text (Cell.declared depth index) c e =
+    let form : c .form ≡ 9 = cc in identity-other text c (λ z. omega arith) ∙ e
 
 -- ---- Equality
 module _ (text : List ℕ) (c d : CellNumbers) where

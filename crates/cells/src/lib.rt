@@ -15,14 +15,18 @@ mod store;
 
 pub use numbers::CHAIN_FORM;
 pub use numbers::CellNumbers;
+pub use numbers::DECLARED_FORM;
+pub use numbers::DebruijnIndex;
 pub use numbers::HALF;
 pub use numbers::LIST_FORM;
 pub use numbers::NAME_FORM;
 pub use numbers::NUMBER_FORM;
 pub use numbers::VARIABLE_FORM;
 pub use numbers::VARIANT_FORM;
+pub use numbers::VarIndex;
 pub use numbers::absent;
 pub use numbers::chain;
+pub use numbers::declared;
 pub use numbers::empty;
 pub use numbers::list;
 pub use numbers::name;

@@ -14,9 +14,15 @@ pub struct CellNumbers {
     pub b: u32,
 }
 
+// A declared variable's binder, by its depth outwards, and the variable's index within that binder. They are "separate
+// counts" (document 02 d), so each has a type of its own, and neither can be given for the other.
+pub struct DebruijnIndex(pub u32);
+
+pub struct VarIndex(pub u32);
+
 // ---- The forms
 // "1 empty chain (made as a variant begins); 2 chain, item; 3 variant .., chain; 4 name place, length ..; 5 number
-// high, low half; 6 name number, kind; 7 absent; 8 list, chain"
+// high, low half; 6 name number, kind; 7 absent; 8 list, chain"; document 02 d: "cell 9", a declared variable
 pub const EMPTY_FORM: u32 = 1;
 
 pub const CHAIN_FORM: u32 = 2;
@@ -32,6 +38,8 @@ pub const VARIABLE_FORM: u32 = 6;
 pub const ABSENT_FORM: u32 = 7;
 
 pub const LIST_FORM: u32 = 8;
+
+pub const DECLARED_FORM: u32 = 9;
 
 // "5 number high, low half", of 64 bits
 pub const HALF: u64 = 4294967296;
@@ -119,6 +127,16 @@ pub fn list(items: u32) -> CellNumbers
         form: LIST_FORM,
         a: items,
         b: 0,
+    }
+}
+
+pub fn declared(depth: DebruijnIndex, index: VarIndex) -> CellNumbers
+    ensures { λ r. ⌜ listed r ≡ numbersOf (Cell.declared (depth .0) (index .0)) ⌝ }
+{
+    CellNumbers {
+        form: DECLARED_FORM,
+        a: depth.0,
+        b: index.0,
     }
 }
 
