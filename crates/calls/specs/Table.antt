@@ -1,4 +1,4 @@
--- The table of rows in a list of numbers. A row is eight numbers and two sets, the stored one and the run's.
+-- The table of rows in a list of numbers. A row is eleven numbers and two sets, the stored one and the run's.
 use mathlib.Core.Path.{_≡_}
 use mathlib.Core.Bool.{Bool, cond}
 use mathlib.Core.List.{List, [], _∷_}
@@ -24,7 +24,7 @@ use Rattle.calls.specs.declared.Settled.{Settled}
 -- ---- The layout
 -- the numbers of a row before its sets
 abbrev pub fieldCount : ℕ
-fieldCount = 8
+fieldCount = 11
 
 -- where the stored set and the run's begin in a row
 abbrev pub setPlace : ℕ
@@ -48,7 +48,8 @@ unfoldable pub rowAt : List ℕ → ℕ → Row
 rowAt numbers place =
     row (getD numbers place 0) (getD numbers (place + 1) 0) (getD numbers (place + 2) 0) (getD numbers (place + 3) 0)
     (getD numbers (place + 4) 0) (getD numbers (place + 5) 0) (getD numbers (place + 6) 0)
-    (getD numbers (place + 7) 0)
+    (getD numbers (place + 7) 0) (getD numbers (place + 8) 0) (getD numbers (place + 9) 0)
+    (getD numbers (place + 10) 0)
     (setAt numbers (place + setPlace)) (setAt numbers (place + runPlace))
 
 -- k rows from a place on
@@ -60,17 +61,25 @@ unfoldable pub table : List ℕ → List Row
 table numbers = rowsFrom numbers 0 rowCount
 
 -- ---- The slice that a function is lent
--- the slice has its table, and the row is one of it
-abbrev pub InTable : ℕ → Slice → Type 0
-InTable row rows = (row ≤ mostNesting) × (rowsSize ≤ length (now rows))
+-- the slice has its table
+abbrev pub HasTable : Slice → Type 0
+HasTable rows = rowsSize ≤ length (now rows)
 
--- the same, and a number of the row by its index
+-- and the row is one of it
+abbrev pub InTable : ℕ → Slice → Type 0
+InTable row rows = (row ≤ mostNesting) × HasTable rows
+
+-- a number of any row by its index
+abbrev pub ColumnIn : ℕ → Slice → Type 0
+ColumnIn column rows = (column < fieldCount) × HasTable rows
+
+-- a number of a row of the table
 abbrev pub NumberIn : ℕ → ℕ → Slice → Type 0
-NumberIn row column rows = (row ≤ mostNesting) × (column < fieldCount) × (rowsSize ≤ length (now rows))
+NumberIn row column rows = (row ≤ mostNesting) × (column < fieldCount) × HasTable rows
 
 -- row `from` is one of the table, and `into` one below it
 abbrev pub Below : ℕ → ℕ → Slice → Type 0
-Below into from rows = (into < from) × (from ≤ mostNesting) × (rowsSize ≤ length (now rows))
+Below into from rows = (into < from) × (from ≤ mostNesting) × HasTable rows
 
 abbrev pub tableAt : Lent → List Row
 tableAt rows = table (atEntry rows)
@@ -90,14 +99,16 @@ Changes rows row change = tableAfter rows ≡ onRow (tableAt rows) row change
 -- a row whose j-th number is x
 abbrev pub field : ℕ → ℕ → Row → Row
 field j x r =
-    row (cond (eqb j 0) x (r .live)) (cond (eqb j 1) x (r .nonterminal)) (cond (eqb j 2) x (r .scope))
+    row (cond (eqb j 0) x (r .live)) (cond (eqb j 1) x (r .nonterminal)) (cond (eqb j 2) x (r .binder))
     (cond (eqb j 3) x (r .start)) (cond (eqb j 4) x (r .level)) (cond (eqb j 5) x (r .associativity))
-    (cond (eqb j 6) x (r .child)) (cond (eqb j 7) x (r .asked)) (r .set) (r .run)
+    (cond (eqb j 6) x (r .child)) (cond (eqb j 7) x (r .asked)) (cond (eqb j 8) x (r .kind))
+    (cond (eqb j 9) x (r .place)) (cond (eqb j 10) x (r .size)) (r .set) (r .run)
 
 abbrev pub fieldOf : ℕ → Row → ℕ
 fieldOf j r =
-    cond (eqb j 0) (r .live) (cond (eqb j 1) (r .nonterminal) (cond (eqb j 2) (r .scope) (cond (eqb j 3) (r .start)
-    (cond (eqb j 4) (r .level) (cond (eqb j 5) (r .associativity) (cond (eqb j 6) (r .child) (r .asked)))))))
+    cond (eqb j 0) (r .live) (cond (eqb j 1) (r .nonterminal) (cond (eqb j 2) (r .binder) (cond (eqb j 3) (r .start)
+    (cond (eqb j 4) (r .level) (cond (eqb j 5) (r .associativity) (cond (eqb j 6) (r .child) (cond (eqb j 7) (r .asked)
+    (cond (eqb j 8) (r .kind) (cond (eqb j 9) (r .place) (r .size))))))))))
 
 -- ---- What a function does to the table
 -- a parse joins the run's set of a row; where it is a 65th, nothing is said of that set

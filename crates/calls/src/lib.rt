@@ -1,17 +1,24 @@
 // The open calls, and what calls found, in a lent slice of numbers. Document 01, "The run".
 //
-// The slice is a table of 201 rows, one for each level of nesting, of 522 numbers each. A row's number is the levels of
-// nesting left: the outermost call has row 200. A row is eight numbers (live, nonterminal, scope, start, level,
-// associativity, child, asked) and two sets: what the call has stored or found, and what the run at hand has found.
-// Every slice of 104,922 numbers gives a table (`table` of specs/Table.antt), so nothing needs to be cleared: a row is
-// written before it is read.
+// The slice is a table of 201 rows, one for each level of nesting, of 525 numbers each. A row's number is the levels of
+// nesting left: the outermost call has row 200. A row is eleven numbers (live, nonterminal, binder, start, level,
+// associativity, child, asked, and the kind, place and size of the name that is declared at the level) and two sets: what
+// the call has stored or found, and what the run at hand has found. Every slice of 105,525 numbers gives a table
+// (`table` of specs/Table.antt), so nothing needs to be cleared: a row is written before it is read.
+//
+// A call's binder says what it has to do with openings that were read: 0, none is around it; 1, one is; n + 2, the call
+// is the body behind one, and the n names that this declared stand in the n rows above its own.
 //
 // Each function equals the definition of the crate run_model that its contract names (specs/Rows.antt and
 // specs/Model.antt there), on the table that the slice gives, and changes at most one row of it, `take_stored` two. It
 // asks only that the slice has its numbers and that the row is one of the table (`InTable`).
 //
-// The crate relies on the promises of sets and book and on the definitions of book, semantics and run_model, and
-// assumes nothing. specs/ has the definitions (Table) and laws.
+// The crate relies on the promises of characters, book, cells and sets and on the definitions of book, semantics and
+// run_model, and assumes nothing. specs/ has the definitions (Table, Names) and laws.
+mod names;
+
+pub use names::Declared;
+pub use names::declared_at;
 ghost use mathlib.Core.Path.{_≡_};
 ghost use mathlib.Core.List.{[], _∷_};
 ghost use Prim.Native.Nat.{suc, _-_};
@@ -24,7 +31,7 @@ ghost use Rattle.semantics.specs.Uses.{hasMark, minimumOf};
 ghost use Rattle.semantics.specs.Run.{allIn, kept};
 ghost use Rattle.sets.specs.Sets.{parseOf};
 ghost use Rattle.run_model.specs.Rows as model;
-ghost use Rattle.run_model.specs.Rows.{useAt, withSet};
+ghost use Rattle.run_model.specs.Rows.{useAt, withSet, inherited, isBody, beginsScope};
 ghost use Rattle.calls.specs.Table.{InTable, NumberIn, Below, tableAt, tableAfter, rowIn, Changes};
 ghost use Rattle.calls.specs.Table.{field, fieldOf};
 ghost use Rattle.calls.specs.Table.{RunAdded, RunJoined, governorIn, withStoredIn, SettledFirst, SettledNext};
@@ -36,6 +43,9 @@ use sets::SET_SIZE;
 // "nesting beyond 200" is a limit; so the outermost call has this row
 pub const MOST_NESTING: usize = 200;
 
+// a row that is none of the table
+const NO_ROW: usize = MOST_NESTING + 1;
+
 // the numbers of the table
 pub const ROWS_SIZE: usize = (MOST_NESTING + 1) * ROW_SIZE;
 
@@ -44,7 +54,7 @@ const LIVE: usize = 0;
 
 const NONTERMINAL: usize = 1;
 
-const SCOPE: usize = 2;
+const BINDER: usize = 2;
 
 const START: usize = 3;
 
@@ -56,15 +66,25 @@ const CHILD: usize = 6;
 
 const ASKED: usize = 7;
 
+const KIND: usize = 8;
+
+const PLACE: usize = 9;
+
+const SIZE: usize = 10;
+
 // its sets
-const STORED_SET: usize = 8;
+const STORED_SET: usize = 11;
 
 const RUN_SET: usize = STORED_SET + SET_SIZE;
 
 const ROW_SIZE: usize = RUN_SET + SET_SIZE;
 
-// the one scope of a run, in which every call is opened
-const BASE_SCOPE: u32 = 0;
+// binders: no opening is around; one is; the least of a body behind one, which declared no name
+const OUTSIDE: u32 = 0;
+
+const AROUND: u32 = 1;
+
+const BODY: u32 = 2;
 
 // What the governor of a use says: the minimum, or, for a child at the governor's own start, the governor's row.
 pub enum Governor {
@@ -111,6 +131,44 @@ pub fn start_of(rows: &[u32], row: usize) -> u32
     ensures { λ r. ⌜ r ≡ rowIn rows row .start ⌝ }
 {
     get(rows, row, START)
+}
+
+pub fn binder_of(rows: &[u32], row: usize) -> u32
+    requires { ⌜ InTable row rows ⌝ }
+    ensures { λ r. ⌜ r ≡ rowIn rows row .binder ⌝ }
+{
+    get(rows, row, BINDER)
+}
+
+// ---- Openings
+// The binder of a child of a row's call.
+pub fn inherited_binder(rows: &[u32], row: usize) -> u32
+    requires { ⌜ InTable row rows ⌝ }
+    ensures { λ r. ⌜ r ≡ inherited (rowIn rows row .binder) ⌝ }
+{
+    if get(rows, row, BINDER) == OUTSIDE {
+        OUTSIDE
+    } else {
+        AROUND
+    }
+}
+
+// A call with this binder is the body behind an opening.
+fn is_body(binder: u32) -> bool
+    ensures { λ r. ⌜ r ≡ isBody binder ⌝ }
+{
+    BODY <= binder
+}
+
+// The call of a row is open and the body behind an opening: what is around it has another scope.
+fn begins_scope(rows: &[u32], row: usize) -> bool
+    requires { ⌜ InTable row rows ⌝ }
+    ensures { λ r. ⌜ r ≡ beginsScope (rowIn rows row) ⌝ }
+{
+    if get(rows, row, LIVE) != 1 {
+        return false;
+    }
+    is_body(get(rows, row, BINDER))
 }
 
 // ---- Sets of a row
@@ -186,14 +244,14 @@ fn add_run_to_set(rows: &mut [u32], row: usize) -> bool
 }
 
 // ---- Open calls
-// The call of a row is opened, in the one scope that there is.
-pub fn open_call(rows: &mut [u32], row: usize, nonterminal: u32, at: u32)
+// The call of a row is opened.
+pub fn open_call(rows: &mut [u32], row: usize, binder: u32, nonterminal: u32, at: u32)
     requires { ⌜ InTable row rows ⌝ }
-    ensures { λ _. ⌜ Changes rows row (model.opened nonterminal at) ⌝ }
+    ensures { λ _. ⌜ Changes rows row (model.opened binder nonterminal at) ⌝ }
 {
     put(rows, row, LIVE, 1);
     put(rows, row, NONTERMINAL, nonterminal);
-    put(rows, row, SCOPE, BASE_SCOPE);
+    put(rows, row, BINDER, binder);
     put(rows, row, START, at);
     put(rows, row, ASKED, 0);
     clear_set(rows, row);
@@ -249,7 +307,7 @@ fn minimum_of(associativity: Associativity, level: u32) -> usize
     }
 }
 
-// The call of a row is open, of the nonterminal and the base's scope, and its current child begins at the place.
+// The call of a row is open and of the nonterminal, and its current child begins at the place.
 fn governs(rows: &[u32], row: usize, nonterminal: u32, at: u32) -> bool
     requires { ⌜ InTable row rows ⌝ }
     ensures { λ r. ⌜ r ≡ model.governs (rowIn rows row) nonterminal at ⌝ }
@@ -260,13 +318,10 @@ fn governs(rows: &[u32], row: usize, nonterminal: u32, at: u32) -> bool
     if get(rows, row, NONTERMINAL) != nonterminal {
         return false;
     }
-    if get(rows, row, SCOPE) != BASE_SCOPE {
-        return false;
-    }
     get(rows, row, CHILD) == at
 }
 
-// The newest row above a row that governs, or 201.
+// The newest row above a row that governs, up to where a scope begins, or 201.
 fn newest_governor(rows: &[u32], row: usize, nonterminal: u32, at: u32) -> usize
     requires { ⌜ InTable row rows ⌝ }
     ensures { λ r. ⌜ r ≡ model.newestGovernor (tableAt rows) nonterminal at (mostNesting - row) (suc row) ⌝ }
@@ -276,16 +331,22 @@ fn newest_governor(rows: &[u32], row: usize, nonterminal: u32, at: u32) -> usize
         if governs(rows, above, nonterminal, at) {
             return above;
         }
+        if begins_scope(rows, above) {
+            return NO_ROW;
+        }
         above += 1;
     }
     above
 }
 
-// The governor of a use of the nonterminal at a place, in a row.
-pub fn governor_of(rows: &[u32], row: usize, nonterminal: u32, at: u32) -> Governor
+// The governor of a use of the nonterminal at a place, in a row and with a binder.
+pub fn governor_of(rows: &[u32], row: usize, binder: u32, nonterminal: u32, at: u32) -> Governor
     requires { ⌜ InTable row rows ⌝ }
-    ensures { λ r. ⌜ governorIn r ≡ model.governorOf (tableAt rows) row nonterminal at ⌝ }
+    ensures { λ r. ⌜ governorIn r ≡ model.governorOf (tableAt rows) row binder nonterminal at ⌝ }
 {
+    if is_body(binder) {
+        return Governor::Minimum(0);
+    }
     let governor = newest_governor(rows, row, nonterminal, at);
     if MOST_NESTING < governor {
         return Governor::Minimum(0);
@@ -372,7 +433,7 @@ fn is_variable(book: &[u8], index: &[usize], nonterminal: usize) -> bool
     }
 }
 
-// The call of a row is open, of mark 1 and the base's scope, and begins at the place.
+// The call of a row is open and of mark 1, and begins at the place.
 fn claims(book: &[u8], index: &[usize], rows: &[u32], row: usize, at: u32) -> bool
     requires { ⌜ InTable row rows ⌝ }
     ensures { λ r. ⌜ r ≡ model.claims (bookAt book index) (rowIn rows row) at ⌝ }
@@ -383,14 +444,11 @@ fn claims(book: &[u8], index: &[usize], rows: &[u32], row: usize, at: u32) -> bo
     if get(rows, row, START) != at {
         return false;
     }
-    if get(rows, row, SCOPE) != BASE_SCOPE {
-        return false;
-    }
     is_variable(book, index, get(rows, row, NONTERMINAL) as usize)
 }
 
-// A call above a row claims.
-pub fn any_claims(book: &[u8], index: &[usize], rows: &[u32], row: usize, at: u32) -> bool
+// A call above a row claims, up to where a scope begins.
+fn any_claims(book: &[u8], index: &[usize], rows: &[u32], row: usize, at: u32) -> bool
     requires { ⌜ InTable row rows ⌝ }
     ensures { λ r. ⌜ r ≡ model.anyClaims (bookAt book index) (tableAt rows) at (mostNesting - row) (suc row) ⌝ }
 {
@@ -399,7 +457,28 @@ pub fn any_claims(book: &[u8], index: &[usize], rows: &[u32], row: usize, at: u3
         if claims(book, index, rows, above, at) {
             return true;
         }
+        if begins_scope(rows, above) {
+            return false;
+        }
         above += 1;
     }
     false
+}
+
+// A call claims a use in a row and with a binder.
+pub fn claims_use(
+    book: &[u8],
+    index: &[usize],
+    rows: &[u32],
+    row: usize,
+    binder: u32,
+    at: u32,
+) -> bool
+    requires { ⌜ InTable row rows ⌝ }
+    ensures { λ r. ⌜ r ≡ model.claimsUse (bookAt book index) (tableAt rows) row binder at ⌝ }
+{
+    if is_body(binder) {
+        return false;
+    }
+    any_claims(book, index, rows, row, at)
 }

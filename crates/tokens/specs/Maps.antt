@@ -1,6 +1,11 @@
 -- What each struct and enum of the code stands for among the definitions of `semantics`.
+use mathlib.Core.Bool.{Bool, false}
+use mathlib.Core.List.{List}
 use mathlib.Core.Option.{Option, none, some}
 use Prim.Native.Nat.{ℕ}
+use lib.Dec.{eqb}
+use Rattle.book.specs.Book.{Book, lookupName}
+use Rattle.book.specs.declared.names.Found.{Found}
 use Rattle.semantics.specs.Steps as steps
 use Rattle.semantics.specs.Tokens as tokens
 use Rattle.tokens.specs.declared.steps.After.{After}
@@ -18,15 +23,22 @@ abbrev pub closingIn : Closing → Option ℕ
 closingIn Closing.Nothing = none
 closingIn (Closing.Character c) = some c
 
-abbrev pub variableOf : Variable → Option tokens.Variable
-variableOf Variable.Nothing = none
-variableOf (Variable.Named end number kind) = some (record { end = end; number = number; kind = kind })
+-- a variable of a kind that ends at a place and adds an item
+abbrev pub variableAs : ℕ → ℕ → tokens.Item → tokens.Read tokens.Variable
+variableAs end kind item = record { end = end; value = record { kind = kind; item = item } }
 
-abbrev pub itemOf : Item → Option steps.Item
+abbrev pub variableOf : Variable → Option (tokens.Read tokens.Variable)
+variableOf Variable.Nothing = none
+variableOf (Variable.Starting end number kind) = some (variableAs end kind (tokens.Item.variable number kind))
+variableOf (Variable.Declared end depth index kind) =
+    some (variableAs end kind (tokens.Item.declared (depth .0) (index .0)))
+
+abbrev pub itemOf : Item → Option tokens.Item
 itemOf Item.Nothing = none
-itemOf (Item.Name place size) = some (steps.Item.name place size)
-itemOf (Item.Number value) = some (steps.Item.number value)
-itemOf (Item.Variable number kind) = some (steps.Item.variable number kind)
+itemOf (Item.Name place size) = some (tokens.Item.name place size)
+itemOf (Item.Number value) = some (tokens.Item.number value)
+itemOf (Item.Variable number kind) = some (tokens.Item.variable number kind)
+itemOf (Item.Declared depth index) = some (tokens.Item.declared (depth .0) (index .0))
 
 abbrev pub takenOf : Taken → steps.Taken
 takenOf Taken.Nothing = steps.Taken.nothing
@@ -39,3 +51,22 @@ takenOf (Taken.Unopened place) = steps.Taken.unopened place
 abbrev pub afterOf : After → steps.After
 afterOf (After.Goes place) = steps.After.goes place
 afterOf (After.Halts place) = steps.After.halts place
+
+-- ---- What the code's small functions give
+-- the starting name that stands between two places of the text
+unfoldable pub startingName : Book → List ℕ → ℕ → ℕ → Option (tokens.Read tokens.Variable)
+startingName book text at end =
+    elim (lookupName (book .names) (tokens.spelled text at end)) [
+      | Found.Name i kind ↦ some (variableAs end kind (tokens.Item.variable i kind))
+      | Found.Nothing ↦ none
+    ]
+
+-- what a variable that was looked for gives to a step
+unfoldable pub variableTaken : Option (tokens.Read tokens.Variable) → steps.Taken
+variableTaken none = steps.Taken.nothing
+variableTaken (some v) = steps.readVariable v
+
+-- whether one was found, and has a kind
+unfoldable pub hasKind : Option (tokens.Read tokens.Variable) → ℕ → Bool
+hasKind none kind = false
+hasKind (some v) kind = eqb (v .value .kind) kind

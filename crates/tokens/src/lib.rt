@@ -2,12 +2,14 @@
 // to 13, the lists of "Derivations", and "Errors".
 //
 // Every public function equals a definition of `semantics` (Tokens, Steps, Errors) on every book, index, text and
-// place, a place beyond the end included; the book is the one that the index gives (`bookIn`). specs/Maps.antt says
-// what each struct and enum stands for. No public function has a `requires`. A place that is called `at` is skipped,
-// one that is called `x` isn't; `place` is either.
+// place, a place beyond the end included; the book is the one that the index gives (`bookIn`), and a scope the one that
+// the table of rows gives for a row's call, or for a use in a row and with a binder. specs/Maps.antt says what each
+// struct and enum stands for. Only the functions that look for a name in the rows have a `requires`: that the slice has
+// its table, and the row is one of it. A place that is called `at` is skipped, one that is called `x` isn't; `place` is
+// either.
 //
-// The crate relies on the promises of `characters`, `book` and `errors` and on the definitions of `semantics`, and
-// assumes nothing.
+// The crate relies on the promises of `characters`, `book`, `errors` and `calls` and on the definitions of `semantics`
+// and `run_model`, and assumes nothing.
 mod steps;
 mod tokens;
 
@@ -23,5 +25,6 @@ pub use steps::step_error;
 pub use tokens::End;
 pub use tokens::Variable;
 pub use tokens::free_end;
+pub use tokens::is_variable;
 pub use tokens::span_length;
 pub use tokens::variable_at;

@@ -2,26 +2,34 @@
 // step takes nothing. "Every token skips first; what follows it is unskipped".
 ghost use mathlib.Core.Option.{none};
 ghost use mathlib.Core.Path.{_≡_};
+ghost use Rattle.characters.specs.Skipping.{skipFrom};
 ghost use Rattle.characters.specs.Slices.{atEntry};
 ghost use Rattle.book.specs.Book.{Book};
 ghost use Rattle.book.specs.Index.{bookAt};
 ghost use Rattle.book.specs.declared.records.Step.{Step};
 ghost use Rattle.semantics.specs.Numbers.{characterWanted};
+ghost use Rattle.semantics.specs.Uses.{Scope};
+ghost use Rattle.semantics.specs.Tokens.{variableAt};
 ghost use Rattle.semantics.specs.Errors.{error, identifierError, stepError};
 ghost use Rattle.semantics.specs.Run.{closingCode};
 ghost use Rattle.semantics.specs.Steps.{read, stepAt, afterElement, closed as closedAt};
 ghost use Rattle.errors.specs.Maps.{errorOf};
-ghost use Rattle.tokens.specs.Maps.{endOf, closingIn, takenOf, afterOf};
+ghost use Rattle.run_model.specs.Rows.{scopeIn};
+ghost use Rattle.calls.specs.Table.{InTable, tableAt};
+ghost use Rattle.tokens.specs.Maps.{endOf, closingIn, variableOf, takenOf, variableTaken, hasKind, afterOf};
 use crate::tokens::End;
 use crate::tokens::Variable;
 use crate::tokens::character_end;
 use crate::tokens::free_end;
 use crate::tokens::identifier_end;
+use crate::tokens::is_variable;
 use crate::tokens::reserved_at;
 use crate::tokens::span_length;
 use crate::tokens::variable_at;
 use book::Step;
 use book::word;
+use cells::DebruijnIndex;
+use cells::VarIndex;
 use characters::Number;
 use characters::number_at;
 use characters::part;
@@ -41,12 +49,13 @@ use errors::WORD_WANTED;
 use errors::WRONG_KIND;
 
 // What a token adds, if anything: an identifier by the place and length of its spelling, a number, a variable by its
-// name's number and kind.
+// name's number and kind, or, if it is declared, by its binder's depth and its index within that.
 pub enum Item {
     Nothing,
     Name { place: usize, size: usize },
     Number(u64),
     Variable { number: usize, kind: usize },
+    Declared(DebruijnIndex, VarIndex),
 }
 
 // What a step takes at a place.
@@ -95,7 +104,7 @@ fn bare(next: usize) -> Taken
 }
 
 fn character(text: &[u8], a: u32, x: usize) -> Taken
-    ensures { λ r. ⌜ ((book : Book) → takenOf r ≡ stepAt book (atEntry text) (Step.Character a) x) ⌝ }
+    ensures { λ r. ⌜ ((book : Book) (scope : Scope) → takenOf r ≡ stepAt book (atEntry text) scope (Step.Character a) x) ⌝ }
 {
     let End::At(end) = character_end(text, a, x) else {
         return Taken::Nothing;
@@ -104,7 +113,7 @@ fn character(text: &[u8], a: u32, x: usize) -> Taken
 }
 
 fn word_at(book: &[u8], index: &[usize], text: &[u8], a: u32, x: usize) -> Taken
-    ensures { λ r. ⌜ takenOf r ≡ stepAt (bookAt book index) (atEntry text) (Step.Word a) x ⌝ }
+    ensures { λ r. ⌜ ((scope : Scope) → takenOf r ≡ stepAt (bookAt book index) (atEntry text) scope (Step.Word a) x) ⌝ }
 {
     let at = skip(text, x);
     let End::At(end) = identifier_end(text, at) else {
@@ -119,7 +128,7 @@ fn word_at(book: &[u8], index: &[usize], text: &[u8], a: u32, x: usize) -> Taken
 }
 
 fn identifier(book: &[u8], index: &[usize], text: &[u8], x: usize) -> Taken
-    ensures { λ r. ⌜ takenOf r ≡ stepAt (bookAt book index) (atEntry text) Step.Identifier x ⌝ }
+    ensures { λ r. ⌜ ((scope : Scope) → takenOf r ≡ stepAt (bookAt book index) (atEntry text) scope Step.Identifier x) ⌝ }
 {
     let at = skip(text, x);
     let End::At(end) = free_end(book, index, text, at) else {
@@ -135,7 +144,7 @@ fn identifier(book: &[u8], index: &[usize], text: &[u8], x: usize) -> Taken
 }
 
 fn number(text: &[u8], x: usize) -> Taken
-    ensures { λ r. ⌜ ((book : Book) → takenOf r ≡ stepAt book (atEntry text) Step.Number x) ⌝ }
+    ensures { λ r. ⌜ ((book : Book) (scope : Scope) → takenOf r ≡ stepAt book (atEntry text) scope Step.Number x) ⌝ }
 {
     match number_at(text, skip(text, x)) {
         Number::Value { value, end } => Taken::Token {
@@ -147,53 +156,115 @@ fn number(text: &[u8], x: usize) -> Taken
     }
 }
 
-fn variable(book: &[u8], index: &[usize], text: &[u8], x: usize) -> Taken
-    ensures { λ r. ⌜ takenOf r ≡ stepAt (bookAt book index) (atEntry text) Step.Variable x ⌝ }
+// A variable that was looked for.
+fn read_variable(variable: Variable) -> Taken
+    ensures { λ r. ⌜ takenOf r ≡ variableTaken (variableOf variable) ⌝ }
 {
-    match variable_at(book, index, text, skip(text, x)) {
-        Variable::Named { end, number, kind } => Taken::Token {
+    match variable {
+        Variable::Nothing => Taken::Nothing,
+        Variable::Starting { end, number, kind } => Taken::Token {
             next: end,
             item: Item::Variable { number, kind },
         },
-        Variable::Nothing => Taken::Nothing,
+        Variable::Declared {
+            end,
+            depth,
+            index,
+            kind: _,
+        } => Taken::Token {
+            next: end,
+            item: Item::Declared(depth, index),
+        },
     }
 }
 
-fn variable_of_kind(book: &[u8], index: &[usize], text: &[u8], a: u32, x: usize) -> Taken
-    ensures { λ r. ⌜ takenOf r ≡ stepAt (bookAt book index) (atEntry text) (Step.VariableOfKind a) x ⌝ }
+fn has_kind(variable: Variable, wanted: u32) -> bool
+    ensures { λ r. ⌜ r ≡ hasKind (variableOf variable) wanted ⌝ }
 {
-    match variable_at(book, index, text, skip(text, x)) {
-        Variable::Named { end, number, kind } => {
-            if kind == a as usize {
-                Taken::Token {
-                    next: end,
-                    item: Item::Variable { number, kind },
-                }
-            } else {
-                Taken::Nothing
-            }
-        }
-        Variable::Nothing => Taken::Nothing,
+    match variable {
+        Variable::Nothing => false,
+        Variable::Starting {
+            end: _,
+            number: _,
+            kind,
+        } => kind == wanted as usize,
+        Variable::Declared {
+            end: _,
+            depth: _,
+            index: _,
+            kind,
+        } => kind == wanted,
+    }
+}
+
+// The variable behind what is skipped, in the scope of a row's call.
+fn variable_behind(
+    book: &[u8],
+    index: &[usize],
+    text: &[u8],
+    rows: &[u32],
+    row: usize,
+    x: usize,
+) -> Variable
+    requires { ⌜ InTable row rows ⌝ }
+    ensures { λ r. ⌜ variableOf r ≡ variableAt (bookAt book index) (atEntry text)
+        (scopeIn (atEntry text) (tableAt rows) row) (skipFrom (atEntry text) x) ⌝ }
+{
+    let binder = calls::binder_of(rows, row);
+    variable_at(book, index, text, rows, row, binder, skip(text, x))
+}
+
+fn variable(book: &[u8], index: &[usize], text: &[u8], rows: &[u32], row: usize, x: usize) -> Taken
+    requires { ⌜ InTable row rows ⌝ }
+    ensures { λ r. ⌜ takenOf r ≡ stepAt (bookAt book index) (atEntry text)
+        (scopeIn (atEntry text) (tableAt rows) row) Step.Variable x ⌝ }
+{
+    read_variable(variable_behind(book, index, text, rows, row, x))
+}
+
+fn variable_of_kind(
+    book: &[u8],
+    index: &[usize],
+    text: &[u8],
+    rows: &[u32],
+    row: usize,
+    a: u32,
+    x: usize,
+) -> Taken
+    requires { ⌜ InTable row rows ⌝ }
+    ensures { λ r. ⌜ takenOf r ≡ stepAt (bookAt book index) (atEntry text)
+        (scopeIn (atEntry text) (tableAt rows) row) (Step.VariableOfKind a) x ⌝ }
+{
+    let found = variable_behind(book, index, text, rows, row, x);
+    if has_kind(found, a) {
+        read_variable(found)
+    } else {
+        Taken::Nothing
     }
 }
 
 // Kinds 6 and 7 look behind what is skipped, and don't move the place.
-fn reject_variable(book: &[u8], index: &[usize], text: &[u8], x: usize) -> Taken
-    ensures { λ r. ⌜ takenOf r ≡ stepAt (bookAt book index) (atEntry text) Step.RejectVariable x ⌝ }
+fn reject_variable(
+    book: &[u8],
+    index: &[usize],
+    text: &[u8],
+    rows: &[u32],
+    row: usize,
+    x: usize,
+) -> Taken
+    requires { ⌜ InTable row rows ⌝ }
+    ensures { λ r. ⌜ takenOf r ≡ stepAt (bookAt book index) (atEntry text)
+        (scopeIn (atEntry text) (tableAt rows) row) Step.RejectVariable x ⌝ }
 {
-    let at = skip(text, x);
-    match variable_at(book, index, text, at) {
-        Variable::Named {
-            end: _,
-            number: _,
-            kind: _,
-        } => Taken::Nothing,
-        Variable::Nothing => bare(x),
+    if is_variable(variable_behind(book, index, text, rows, row, x)) {
+        Taken::Nothing
+    } else {
+        bare(x)
     }
 }
 
 fn reject_reserved(book: &[u8], index: &[usize], text: &[u8], x: usize) -> Taken
-    ensures { λ r. ⌜ takenOf r ≡ stepAt (bookAt book index) (atEntry text) Step.RejectReserved x ⌝ }
+    ensures { λ r. ⌜ ((scope : Scope) → takenOf r ≡ stepAt (bookAt book index) (atEntry text) scope Step.RejectReserved x) ⌝ }
 {
     let at = skip(text, x);
     if reserved_at(book, index, text, at) {
@@ -204,8 +275,8 @@ fn reject_reserved(book: &[u8], index: &[usize], text: &[u8], x: usize) -> Taken
 }
 
 fn delimited(text: &[u8], nonterminal: u32, opening: u32, closing: u32, x: usize) -> Taken
-    ensures { λ r. ⌜ ((book : Book) →
-        takenOf r ≡ stepAt book (atEntry text) (Step.Delimited nonterminal opening closing) x) ⌝ }
+    ensures { λ r. ⌜ ((book : Book) (scope : Scope) →
+        takenOf r ≡ stepAt book (atEntry text) scope (Step.Delimited nonterminal opening closing) x) ⌝ }
 {
     let End::At(place) = character_end(text, opening, x) else {
         return Taken::Nothing;
@@ -220,8 +291,8 @@ fn delimited(text: &[u8], nonterminal: u32, opening: u32, closing: u32, x: usize
 
 // An opening looked for in vain still leaves the place skipped.
 fn optional_delimited(text: &[u8], nonterminal: u32, opening: u32, closing: u32, x: usize) -> Taken
-    ensures { λ r. ⌜ ((book : Book) →
-        takenOf r ≡ stepAt book (atEntry text) (Step.OptionalDelimited nonterminal opening closing) x) ⌝ }
+    ensures { λ r. ⌜ ((book : Book) (scope : Scope) →
+        takenOf r ≡ stepAt book (atEntry text) scope (Step.OptionalDelimited nonterminal opening closing) x) ⌝ }
 {
     let End::At(place) = character_end(text, opening, x) else {
         return Taken::Unopened(skip(text, x));
@@ -234,18 +305,28 @@ fn optional_delimited(text: &[u8], nonterminal: u32, opening: u32, closing: u32,
     }
 }
 
-// What a step takes at a place, by its kind.
-pub fn step_at(book: &[u8], index: &[usize], text: &[u8], step: Step, x: usize) -> Taken
-    ensures { λ r. ⌜ takenOf r ≡ stepAt (bookAt book index) (atEntry text) step x ⌝ }
+// What a step of a row's call takes at a place, by its kind.
+pub fn step_at(
+    book: &[u8],
+    index: &[usize],
+    text: &[u8],
+    rows: &[u32],
+    row: usize,
+    step: Step,
+    x: usize,
+) -> Taken
+    requires { ⌜ InTable row rows ⌝ }
+    ensures { λ r. ⌜ takenOf r ≡ stepAt (bookAt book index) (atEntry text)
+        (scopeIn (atEntry text) (tableAt rows) row) step x ⌝ }
 {
     match step {
         Step::Character(a) => character(text, a, x),
         Step::Word(a) => word_at(book, index, text, a, x),
         Step::Identifier => identifier(book, index, text, x),
         Step::Number => number(text, x),
-        Step::Variable => variable(book, index, text, x),
-        Step::VariableOfKind(a) => variable_of_kind(book, index, text, a, x),
-        Step::RejectVariable => reject_variable(book, index, text, x),
+        Step::Variable => variable(book, index, text, rows, row, x),
+        Step::VariableOfKind(a) => variable_of_kind(book, index, text, rows, row, a, x),
+        Step::RejectVariable => reject_variable(book, index, text, rows, row, x),
         Step::RejectReserved => reject_reserved(book, index, text, x),
         Step::Nonterminal(a) => Taken::Child(a),
         Step::Optional(a) => Taken::Optional(a),
@@ -340,7 +421,7 @@ fn identifier_error(book: &[u8], index: &[usize], text: &[u8], at: u32, other: E
 
 // Digits were wanted, or the number is too large; where a number is, this isn't asked for.
 fn number_error(text: &[u8], at: u32) -> Error
-    ensures { λ r. ⌜ ((book : Book) → errorOf r ≡ stepError book (atEntry text) Step.Number at) ⌝ }
+    ensures { λ r. ⌜ ((book : Book) (scope : Scope) → errorOf r ≡ stepError book (atEntry text) scope Step.Number at) ⌝ }
 {
     let place = at as usize;
     if place == text.len() {
@@ -355,27 +436,46 @@ fn number_error(text: &[u8], at: u32) -> Error
 
 // No variable: no identifier, a reserved word, or an unknown name.
 fn variable_error(book: &[u8], index: &[usize], text: &[u8], at: u32) -> Error
-    ensures { λ r. ⌜ errorOf r ≡ stepError (bookAt book index) (atEntry text) Step.Variable at ⌝ }
+    ensures { λ r. ⌜ ((scope : Scope) → errorOf r ≡ stepError (bookAt book index) (atEntry text) scope Step.Variable at) ⌝ }
 {
     identifier_error(book, index, text, at, error_at(at, UNKNOWN_NAME, 0))
 }
 
 // No variable of the kind: a name of another kind, reserved or not, or none.
-fn kind_error(book: &[u8], index: &[usize], text: &[u8], kind: u32, at: u32) -> Error
-    ensures { λ r. ⌜ errorOf r ≡ stepError (bookAt book index) (atEntry text) (Step.VariableOfKind kind) at ⌝ }
+fn kind_error(
+    book: &[u8],
+    index: &[usize],
+    text: &[u8],
+    rows: &[u32],
+    row: usize,
+    kind: u32,
+    at: u32,
+) -> Error
+    requires { ⌜ InTable row rows ⌝ }
+    ensures { λ r. ⌜ errorOf r ≡ stepError (bookAt book index) (atEntry text)
+        (scopeIn (atEntry text) (tableAt rows) row) (Step.VariableOfKind kind) at ⌝ }
 {
-    match variable_at(book, index, text, at as usize) {
-        Variable::Named {
-            end: _,
-            number: _,
-            kind: _,
-        } => error_at(at, WRONG_KIND, kind),
-        Variable::Nothing => variable_error(book, index, text, at),
+    let binder = calls::binder_of(rows, row);
+    if is_variable(variable_at(book, index, text, rows, row, binder, at as usize)) {
+        error_at(at, WRONG_KIND, kind)
+    } else {
+        variable_error(book, index, text, at)
     }
 }
 
-pub fn step_error(book: &[u8], index: &[usize], text: &[u8], step: Step, at: u32) -> Error
-    ensures { λ r. ⌜ errorOf r ≡ stepError (bookAt book index) (atEntry text) step at ⌝ }
+// The error of a step of a row's call that takes nothing.
+pub fn step_error(
+    book: &[u8],
+    index: &[usize],
+    text: &[u8],
+    rows: &[u32],
+    row: usize,
+    step: Step,
+    at: u32,
+) -> Error
+    requires { ⌜ InTable row rows ⌝ }
+    ensures { λ r. ⌜ errorOf r ≡ stepError (bookAt book index) (atEntry text)
+        (scopeIn (atEntry text) (tableAt rows) row) step at ⌝ }
 {
     match step {
         Step::Character(a) => error_at(at, CHARACTER_WANTED, a),
@@ -389,7 +489,7 @@ pub fn step_error(book: &[u8], index: &[usize], text: &[u8], step: Step, at: u32
         ),
         Step::Number => number_error(text, at),
         Step::Variable => variable_error(book, index, text, at),
-        Step::VariableOfKind(a) => kind_error(book, index, text, a, at),
+        Step::VariableOfKind(a) => kind_error(book, index, text, rows, row, a, at),
         Step::RejectVariable => error_at(at, VARIABLE_FOUND, 0),
         Step::RejectReserved => error_at(at, RESERVED_FOUND, 0),
         Step::Nonterminal(a) => error_at(at, NONTERMINAL_WANTED, a),

@@ -3,7 +3,7 @@ use borrow.Author.Needs.{needs}
 use Rattle.book.specs.Index.{bookIn}
 use Rattle.run_model.specs.Rows.{rowOf}
 use Rattle.calls.specs.Table.{table}
-use Rattle.calls.specs.CallLaws.{claims-live, claims-start, claims-scope, claims-mark}
+use Rattle.calls.specs.CallLaws.{claims-live, claims-start, claims-mark}
 use Rattle.calls.proofs.claims.Statement.{statement}
 use Rattle.calls.proofs.claims.Tie as tie
 
@@ -30,26 +30,12 @@ returns-3 c =
     let get2 = c .before .before .before .get2 in
     let if2 = c .before .before .if2 in
     let get3 = c .before .get3 in
-    claims-scope _ (rowOf (table (args .rows .now)) (args .row)) _ _ _ _ (get .ensures) (if1 .left) (get2 .ensures)
-    (if2 .left) (get3 .ensures) (c .if3 .taken)
-
-returns-4 : tie.Need-returns-4
-returns-4 c =
-    let args = c .before .before .before .before .before .before .before .before .before .before .before .args in
-    let get = c .before .before .before .before .before .before .before .get in
-    let if1 = c .before .before .before .before .before .before .if1 in
-    let get2 = c .before .before .before .before .before .get2 in
-    let if2 = c .before .before .before .before .if2 in
-    let get3 = c .before .before .before .get3 in
-    let if3 = c .before .before .if3 in
-    let get4 = c .before .get4 in
-    claims-mark (bookIn (args .book .now) (args .index .now)) (rowOf (table (args .rows .now)) (args .row)) _ _ _ _ _ _
-    (get .ensures) (if1 .left) (get2 .ensures) (if2 .left) (get3 .ensures) (if3 .left) (get4 .ensures)
-    (c .is-variable .ensures)
+    claims-mark (bookIn (args .book .now) (args .index .now)) (rowOf (table (args .rows .now)) (args .row)) _ _ _ _ _
+    (get .ensures) (if1 .left) (get2 .ensures) (if2 .left) (get3 .ensures) (c .is-variable .ensures)
 
 pub claims-spec : {M : Type 1} → statement M
 claims-spec =
     tie.close
     (tie.spec
-    (λ c κs. search needs) returns (λ c κs. search needs) returns-2 (λ c κs. search needs) returns-3
-    (λ c κs. search needs) (λ c. search needs) (λ c κs. search needs) returns-4)
+    (λ c κs. search needs) returns (λ c κs. search needs) returns-2 (λ c κs. search needs) (λ c. search needs)
+    (λ c κs. search needs) returns-3)

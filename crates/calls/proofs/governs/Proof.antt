@@ -2,7 +2,7 @@
 use borrow.Author.Needs.{needs}
 use Rattle.run_model.specs.Rows.{rowOf}
 use Rattle.calls.specs.Table.{table}
-use Rattle.calls.specs.CallLaws.{not-live, not-same, not-scope, by-child}
+use Rattle.calls.specs.CallLaws.{not-live, not-same, by-child}
 use Rattle.calls.proofs.governs.Statement.{statement}
 use Rattle.calls.proofs.governs.Tie as tie
 
@@ -23,30 +23,15 @@ returns-2 c =
 
 returns-3 : tie.Need-returns-3
 returns-3 c =
-    let args = c .before .before .before .before .before .before .before .args in
-    let get = c .before .before .before .before .before .get in
-    let if1 = c .before .before .before .before .if1 in
-    let get2 = c .before .before .before .get2 in
-    let if2 = c .before .before .if2 in
-    let get3 = c .before .get3 in
-    not-scope (rowOf (table (args .rows .now)) (args .row)) _ _ _ _ _ (get .ensures) (if1 .left) (get2 .ensures)
-    (if2 .left) (get3 .ensures) (c .if3 .taken)
-
-returns-4 : tie.Need-returns-4
-returns-4 c =
-    let args = c .before .before .before .before .before .before .before .before .args in
-    let get = c .before .before .before .before .before .before .get in
-    let if1 = c .before .before .before .before .before .if1 in
-    let get2 = c .before .before .before .before .get2 in
-    let if2 = c .before .before .before .if2 in
-    let get3 = c .before .before .get3 in
-    let if3 = c .before .if3 in
-    by-child (rowOf (table (args .rows .now)) (args .row)) _ _ _ _ _ _
-    (get .ensures) (if1 .left) (get2 .ensures) (if2 .left) (get3 .ensures) (if3 .left) (c .get4 .ensures)
+    let args = c .before .before .before .before .before .before .args in
+    let get = c .before .before .before .before .get in
+    let if1 = c .before .before .before .if1 in
+    let get2 = c .before .before .get2 in
+    let if2 = c .before .if2 in
+    by-child (rowOf (table (args .rows .now)) (args .row)) _ _ _ _ _
+    (get .ensures) (if1 .left) (get2 .ensures) (if2 .left) (c .get3 .ensures)
 
 pub governs-spec : {M : Type 1} → statement M
 governs-spec =
     tie.close
-    (tie.spec
-    (λ c κs. search needs) returns (λ c κs. search needs) returns-2 (λ c κs. search needs) returns-3
-    (λ c κs. search needs) returns-4)
+    (tie.spec (λ c κs. search needs) returns (λ c κs. search needs) returns-2 (λ c κs. search needs) returns-3)
