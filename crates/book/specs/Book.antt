@@ -14,7 +14,8 @@ use Rattle.book.specs.declared.records.Nonterminal.{Nonterminal}
 use Rattle.book.specs.declared.records.Variant.{Variant}
 use Rattle.book.specs.declared.records.Step.{Step}
 
--- a word, with 1 for its label if it is reserved and 0 if not; or a starting name, with its kind for its label
+-- a word, with 1 for its label if it is reserved and 0 if not; or a starting or
+-- declared name, with its kind for its label
 pub record Entry : Type 0 where
   pub label : ℕ
   pub spelling : List ℕ

@@ -141,6 +141,7 @@ associativityOf n =
     (cond (eqb n 2) Associativity.None
     Associativity.Both))
 
+-- a binder's associativity is Both, since its level is 255
 unfoldable pub variant : Bool → ℕ → Reader Variant
 variant binder first = do
   level ← field (fixed binder defaultLevel (between 0 defaultLevel))

@@ -76,7 +76,7 @@ module _ (cells parses : List ℕ) where
   abbrev pub untouched : ℕ → ℕ → Answered
   untouched refusal place = record { answer = answer refusal place 0 0 0 0 0; cells = cells; parses = parses }
 
-  -- "20 to 23 and 30: the first 12,288 numbers of cells and 256 of parses are zero"
+  -- 41 is "with 21's effects"; "20 to 23 and 30: the first 12,288 numbers of cells and 256 of parses are zero"
   abbrev pub cleared : Answer → Answered
   cleared a = record { answer = a; cells = written cellsSize [] cells; parses = written parsesSize [] parses }
 
@@ -96,8 +96,8 @@ module _ (cells parses : List ℕ) where
       when (allAre v vs) (λ _. filled (answer 0 0 0 0 work (length (r .set)) v) r)
       (λ _. filled (answer differentValues 0 0 0 work (length (r .set)) 0) r)
 
-  -- "Work under 20 is the allowance, under 21 to 23 the units so far, otherwise all units of the run": what is gone
-  -- of the allowance
+  -- "Work under 20 is the allowance, under 21 to 23 the units so far, otherwise all units of the run", and
+  -- under 41 "with 21's effects": what is gone of the allowance
   unfoldable pub atEnd : List ℕ → ℕ → Result Parsed → Answered
   atEnd text allowance (met number units) = cleared (answer number 0 0 0 (allowance - units) 0 0)
   atEnd text allowance (ok r) =

@@ -1,4 +1,5 @@
--- Document 01, "Derivations": what a text's derivations are. Nothing here speaks of a run.
+-- Document 01, "Derivations", with the rules of document 02 d for binders: what a text's derivations are. Nothing here
+-- speaks of a run.
 use mathlib.Core.Path.{_≡_}
 use mathlib.Core.Bool.{true, false, cond}
 use mathlib.Core.List.{List, [], _∷_, _++_}
@@ -71,8 +72,7 @@ abbrev pub inside : Book → Attempt → ℕ → Path
 inside book a at = within (useOf book (a .nonterminal) (a .start) (a .variant) at) ∷ a .path
 
 module _ (book : Book) (text : List ℕ) where
-  -- what a step of an attempt takes at a place, in the attempt's scope. Document 02 d: "Derivations are now taken over a
-  -- scope as well as a place"
+  -- what a step of an attempt takes at a place, in the attempt's scope
   abbrev pub takes : Attempt → Step → ℕ → Taken
   takes a s x = stepAt book text (scopeOf (a .path)) s x
 
@@ -129,6 +129,8 @@ module _ (book : Book) (text : List ℕ) where
           Through a (elements comma M values close ∷ rest) x items
       by-ending : {a values close y rest x items : _} → closed text close x ≡ some y →
           Through a rest y (items ▸ list values) → Through a (ending values close ∷ rest) x items
+      -- document 02 d: "an opening character, a comma list of names, a closing character, and a body; without the
+      -- opening, the body alone", in the scope around
       by-names : {a s close M y rest x items : _} → takes a s x ≡ Taken.names close M y →
           Through a (naming [] no-trees close M ∷ rest) y items → Through a (taking s ∷ rest) x items
       by-body : {a s M q rest x items : _} → takes a s x ≡ Taken.body M →

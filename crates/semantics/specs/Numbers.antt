@@ -1,4 +1,4 @@
--- Document 01's numbers, each by a name: sizes and limits, refusals, kinds of errors, forms of cells. Those of the
+-- The numbers of document 01, and of document 02 d, each by a name: sizes and limits, refusals, kinds of errors, forms of cells. Those of the
 -- book, with its refusals 3 to 8 and refusal 1, are the crate book's.
 use mathlib.Core.Bool.{Bool, _||_}
 use Prim.Native.Nat.{ℕ, _^_}

@@ -1,4 +1,4 @@
--- Document 01, "The run".
+-- Document 01, "The run", with what document 02 d says of binders.
 --
 -- Letters: c is a call (in `make` a cell), s and t are states, j a variant's number, N a use's nonterminal and u the
 -- skipped place where it begins, M a child's nonterminal, m the minimum of a level, x a place that a path has reached,
@@ -169,7 +169,7 @@ itemCell (Item.variable i kind) = Cell.variable i kind
 itemCell (Item.declared depth index) = Cell.declared depth index
 
 -- ---- Scopes
--- the names that are declared in a scope
+-- how many names are declared in a scope
 unfoldable pub declaredNames : Scope → ℕ
 declaredNames [] = 0
 declaredNames (binder ∷ scope) = length binder + declaredNames scope
@@ -396,7 +396,8 @@ module _ (book : Book) (text : List ℕ) (inner : Option Runner) where
       make text Cell.empty s >>= (λ e. choice c j comma M (e .cell) close rest go x items set (e .state))
 
   -- ---- Binders
-  -- the item in front of a body, then the body, behind its opening or behind none
+  -- the item in front of a body, then the body, behind its opening or behind none: 41 "when a body's scope opens, before
+  -- the body's unit"
   unfoldable pub bodyAfter : Option (List Entry) → Call → ℕ → ℕ → ℕ → List (Todo ℕ) → Go
   bodyAfter opening c j M item rest x items set s₀ = do
     m ← withCell book text j items item s₀
@@ -429,7 +430,7 @@ module _ (book : Book) (text : List ℕ) (inner : Option Runner) where
         ]
     ])
 
-  -- "a comma list of names": stop comes before one more
+  -- "a comma list of names", "the step as kind 12": one unit for each choice, and stop comes before one more
   unfoldable pub nameChoice : Call → ℕ → List Entry → ℕ → ℕ → ℕ → List (Todo ℕ) → Go
   nameChoice c j names kinds close M rest x items set s₀ = do
     s ← spend s₀

@@ -1,5 +1,5 @@
 -- Document 01, "The book" and "Derivations": the steps of a variant, what each takes at a place, and what is left to
--- do of them.
+-- do of them; with those of document 02 d's binders.
 use mathlib.Core.Bool.{Bool, true, false}
 use mathlib.Core.List.{List, map}
 use mathlib.Core.Option.{Option, none, some}
@@ -32,7 +32,7 @@ pub data Taken : Type 0 where
   list : Bool → ℕ → Option ℕ → ℕ → Taken
   -- kind 13 without its opening: the empty list, at a place
   unopened : ℕ → Taken
-  -- kind 14: names begin, up to a closing, for a body of a nonterminal, at a place; without the opening, "the body
+  -- document 02 d, kind 14: names begin, up to a closing, for a body of a nonterminal, at a place; without the opening, "the body
   -- alone"
   names : ℕ → ℕ → ℕ → Taken
   body : ℕ → Taken

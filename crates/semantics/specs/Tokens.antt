@@ -1,5 +1,5 @@
 -- Document 01, "The book" and "Derivations": characters, identifiers and variables at a place of the text, and the
--- claim of a mark-1 use.
+-- claim of a mark-1 use; with document 02 d, variables in a scope and declared names.
 use mathlib.Core.Bool.{Bool, true, false, _&&_, _||_}
 use mathlib.Core.List.{List, [], _∷_}
 use mathlib.Core.Option.{Option, none, some}
@@ -103,7 +103,7 @@ module _ (book : Book) (text : List ℕ) where
   abbrev pub claimed : Path → ℕ → Bool
   claimed path u = isSome (variableAt (scopeOf path) u) && hasClaimant path u
 
-  -- ---- Declared names. "A declared name is the word whose number is its kind, 0 to 7 (the least if alike), then an
+  -- ---- Declared names. Document 02 d: "A declared name is the word whose number is its kind, 0 to 7 (the least if alike), then an
   -- identifier"
   -- the kind's word at a place, reserved or not
   unfoldable pub kindAt : ℕ → Option (Read ℕ)
@@ -124,5 +124,6 @@ module _ (book : Book) (text : List ℕ) where
         | none ↦ none
       ]
 
+  -- a declared name at a place, with its kind for its label
   unfoldable pub declarationAt : ℕ → Option (Read Entry)
   declarationAt at = elim (kindAt at) [ some k ↦ nameOfKind (k .value) (skipFrom text (k .end)) | none ↦ none ]

@@ -1,4 +1,4 @@
--- Document 01, "Derivations": uses, paths and governors.
+-- Document 01, "Derivations": uses, paths and governors; with document 02 d, scopes.
 use mathlib.Core.Bool.{Bool, true, false, _&&_}
 use mathlib.Core.List.{List, [], _∷_}
 use mathlib.Core.Option.{Option, none, some}
@@ -41,7 +41,8 @@ abbrev pub behindAny : Option (List Entry) → Path → Path
 behindAny none path = path
 behindAny (some names) path = behind names ∷ path
 
--- The scope of a use: the names declared in the openings around it, the innermost binder first
+-- document 02 d, "Derivations are now taken over a scope as well as a place": the scope of a use is the names declared
+-- in the openings around it, the innermost binder first
 abbrev pub Scope : Type 0
 Scope = List (List Entry)
 
@@ -75,7 +76,8 @@ govern true false f path around = minimum (minimumOf (f .associativity) (f .leve
 govern false b f path around = outwards around
 
 -- "Its governor is the nearest enclosing use of N, in the same scope .., whose current child begins at u. No governor:
--- minimum 0". Two uses of a path have the same scope exactly when no opening was read between them
+-- minimum 0"; document 02 d, "a governor must have the same scope": two uses of a path have the same scope exactly
+-- when no opening was read between them
 unfoldable pub governor : Path → ℕ → ℕ → Governor
 governor [] N u = minimum 0
 governor (behind names ∷ path) N u = minimum 0
