@@ -3,6 +3,7 @@
 -- Contents:
 -- - binders by tests: count-none, count-some, depth-same, depth-bound, depth-more, open-live, open-idle,
 --   open-past
+-- - two lookups, one after the other: orElse
 -- - the names of one binder, the nearest row first: Looking, looking-name, looking-on, looking-none
 -- - the binders, the innermost first: Searching, searching-start, searching-hit, searching-on, searching-end,
 --   searching-none, searching-some
@@ -67,6 +68,11 @@ open-idle r a e h = rw (ne-eqb (r .live) 1 (λ z. h (e ∙ z)))
 pub open-past : (T : List Row) (i b : ℕ) → length T ≡ 201 → 200 < i → b ≡ openBinder (rowOf T i) → b ≡ 0
 open-past T i b size h e = e ∙ rw (row-past T i (omega arith))
 
+-- ---- Two lookups, one after the other
+unfoldable pub orElse : Option Variable → Option Variable → Option Variable
+orElse (some v) w = some v
+orElse none w = w
+
 -- ---- The names of one binder
 module _ (text : List ℕ) (T : List Row) (wanted : List ℕ) where
   -- of n + 1 names above row i, the nearest decides first
@@ -120,10 +126,6 @@ module _ (text : List ℕ) (T : List Row) (wanted : List ℕ) where
   abbrev pub Searching : ℕ → ℕ → ℕ → ℕ → ℕ → Type 0
   Searching c a i b d =
       variableIn [] d (scopeOf (pathAt text T i b)) wanted ≡ variableIn [] 0 (scopeOf (pathAt text T c a)) wanted
-
-  unfoldable pub orElse : Option Variable → Option Variable → Option Variable
-  orElse (some v) w = some v
-  orElse none w = w
 
   -- the own opening of row i's call, then those around it
   split : (i b d : ℕ) (path : Path) →

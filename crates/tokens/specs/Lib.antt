@@ -1,2 +1,3 @@
--- How this crate's structs and enums stand for the definitions of `semantics`.
+-- How this crate's structs and enums stand for the definitions of `semantics`, and laws of variables.
 pub mod Maps
+pub mod VariableLaws

@@ -54,12 +54,12 @@ afterOf (After.Halts place) = steps.After.halts place
 
 -- ---- What the code's small functions give
 -- the starting name that stands between two places of the text
-unfoldable pub startingName : Book → List ℕ → ℕ → ℕ → Option (tokens.Read tokens.Variable)
-startingName book text at end =
-    elim (lookupName (book .names) (tokens.spelled text at end)) [
-      | Found.Name i kind ↦ some (variableAs end kind (tokens.Item.variable i kind))
-      | Found.Nothing ↦ none
-    ]
+unfoldable pub startingAs : ℕ → Found → Option (tokens.Read tokens.Variable)
+startingAs end (Found.Name i kind) = some (variableAs end kind (tokens.Item.variable i kind))
+startingAs end Found.Nothing = none
+
+abbrev pub startingName : Book → List ℕ → ℕ → ℕ → Option (tokens.Read tokens.Variable)
+startingName book text at end = startingAs end (lookupName (book .names) (tokens.spelled text at end))
 
 -- what a variable that was looked for gives to a step
 unfoldable pub variableTaken : Option (tokens.Read tokens.Variable) → steps.Taken

@@ -1,9 +1,10 @@
 -- Laws of variables: how a step goes on with what was looked for, and the two places in which a name is looked for.
 --
 -- Contents:
--- - names-behind: declared names, then starting names; variable-none, variable-declared, variable-starting
--- - steps: of-kind, of-other-kind, rejects, passes; errors: kind-found, kind-missing
-use mathlib.Core.Path.{_≡_, refl, sym, ap, _∙_}
+-- - declared names, then starting names: variable-none, variable-declared, variable-starting
+-- - steps: reads, of-kind, of-other-kind, rejects, passes
+-- - errors: kind-found, kind-missing
+use mathlib.Core.Path.{_≡_, refl, sym, _∙_}
 use mathlib.Core.Bool.{Bool, true, false}
 use mathlib.Core.List.{List, [], _∷_}
 use mathlib.Core.Option.{Option, none, some}
@@ -15,11 +16,11 @@ use Rattle.book.specs.declared.names.Found.{Found}
 use Rattle.book.specs.declared.records.Step.{Step}
 use Rattle.semantics.specs.Uses.{Scope}
 use Rattle.semantics.specs.Tokens.{Variable, Read, identifierEnd, spelled, variableIn, variableAt, isSome}
-use Rattle.semantics.specs.Steps.{Taken, nothing, read, stepAt}
-use Rattle.semantics.specs.Errors.{Error, error, identifierError, stepError}
-use Rattle.semantics.specs.Numbers.{wrongKind, unknownName}
+use Rattle.semantics.specs.Steps.{nothing, read, stepAt}
+use Rattle.semantics.specs.Errors.{error, stepError}
+use Rattle.semantics.specs.Numbers.{wrongKind}
 use Rattle.calls.specs.NamesLaws.{orElse}
-use Rattle.tokens.specs.Maps.{startingName, variableTaken, hasKind}
+use Rattle.tokens.specs.Maps.{startingAs, startingName, variableTaken, hasKind}
 
 -- ---- Declared names, then starting names
 names-behind : (names : List Entry) (d : ℕ) (scope : Scope) (spelling : List ℕ) →
@@ -43,46 +44,75 @@ module _ (book : Book) (text : List ℕ) (scope : Scope) (at : ℕ) where
   variable-none e = rw (e, variableAt)
 
   module _ (end : ℕ) (e : identifierEnd text at ≡ some end) where
+    named : (v : Variable) → variableIn (book .names) 0 scope (spelled text at end) ≡ some v →
+        some (record { end = end; value = v }) ≡ variableAt book text scope at
+    unfolding variableAt
+    named v f = rw (e, variableAt, f)
+
+    unnamed : variableIn (book .names) 0 scope (spelled text at end) ≡ none → none ≡ variableAt book text scope at
+    unfolding variableAt
+    unnamed f = rw (e, variableAt, f)
+
     pub variable-declared : (v : Variable) → some v ≡ variableIn [] 0 scope (spelled text at end) →
         some (record { end = end; value = v }) ≡ variableAt book text scope at
-    unfolding variableAt orElse
-    variable-declared v f =
-        let g : variableIn (book .names) 0 scope (spelled text at end) ≡ some v =
-        names-behind (book .names) 0 scope (spelled text at end) ∙ rw (← f) in
-        rw (e, variableAt, g)
+    unfolding orElse
+    variable-declared v f = named v (names-behind (book .names) 0 scope (spelled text at end) ∙ rw (← f))
 
     pub variable-starting : none ≡ variableIn [] 0 scope (spelled text at end) →
         startingName book text at end ≡ variableAt book text scope at
-    unfolding variableAt orElse
+    unfolding startingAs variableIn orElse
     variable-starting f =
-        let g : variableIn (book .names) 0 scope (spelled text at end)
-        ≡ variableIn (book .names) 0 [] (spelled text at end) =
-        names-behind (book .names) 0 scope (spelled text at end) ∙ rw (← f) in
-        by (lookupName (book .names) (spelled text at end)) refl g
+        by (lookupName (book .names) (spelled text at end)) refl
+        (names-behind (book .names) 0 scope (spelled text at end) ∙ rw (← f))
       where
-        by : (f : Found) → f ≡ lookupName (book .names) (spelled text at end) →
+        by : (g : Found) → g ≡ lookupName (book .names) (spelled text at end) →
             variableIn (book .names) 0 scope (spelled text at end)
             ≡ variableIn (book .names) 0 [] (spelled text at end) →
             startingName book text at end ≡ variableAt book text scope at
-        by f h g = ?
+        by (Found.Name i kind) g h = rw (← g) (named _ (h ∙ rw (← g, variableIn)))
+        by Found.Nothing g h = rw (← g) (unnamed (h ∙ rw (← g, variableIn)))
 
 -- ---- Steps
-module _ (book : Book) (text : List ℕ) (scope : Scope) (x : ℕ) (o : Option (Read Variable))
-    (e : o ≡ variableAt book text scope (skipFrom text x)) where
-  pub reads : variableTaken o ≡ stepAt book text scope Step.Variable x
+module _ (book : Book) (text : List ℕ) (scope : Scope) (x : ℕ) where
+  pub reads : (o : Option (Read Variable)) → o ≡ variableAt book text scope (skipFrom text x) →
+      variableTaken o ≡ stepAt book text scope Step.Variable x
   unfolding stepAt variableTaken
-  reads = ?
+  reads none e = rw (← e, stepAt)
+  reads (some v) e = rw (← e, stepAt)
 
-  pub of-kind : (a : ℕ) (t : Bool) → t ≡ hasKind o a → t ≡ true →
+  pub of-kind : (o : Option (Read Variable)) → o ≡ variableAt book text scope (skipFrom text x) →
+      (a : ℕ) (t : Bool) → t ≡ hasKind o a → t ≡ true →
       variableTaken o ≡ stepAt book text scope (Step.VariableOfKind a) x
-  of-kind a t f h = ?
+  unfolding stepAt variableTaken hasKind
+  of-kind none e a t f h = rw (← e, stepAt)
+  of-kind (some v) e a t f h = rw (← e, stepAt, sym f ∙ h)
 
-  pub of-other-kind : (a : ℕ) (t : Bool) → t ≡ hasKind o a → t ≡ false →
-      nothing ≡ stepAt book text scope (Step.VariableOfKind a) x
-  of-other-kind a t f h = ?
+  pub of-other-kind : (o : Option (Read Variable)) → o ≡ variableAt book text scope (skipFrom text x) →
+      (a : ℕ) (t : Bool) → t ≡ hasKind o a → t ≡ false → nothing ≡ stepAt book text scope (Step.VariableOfKind a) x
+  unfolding stepAt hasKind
+  of-other-kind none e a t f h = rw (← e, stepAt)
+  of-other-kind (some v) e a t f h = rw (← e, stepAt, sym f ∙ h)
 
-  pub rejects : (t : Bool) → t ≡ isSome o → t ≡ true → nothing ≡ stepAt book text scope Step.RejectVariable x
-  rejects t f h = ?
+  pub rejects : (o : Option (Read Variable)) → o ≡ variableAt book text scope (skipFrom text x) →
+      (t : Bool) → t ≡ isSome o → t ≡ true → nothing ≡ stepAt book text scope Step.RejectVariable x
+  unfolding stepAt isSome
+  rejects none e t f h = clash (sym f ∙ h) refl
+  rejects (some v) e t f h = rw (← e, stepAt)
 
-  pub passes : (t : Bool) → t ≡ isSome o → t ≡ false → read x none ≡ stepAt book text scope Step.RejectVariable x
-  passes t f h = ?
+  pub passes : (o : Option (Read Variable)) → o ≡ variableAt book text scope (skipFrom text x) →
+      (t : Bool) → t ≡ isSome o → t ≡ false → read x none ≡ stepAt book text scope Step.RejectVariable x
+  unfolding stepAt isSome
+  passes none e t f h = rw (← e, stepAt)
+  passes (some v) e t f h = clash refl (sym f ∙ h)
+
+-- ---- Errors
+module _ (book : Book) (text : List ℕ) (scope : Scope) (kind at : ℕ) (o : Option (Read Variable))
+    (e : o ≡ variableAt book text scope at) (t : Bool) (f : t ≡ isSome o) where
+  pub kind-found : t ≡ true → error at wrongKind kind ≡ stepError book text scope (Step.VariableOfKind kind) at
+  unfolding stepError
+  kind-found h = rw (← e, sym f ∙ h)
+
+  pub kind-missing : t ≡ false →
+      stepError book text scope Step.Variable at ≡ stepError book text scope (Step.VariableOfKind kind) at
+  unfolding stepError
+  kind-missing h = rw (← e, sym f ∙ h)

@@ -10,14 +10,14 @@ returns : tie.Need-returns
 unfolding stepAt
 returns c =
     let character-end = c .before .before .character-end in
-    λ book. rw (sym (character-end .ensures) ∙ ap endOf (c .enum-told .given .1), stepAt)
+    λ book scope. rw (sym (character-end .ensures) ∙ ap endOf (c .enum-told .given .1), stepAt)
 
 returns-2 : tie.Need-returns-2
 unfolding stepAt
 returns-2 c =
     let character-end = c .before .before .before .before .character-end in
     let end = c .before .before .end in
-    λ book. rw (sym (character-end .ensures) ∙ ap endOf (end .given .1), stepAt) (c .bare .ensures)
+    λ book scope. rw (sym (character-end .ensures) ∙ ap endOf (end .given .1), stepAt) (c .bare .ensures)
 
 pub character-spec : {M : Type 1} → statement M
 character-spec =

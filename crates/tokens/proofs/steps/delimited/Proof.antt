@@ -10,13 +10,13 @@ returns : tie.Need-returns
 unfolding stepAt
 returns c =
     let character-end = c .before .before .character-end in
-    λ book. rw (sym (character-end .ensures) ∙ ap endOf (c .enum-told .given .1), stepAt)
+    λ book scope. rw (sym (character-end .ensures) ∙ ap endOf (c .enum-told .given .1), stepAt)
 
 returns-2 : tie.Need-returns-2
 unfolding stepAt
 returns-2 c =
     let character-end = c .before .before .before .character-end in
-    λ book. rw (sym (character-end .ensures) ∙ ap endOf (c .before .place .given .1), stepAt)
+    λ book scope. rw (sym (character-end .ensures) ∙ ap endOf (c .before .place .given .1), stepAt)
 
 pub delimited-spec : {M : Type 1} → statement M
 delimited-spec =

@@ -11,7 +11,7 @@ unfolding stepAt
 returns c =
     let skip = c .before .before .before .skip in
     let free-end = c .before .before .free-end in
-    rw (sym (skip .ensures), sym (free-end .ensures) ∙ ap endOf (c .enum-told .given .1), stepAt)
+    λ scope. rw (sym (skip .ensures), sym (free-end .ensures) ∙ ap endOf (c .enum-told .given .1), stepAt)
 
 returns-2 : tie.Need-returns-2
 unfolding stepAt
@@ -19,6 +19,7 @@ returns-2 c =
     let skip = c .before .before .before .before .before .skip in
     let free-end = c .before .before .before .before .free-end in
     let end = c .before .before .end in
+    λ scope.
     rw (
       sym (skip .ensures),
       sym (free-end .ensures) ∙ ap endOf (end .given .1),

@@ -10,21 +10,21 @@ unfolding stepAt
 returns c =
     let skip = c .before .before .before .before .skip in
     let number-at = c .before .before .before .number-at in
-    λ book. rw (sym (skip .ensures), sym (number-at .ensures) ∙ c .before .value .given .1, stepAt)
+    λ book scope. rw (sym (skip .ensures), sym (number-at .ensures) ∙ c .before .value .given .1, stepAt)
 
 returns-2 : tie.Need-returns-2
 unfolding stepAt
 returns-2 c =
     let skip = c .before .before .before .skip in
     let number-at = c .before .before .number-at in
-    λ book. rw (sym (skip .ensures), sym (number-at .ensures) ∙ c .enum-told .given .1, stepAt)
+    λ book scope. rw (sym (skip .ensures), sym (number-at .ensures) ∙ c .enum-told .given .1, stepAt)
 
 returns-3 : tie.Need-returns-3
 unfolding stepAt
 returns-3 c =
     let skip = c .before .before .before .skip in
     let number-at = c .before .before .number-at in
-    λ book. rw (sym (skip .ensures), sym (number-at .ensures) ∙ c .enum-told2 .given .1, stepAt)
+    λ book scope. rw (sym (skip .ensures), sym (number-at .ensures) ∙ c .enum-told2 .given .1, stepAt)
 
 pub number-spec : {M : Type 1} → statement M
 number-spec =

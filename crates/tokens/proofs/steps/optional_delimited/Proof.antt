@@ -10,14 +10,14 @@ returns : tie.Need-returns
 unfolding stepAt
 returns c =
     let character-end = c .before .before .before .character-end in
-    λ book.
+    λ book scope.
     rw (sym (character-end .ensures) ∙ ap endOf (c .before .enum-told .given .1), stepAt, sym (c .skip .ensures))
 
 returns-2 : tie.Need-returns-2
 unfolding stepAt
 returns-2 c =
     let character-end = c .before .before .before .character-end in
-    λ book. rw (sym (character-end .ensures) ∙ ap endOf (c .before .place .given .1), stepAt)
+    λ book scope. rw (sym (character-end .ensures) ∙ ap endOf (c .before .place .given .1), stepAt)
 
 pub optional-delimited-spec : {M : Type 1} → statement M
 optional-delimited-spec =

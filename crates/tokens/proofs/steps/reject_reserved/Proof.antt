@@ -9,14 +9,14 @@ returns : tie.Need-returns
 unfolding stepAt
 returns c =
     let skip = c .before .before .skip in
-    rw (sym (skip .ensures), sym (c .before .reserved-at .ensures) ∙ c .if1 .taken)
+    λ scope. rw (sym (skip .ensures), sym (c .before .reserved-at .ensures) ∙ c .if1 .taken)
 
 returns-2 : tie.Need-returns-2
 unfolding stepAt
 returns-2 c =
     let skip = c .before .before .before .skip in
     let reserved-at = c .before .before .reserved-at in
-    rw (sym (skip .ensures), sym (reserved-at .ensures) ∙ c .before .if1 .left) (c .bare .ensures)
+    λ scope. rw (sym (skip .ensures), sym (reserved-at .ensures) ∙ c .before .if1 .left) (c .bare .ensures)
 
 pub reject-reserved-spec : {M : Type 1} → statement M
 reject-reserved-spec =

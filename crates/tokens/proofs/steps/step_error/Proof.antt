@@ -24,10 +24,10 @@ returns-3 c =
     rw (enum-told .given .1) (c .identifier-error .ensures ∙ ap (identifierError _ _ _) (c .before .error-at3 .ensures))
 
 returns-4 : tie.Need-returns-4
-returns-4 c = rw (c .before .enum-told2 .given .1) (c .number-error .ensures _)
+returns-4 c = rw (c .before .enum-told2 .given .1) (c .number-error .ensures _ _)
 
 returns-5 : tie.Need-returns-5
-returns-5 c = rw (c .before .enum-told3 .given .1) (c .variable-error .ensures)
+returns-5 c = rw (c .before .enum-told3 .given .1) (c .variable-error .ensures _)
 
 returns-6 : tie.Need-returns-6
 returns-6 c =

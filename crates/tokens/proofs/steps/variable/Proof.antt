@@ -1,26 +1,12 @@
 -- `tokens::variable` meets its contract.
-use mathlib.Core.Path.{sym, ap, _∙_}
+use mathlib.Core.Path.{_∙_}
 use borrow.Author.Needs.{needs}
-use Rattle.semantics.specs.Steps.{stepAt}
-use Rattle.tokens.specs.Maps.{variableOf}
+use Rattle.tokens.specs.VariableLaws.{reads}
 use Rattle.tokens.proofs.steps.variable.Statement.{statement}
 use Rattle.tokens.proofs.steps.variable.Tie as tie
 
 returns : tie.Need-returns
-unfolding stepAt
-returns c =
-    let skip = c .before .before .before .before .skip in
-    let variable-at = c .before .before .before .variable-at in
-    rw (sym (skip .ensures), sym (variable-at .ensures) ∙ ap variableOf (c .before .end .given .1), stepAt)
-
-returns-2 : tie.Need-returns-2
-unfolding stepAt
-returns-2 c =
-    let skip = c .before .before .before .skip in
-    let variable-at = c .before .before .variable-at in
-    rw (sym (skip .ensures), sym (variable-at .ensures) ∙ ap variableOf (c .enum-told .given .1), stepAt)
+returns c = c .read-variable .ensures ∙ reads _ _ _ _ _ (c .before .variable-behind .ensures)
 
 pub variable-spec : {M : Type 1} → statement M
-variable-spec =
-    tie.close
-    (tie.spec (λ c κs. search needs) (λ c κs. search needs) (λ c. search needs) (λ c. search needs) returns returns-2)
+variable-spec = tie.close (tie.spec (λ c κs. search needs) (λ c κs. search needs) returns)

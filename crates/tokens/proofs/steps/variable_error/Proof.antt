@@ -7,7 +7,7 @@ use Rattle.tokens.proofs.steps.variable_error.Tie as tie
 
 returns : tie.Need-returns
 unfolding stepError
-returns c = c .identifier-error .ensures ∙ ap (identifierError _ _ _) (c .before .error-at .ensures)
+returns c = λ scope. c .identifier-error .ensures ∙ ap (identifierError _ _ _) (c .before .error-at .ensures)
 
 pub variable-error-spec : {M : Type 1} → statement M
 variable-error-spec = tie.close (tie.spec (λ c κs. search needs) (λ c κs. search needs) returns)

@@ -11,7 +11,7 @@ unfolding stepAt
 returns c =
     let skip = c .before .before .before .skip in
     let identifier-end = c .before .before .identifier-end in
-    rw (sym (skip .ensures), sym (identifier-end .ensures) ∙ ap endOf (c .enum-told .given .1), stepAt)
+    λ scope. rw (sym (skip .ensures), sym (identifier-end .ensures) ∙ ap endOf (c .enum-told .given .1), stepAt)
 
 returns-2 : tie.Need-returns-2
 unfolding stepAt
@@ -25,6 +25,7 @@ returns-2 c =
     let same-bytes = c .before .before .same-bytes in
     let ends = sym (identifier-end .ensures) ∙ ap endOf (end .given .1) in
     let test = sym (same-bytes .ensures) ∙ c .before .if1 .taken in
+    λ scope.
     rw (
       sym (skip .ensures),
       ends,
@@ -47,6 +48,7 @@ returns-3 c =
     let word = c .before .before .word in
     let ends = sym (identifier-end .ensures) ∙ ap endOf (end .given .1) in
     let test = sym (c .before .same-bytes .ensures) ∙ c .if1 .left in
+    λ scope.
     rw (
       sym (skip .ensures),
       ends,
