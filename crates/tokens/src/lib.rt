@@ -10,9 +10,12 @@
 //
 // The crate relies on the promises of `characters`, `book`, `errors` and `calls` and on the definitions of `semantics`
 // and `run_model`, and assumes nothing.
+mod declarations;
 mod steps;
 mod tokens;
 
+pub use declarations::Declaration;
+pub use declarations::declaration_at;
 pub use steps::After;
 pub use steps::Closing;
 pub use steps::Item;
