@@ -1,7 +1,7 @@
 -- Laws for the functions over the open calls: a sequence of stores to one row, and searching the rows.
 --
 -- Contents:
--- - stores to one row: row-after, row-else, then-row, open-law, variant-law
+-- - stores to one row: row-after, row-else, then-row, open-law, declare-law, variant-law
 -- - governors: not-live, not-same, by-child; openings: body-test, inherited-outside, inherited-around, scope-idle,
 --   scope-live; the search: Seeking, seeking-start, seeking-hit, seeking-scope, seeking-on, seeking-end,
 --   governor-above, governor-body, governor-none, governor-same, governor-minimum
@@ -20,7 +20,7 @@ use Rattle.book.specs.Book.{Book}
 use Rattle.book.specs.Check.{associativityOf}
 use Rattle.semantics.specs.Uses.{hasMark, minimumOf}
 use Rattle.semantics.specs.Tokens.{when}
-use Rattle.run_model.specs.Rows.{Row, row, noRow, rowOf, onRow, withSet, withVariant, opened}
+use Rattle.run_model.specs.Rows.{Row, row, noRow, rowOf, onRow, withSet, withVariant, opened, declared}
 use Rattle.run_model.specs.Rows.{useAt, inherited, isBody, beginsScope, governs, inScope, newestGovernor, RowGovernor}
 use Rattle.run_model.specs.Rows.{minimum, same-start, governorAt, governorOf, claims, anyClaims, claimsUse}
 use Rattle.calls.specs.Table.{field}
@@ -49,6 +49,16 @@ open-law T c b N u h T1 T2 T3 T4 T5 T6 e1 e2 e3 e4 e5 e6 =
     let k4 = then-row T T3 T4 c (made (r .start) (r .asked)) (field 3 u) h k3 e4 in
     let k5 = then-row T T4 T5 c (made u (r .asked)) (field 7 0) h k4 e5 in
     then-row T T5 T6 c (made u 0) (withSet []) h k5 e6
+
+pub declare-law : (T : List Row) (c kind place size : ℕ) → c < length T → (T1 T2 T3 T4 : List Row) →
+    T1 ≡ onRow T c (field 0 0) → T2 ≡ onRow T1 c (field 8 kind) → T3 ≡ onRow T2 c (field 9 place) →
+    T4 ≡ onRow T3 c (field 10 size) → T4 ≡ onRow T c (declared kind place size)
+declare-law T c kind place size h T1 T2 T3 T4 e1 e2 e3 e4 =
+    let r = rowOf T c in
+    let made : ℕ → ℕ → Row = λ kind place. declared kind place (r .size) r in
+    let k2 = then-row T T1 T2 c (field 0 0 r) (field 8 kind) h e1 e2 in
+    let k3 = then-row T T2 T3 c (made kind (r .place)) (field 9 place) h k2 e3 in
+    then-row T T3 T4 c (made kind place) (field 10 size) h k3 e4
 
 pub variant-law : (T : List Row) (c l a : ℕ) → c < length T → (T1 T2 : List Row) → T1 ≡ onRow T c (field 4 l) →
     T2 ≡ onRow T1 c (field 5 a) → T2 ≡ onRow T c (withVariant l a)

@@ -7,6 +7,7 @@
 -- - the names of one binder, the nearest row first: Looking, looking-name, looking-on, looking-none
 -- - the binders, the innermost first: Searching, searching-start, searching-hit, searching-on, searching-end,
 --   searching-none, searching-some
+-- - how many names the binders have: Counting, counting-start, counting-on, counting-end, counting-none, counting-some
 use mathlib.Core.Path.{_≡_, refl, sym, ap, _∙_}
 use mathlib.Core.Bool.{Bool, true, false, cond}
 use mathlib.Core.List.{List, []}
@@ -23,6 +24,7 @@ use Rattle.book.specs.Book.{lookupFrom, lookupName}
 use Rattle.book.specs.declared.names.Found.{Found}
 use Rattle.semantics.specs.Uses.{Path, scopeOf}
 use Rattle.semantics.specs.Tokens.{Item, Variable, variableIn, isSome}
+use Rattle.semantics.specs.Run.{declaredNames}
 use Rattle.run_model.specs.Rows.{Row, noRow, rowOf, isBody, entryAt, namesAbove, behindNames, withinRow, pathFrom, pathOf}
 use Rattle.run_model.specs.Rows.{pathAt, scopeAt}
 use Rattle.calls.specs.TableLaws.{row-past}
@@ -72,6 +74,35 @@ open-past T i b size h e = e ∙ rw (row-past T i (omega arith))
 unfoldable pub orElse : Option Variable → Option Variable → Option Variable
 orElse (some v) w = some v
 orElse none w = w
+
+-- ---- The rows, one by one
+module _ (text : List ℕ) (T : List Row) where
+  -- the open calls above row i begin with the next row
+  next-live : (k i : ℕ) →
+      scopeOf (pathFrom text T (suc k) i)
+      ≡ scopeOf (behindNames text T i (openBinder (rowOf T i)) (pathFrom text T k (suc i)))
+  unfolding pathFrom withinRow scopeOf behindNames
+  next-live k i =
+      by-test (eqb (rowOf T i .live) 1) (λ e. rw (e, pathFrom, withinRow)) (λ e. rw (e, pathFrom, withinRow))
+
+  last-row : length T ≡ 201 → scopeOf (pathOf text T 200) ≡ scopeOf (pathAt text T 201 (openBinder (rowOf T 201)))
+  unfolding pathFrom scopeOf behindNames
+  last-row size = rw (row-past T 201 (omega (arith, size)))
+
+  next-row : (i : ℕ) → length T ≡ 201 → i ≤ 200 →
+      scopeOf (pathOf text T i) ≡ scopeOf (pathAt text T (i + 1) (openBinder (rowOf T (i + 1))))
+  next-row i size h =
+      by-test (ltb i 200)
+      (λ l.
+      let m = ltb-true i 200 l in
+      let a : 200 - i ≡ suc (200 - (i + 1)) = omega arith in
+      let b : suc i ≡ i + 1 = omega arith in
+      ap (λ k. scopeOf (pathFrom text T k (suc i))) a
+      ∙ ap (λ j. scopeOf (pathFrom text T (suc (200 - (i + 1))) j)) b ∙ next-live (200 - (i + 1)) (i + 1))
+      (λ l.
+      let m = ltb-false i 200 l in
+      let e : i ≡ 200 = omega arith in
+      rw e (last-row size))
 
 -- ---- The names of one binder
 module _ (text : List ℕ) (T : List Row) (wanted : List ℕ) where
@@ -142,33 +173,6 @@ module _ (text : List ℕ) (T : List Row) (wanted : List ℕ) where
       by (Found.Name j kind) e = rw (← e, variableIn)
       by Found.Nothing e = rw (← e, variableIn)
 
-  -- the open calls above row i begin with the next row
-  next-live : (k i : ℕ) →
-      scopeOf (pathFrom text T (suc k) i)
-      ≡ scopeOf (behindNames text T i (openBinder (rowOf T i)) (pathFrom text T k (suc i)))
-  unfolding pathFrom withinRow scopeOf behindNames
-  next-live k i =
-      by-test (eqb (rowOf T i .live) 1) (λ e. rw (e, pathFrom, withinRow)) (λ e. rw (e, pathFrom, withinRow))
-
-  last-row : length T ≡ 201 → scopeOf (pathOf text T 200) ≡ scopeOf (pathAt text T 201 (openBinder (rowOf T 201)))
-  unfolding pathFrom scopeOf behindNames
-  last-row size = rw (row-past T 201 (omega (arith, size)))
-
-  next-row : (i : ℕ) → length T ≡ 201 → i ≤ 200 →
-      scopeOf (pathOf text T i) ≡ scopeOf (pathAt text T (i + 1) (openBinder (rowOf T (i + 1))))
-  next-row i size h =
-      by-test (ltb i 200)
-      (λ l.
-      let m = ltb-true i 200 l in
-      let a : 200 - i ≡ suc (200 - (i + 1)) = omega arith in
-      let b : suc i ≡ i + 1 = omega arith in
-      ap (λ k. scopeOf (pathFrom text T k (suc i))) a
-      ∙ ap (λ j. scopeOf (pathFrom text T (suc (200 - (i + 1))) j)) b ∙ next-live (200 - (i + 1)) (i + 1))
-      (λ l.
-      let m = ltb-false i 200 l in
-      let e : i ≡ 200 = omega arith in
-      rw e (last-row size))
-
   pub searching-start : (c a : ℕ) → Searching c a c a 0
   searching-start c a = refl
 
@@ -186,7 +190,7 @@ module _ (text : List ℕ) (T : List Row) (wanted : List ℕ) where
   searching-on c a i b d b₁ d₁ (some v) t size s h e f k eb ed = clash refl (sym f ∙ k)
   searching-on c a i b d b₁ d₁ none t size s h e f k eb ed =
       rw (eb, ed)
-      (ap (λ scope. variableIn [] (depthPast b d) scope wanted) (sym (next-row i size h))
+      (ap (λ scope. variableIn [] (depthPast b d) scope wanted) (sym (next-row text T i size h))
       ∙ sym (split i b d (pathOf text T i) ∙ rw (← e)) ∙ s)
 
   -- behind the table no call is open
@@ -207,3 +211,51 @@ module _ (text : List ℕ) (T : List Row) (wanted : List ℕ) where
   unfolding scopeAt
   searching-some c zero o h e = absurd (h refl)
   searching-some c (suc a) o h e = e
+
+-- ---- How many names there are
+module _ (text : List ℕ) (T : List Row) where
+  -- so many names were counted up to the call of row i, whose binder is b; with those from there on they are the names in
+  -- the scope of the use at row c with binder a
+  abbrev pub Counting : ℕ → ℕ → ℕ → ℕ → ℕ → Type 0
+  Counting c a i b count =
+      count + declaredNames (scopeOf (pathAt text T i b)) ≡ declaredNames (scopeOf (pathAt text T c a))
+
+  names-length : (n i : ℕ) → length (namesAbove text T n i) ≡ n
+  unfolding namesAbove
+  names-length zero i = refl
+  names-length (suc n) i = ap suc (names-length n i)
+
+  own-count : (i b : ℕ) (path : Path) →
+      declaredNames (scopeOf (behindNames text T i b path)) ≡ nameCount b + declaredNames (scopeOf path)
+  unfolding behindNames scopeOf declaredNames nameCount
+  own-count i zero path = omega arith
+  own-count i (suc zero) path = omega arith
+  own-count i (suc (suc n)) path = rw (names-length n i)
+
+  pub counting-start : (c a : ℕ) → Counting c a c a 0
+  counting-start c a = omega arith
+
+  pub counting-on : (c a i b b₁ count n : ℕ) → length T ≡ 201 → Counting c a i b count → i ≤ 200 → n ≡ nameCount b →
+      b₁ ≡ openBinder (rowOf T (i + 1)) → Counting c a (i + 1) b₁ (count + n)
+  counting-on c a i b b₁ count n size s h e f =
+      let own = own-count i b (pathOf text T i) in
+      let next = ap declaredNames (next-row text T i size h) in
+      rw f (omega (arith, s, own, next, e))
+
+  pub counting-end : (c a i b count : ℕ) → Counting c a i b count → 200 < i → b ≡ 0 →
+      count ≡ declaredNames (scopeOf (pathAt text T c a))
+  unfolding pathFrom scopeOf behindNames declaredNames
+  counting-end c a i b count s h e =
+      let f : 200 - i ≡ 0 = omega arith in
+      let z : count + 0 ≡ count = omega arith in
+      sym z ∙ (rw (e, f) at s)
+
+  pub counting-none : (c a : ℕ) → a ≡ 0 → 0 ≡ declaredNames (scopeAt text T c a)
+  unfolding scopeAt declaredNames
+  counting-none c a e = rw e refl
+
+  pub counting-some : (c a count : ℕ) → (a ≡ 0 → ⊥) → count ≡ declaredNames (scopeOf (pathAt text T c a)) →
+      count ≡ declaredNames (scopeAt text T c a)
+  unfolding scopeAt
+  counting-some c zero count h e = absurd (h refl)
+  counting-some c (suc a) count h e = e

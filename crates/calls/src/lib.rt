@@ -19,6 +19,7 @@ mod names;
 
 pub use names::Declared;
 pub use names::declared_at;
+pub use names::declared_count;
 ghost use mathlib.Core.Path.{_≡_};
 ghost use mathlib.Core.List.{[], _∷_};
 ghost use Prim.Native.Nat.{suc, _-_};
@@ -255,6 +256,17 @@ pub fn open_call(rows: &mut [u32], row: usize, binder: u32, nonterminal: u32, at
     put(rows, row, START, at);
     put(rows, row, ASKED, 0);
     clear_set(rows, row);
+}
+
+// A name is declared at a row's level, which is no call's.
+pub fn declare(rows: &mut [u32], row: usize, kind: u32, place: u32, size: u32)
+    requires { ⌜ InTable row rows ⌝ }
+    ensures { λ _. ⌜ Changes rows row (model.declared kind place size) ⌝ }
+{
+    put(rows, row, LIVE, 0);
+    put(rows, row, KIND, kind);
+    put(rows, row, PLACE, place);
+    put(rows, row, SIZE, size);
 }
 
 // The call of a row is over.

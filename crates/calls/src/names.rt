@@ -3,13 +3,14 @@
 // "An equal name declared later wins": the innermost binder is searched first, and in it the last name, which stands in
 // the nearest row. So the first equal name that is found is the one.
 ghost use mathlib.Core.Path.{_≡_};
-ghost use mathlib.Core.List.{[]};
-ghost use Prim.Native.Nat.{_≤_};
+ghost use mathlib.Core.List.{List, []};
+ghost use Prim.Native.Nat.{ℕ, _≤_};
 ghost use denote.Ref.{now};
 ghost use Rattle.characters.specs.Slices.{atEntry};
 ghost use Rattle.characters.specs.Spelling.{partOf};
 ghost use Rattle.semantics.specs.Numbers.{mostNesting};
 ghost use Rattle.semantics.specs.Tokens.{variableIn, isSome};
+ghost use Rattle.semantics.specs.Run.{declaredNames};
 ghost use Rattle.run_model.specs.Rows.{entryAt, scopeAt};
 ghost use Rattle.calls.specs.Table.{HasTable, InTable, ColumnIn, tableAt, rowIn, fieldOf};
 ghost use Rattle.calls.specs.Names.{declaredOf, openBinder, nameCount, depthPast, ownName};
@@ -156,4 +157,23 @@ pub fn declared_at(
         around = open_binder(rows, above);
     }
     Declared::Nothing
+}
+
+// How many names are declared in the scope of a use in a row and with a binder.
+pub fn declared_count(rows: &[u32], row: usize, binder: u32) -> usize
+    requires { ⌜ InTable row rows ⌝ }
+    ensures { λ r. ⌜ ((text : List ℕ) → r ≡ declaredNames (scopeAt text (tableAt rows) row binder)) ⌝ }
+{
+    if binder == OUTSIDE {
+        return 0;
+    }
+    let mut around = binder;
+    let mut above = row;
+    let mut count = 0;
+    while above <= MOST_NESTING {
+        count += name_count(around) as usize;
+        above += 1;
+        around = open_binder(rows, above);
+    }
+    count
 }
