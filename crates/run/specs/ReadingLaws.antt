@@ -241,7 +241,7 @@ reads cells parses bytes text start allowance a e =
           subst (Exact book text start) (sym e)
           (found-is-exactly-derivable cells parses bytes text start allowance book accepted
           (subst (λ (x : Answered). between 1 11 (x .answer .refusal) ≡ false) e early)
-          (subst (λ (x : Answered). between 20 23 (x .answer .refusal) ≡ false) e limit));
+          (subst (λ (x : Answered). isLimit (x .answer .refusal) ≡ false) e limit));
     }
 
 module _ (index store rows cells parses bytes text : List ℕ) (start allowance : ℕ) (t : Bool)
