@@ -3,8 +3,8 @@
 -- of document 01.
 --
 -- What is asked: Short, Fitting, Ready. What is promised: MakesCell of a cell, Does of a part of the run, Continues of
--- one that goes on from an outcome, BeginsUse and Opens of a use, Begins of a variant, Stages, StagesAll and Reaches of
--- a part that calls nothing. Then the parts of the model, from where a path is.
+-- one that goes on from an outcome, BeginsUse and Opens of a use, Begins of a variant, Stages, StagesIn, StagesAll and
+-- Reaches of a part that calls nothing. Then the parts of the model, from where a path is.
 use mathlib.Core.Bool.{Bool}
 use mathlib.Core.List.{List, _∷_}
 use mathlib.Core.Option.{Option}
@@ -16,7 +16,8 @@ use Rattle.book.specs.Book.{Book, nthStep}
 use Rattle.book.specs.Index.{bookIn, bookAt}
 use Rattle.semantics.specs.Numbers.{mostNesting, longestText}
 use Rattle.semantics.specs.Values.{Parse}
-use Rattle.semantics.specs.Steps.{Item, taking}
+use Rattle.semantics.specs.Tokens.{Item}
+use Rattle.semantics.specs.Steps.{taking}
 use Rattle.semantics.specs.Run as run
 use Rattle.semantics.specs.Run.{Result}
 use Rattle.run_model.specs.Model.{RowState, rowState, Outcome, runIdentifierRows, completeRows}
@@ -77,15 +78,15 @@ Continues book index text store rows before r part =
     (λ cells. part (bookAt book index) (atEntry text) (given before cells (tableAt rows)))
 
 -- a use of a nonterminal, up to its runs; and after the unit and the governor
-abbrev pub BeginsUse : Lent → Lent → Lent → Lent → Lent → ℕ → ℕ → ℕ → State → Entered → Type 0
-BeginsUse book index text store rows row N u s e =
+abbrev pub BeginsUse : Lent → Lent → Lent → Lent → Lent → ℕ → ℕ → ℕ → ℕ → State → Entered → Type 0
+BeginsUse book index text store rows row binder N u s e =
     entering.BeginsUse (bookAt book index) (atEntry text) (atEntry store) (atExit store) (tableAt rows)
-    (tableAfter rows) row N u s e
+    (tableAfter rows) row binder N u s e
 
-abbrev pub Opens : Lent → Lent → Lent → Lent → Lent → ℕ → ℕ → ℕ → ℕ → State → Entered → Type 0
-Opens book index text store rows row N u minimum s e =
+abbrev pub Opens : Lent → Lent → Lent → Lent → Lent → ℕ → ℕ → ℕ → ℕ → ℕ → State → Entered → Type 0
+Opens book index text store rows row binder N u minimum s e =
     entering.Opens (bookAt book index) (atEntry text) (atEntry store) (atExit store) (tableAt rows) (tableAfter rows)
-    row N u minimum s e
+    row binder N u minimum s e
 
 -- a variant of a row's call begins
 abbrev pub Begins : Lent → Lent → Lent → Lent → Lent → ℕ → ℕ → State → Reached → Type 0
@@ -98,6 +99,12 @@ abbrev pub Stages : Lent → Lent → Lent → Lent → Progress → State → S
 Stages book index text store here s g part =
     steps.StagedFrom (bookAt book index) (atEntry text) (atEntry store) s (atExit store) (here .variant) g
     (part (bookAt book index) (atEntry text))
+
+-- the same of a step, which sees the names in the scope of its call
+abbrev pub StagesIn : Lent → Lent → Lent → Lent → Lent → Progress → State → Stage → (Book → List ℕ → ModelPart) → Type 0
+StagesIn book index text store rows here s g part =
+    steps.StagedIn (bookAt book index) (atEntry text) (atEntry store) s (atExit store) (tableAt rows) (here .call)
+    (here .variant) g (part (bookAt book index) (atEntry text))
 
 -- the same of a part that reads no book
 abbrev pub StagesAll : Lent → Lent → Progress → State → Stage → (Book → List ℕ → ModelPart) → Type 0
@@ -112,9 +119,9 @@ Reaches book index text store here s g part =
     (part (bookAt book index) (atEntry text))
 
 -- ---- Parts of the model
--- a use of mark 2, in row n
-abbrev pub identifies : ℕ → ℕ → ℕ → FromState
-identifies n N u book text s = runIdentifierRows book text n N u s
+-- a use of mark 2, in row n and with a binder
+abbrev pub identifies : ℕ → ℕ → ℕ → ℕ → FromState
+identifies n binder N u book text s = runIdentifierRows book text n binder N u s
 
 -- ---- From where a path is
 -- the variant's end

@@ -32,7 +32,7 @@ use Rattle.transitions.specs.declared.stages.Reached.{Reached}
 use Rattle.transitions.specs.Outcomes.{cellsOf, Held, given, failureAt}
 use Rattle.transitions.specs.Steps.{resumes}
 
--- ---- Entering
+-- ---- Entering, with a binder b
 -- stored parses
 pub record Stores (T U : List Row) (g n N u : ℕ) (s : State) (r : code.Outcome) : Type 0 where
   pub is : (book : Book) (text : List ℕ) (inner : Option RowRunner) (cells : List Cell) →
@@ -44,34 +44,34 @@ abbrev pub innerRunner : Book → List ℕ → ℕ → RowRunner
 innerRunner book text n = stepsRows book text (runnerRows book text (n - 1)) (n - 1)
 
 -- a use goes on to its runs, or is over
-unfoldable pub goesIn : Book → List ℕ → ℕ → ℕ → ℕ → Entered → List Cell → List Row → Result Outcome
-goesIn book text n N u e cells T =
+unfoldable pub goesIn : Book → List ℕ → ℕ → ℕ → ℕ → ℕ → Entered → List Cell → List Row → Result Outcome
+goesIn book text n b N u e cells T =
     when (e .runs)
     (λ _.
-    runCallRows book text (innerRunner book text n) n N u (e .minimum) (rowState (e .outcome .state .units) cells T))
+    runCallRows book text (innerRunner book text n) n b N u (e .minimum) (rowState (e .outcome .state .units) cells T))
     (λ _. given (e .outcome) cells T)
 
 -- what a use comes to is what the model gives, and the store holds its cells
-pub record Entering (book : Book) (text store : List ℕ) (T : List Row) (n N u : ℕ) (e : Entered)
+pub record Entering (book : Book) (text store : List ℕ) (T : List Row) (n b N u : ℕ) (e : Entered)
     (z : Result Outcome) : Type 0 where
-  pub is : goesIn book text n N u e (cellsOf store (e .outcome .state .cells)) T ≡ z
+  pub is : goesIn book text n b N u e (cellsOf store (e .outcome .state .cells)) T ≡ z
   pub held : Held text store (e .outcome .state .cells)
 
 -- one level of nesting, after the unit and the governor
-pub record Opens (book : Book) (text before after : List ℕ) (T U : List Row) (n N u m : ℕ) (s : State)
+pub record Opens (book : Book) (text before after : List ℕ) (T U : List Row) (n b N u m : ℕ) (s : State)
     (e : Entered) : Type 0 where
-  pub does : Held text before (s .cells) → Entering book text after U n N u e
+  pub does : Held text before (s .cells) → Entering book text after U n b N u e
       (let t = rowState (s .units) (cellsOf before (s .cells)) T in
       nestedRows book text (runnerRows book text n) n t (λ run.
-      when (hasMark book 2 N) (λ _. runIdentifierRows book text n N u t) (λ _. runCallRows book text run n N u m t)))
+      when (hasMark book 2 N) (λ _. runIdentifierRows book text n b N u t) (λ _. runCallRows book text run n b N u m t)))
   -- a use that is to be run has a level of nesting left
   pub above : e .runs ≡ true → 0 < n
 
 -- a use of a nonterminal
-pub record BeginsUse (book : Book) (text before after : List ℕ) (T U : List Row) (n N u : ℕ) (s : State)
+pub record BeginsUse (book : Book) (text before after : List ℕ) (T U : List Row) (n b N u : ℕ) (s : State)
     (e : Entered) : Type 0 where
-  pub does : Held text before (s .cells) → Entering book text after U n N u e
-      (enterRows book text (runnerRows book text n) n N u (rowState (s .units) (cellsOf before (s .cells)) T))
+  pub does : Held text before (s .cells) → Entering book text after U n b N u e
+      (enterRows book text (runnerRows book text n) n b N u (rowState (s .units) (cellsOf before (s .cells)) T))
   -- a use that is to be run has a level of nesting left
   pub above : e .runs ≡ true → 0 < n
 

@@ -27,7 +27,7 @@ use Rattle.semantics.specs.Uses.{hasMark}
 use Rattle.semantics.specs.Run as run
 use Rattle.semantics.specs.Run.{Result, met, ok}
 use Rattle.run_model.specs.Rows.{Row, rowOf, onRow, withSet, ended, RowGovernor, same-start, minimum, governorOf}
-use Rattle.run_model.specs.Rows.{anyClaims}
+use Rattle.run_model.specs.Rows.{scopeAt, claimsUse}
 use Rattle.run_model.specs.Model.{rowState, Outcome, outcome, RowRunner, spendRows, failsEmpty}
 use Rattle.run_model.specs.Model.{claimedRows, namedRows, runIdentifierRows, runCallRows, nestedRows, storedRows}
 use Rattle.run_model.specs.Model.{enterRows, runnerRows}
@@ -86,39 +86,36 @@ module _ (T U : List Row) (g n N u : ℕ) (s : State) (k : ℕ) (e : U ≡ withS
       answered-with Failure.None o eo (sym (some-passes (rowOf U n .set) (error u 11 N) (λ z. h (ek ∙ z))))
 
 -- ---- Claims
-module _ (book : Book) (text : List ℕ) (T : List Row) (n u : ℕ) (v : Variable)
-    (e : variableOf v ≡ variableAt book text u) where
-  pub claimed-named : (end number kind : ℕ) (t : Bool) → v ≡ Variable.Named end number kind →
-      t ≡ anyClaims book T u (200 - n) (suc n) → t ≡ claimedRows book text T n u
-  unfolding isSome
-  claimed-named end number kind t h et = et ∙ rw (sym e ∙ ap variableOf h)
+module _ (book : Book) (text : List ℕ) (T : List Row) (n b u : ℕ) (v : Variable)
+    (e : variableOf v ≡ variableAt book text (scopeAt text T n b) u) (w : Bool) (f : w ≡ isSome (variableOf v)) where
+  pub claimed-named : (t : Bool) → w ≡ true → t ≡ claimsUse book T n b u → t ≡ claimedRows book text T n b u
+  claimed-named t h et = et ∙ rw (← e, sym f ∙ h)
 
-  pub claimed-nothing : v ≡ Variable.Nothing → false ≡ claimedRows book text T n u
-  unfolding isSome
-  claimed-nothing h = rw (sym e ∙ ap variableOf h)
+  pub claimed-nothing : w ≡ false → false ≡ claimedRows book text T n b u
+  claimed-nothing h = rw (← e, sym f ∙ h)
 
 -- ---- A use of mark 2
-module _ (book : Book) (text store : List ℕ) (T T1 T2 : List Row) (n N u : ℕ) (s : State) (t : Bool) (l : n < length T)
-    (e1 : T1 ≡ onRow T n (withSet [])) (e2 : T2 ≡ onRow T1 n ended) (et : t ≡ claimedRows book text T2 n u) where
+module _ (book : Book) (text store : List ℕ) (T T1 T2 : List Row) (n b N u : ℕ) (s : State) (t : Bool) (l : n < length T)
+    (e1 : T1 ≡ onRow T n (withSet [])) (e2 : T2 ≡ onRow T1 n ended) (et : t ≡ claimedRows book text T2 n b u) where
   cleared : T2 ≡ onRow T n (λ r. ended (withSet [] r))
   cleared = then-row T T1 T2 n (withSet [] (rowOf T n)) ended l e1 e2
 
   -- what is run, on the row that was cleared
   identifier-from : (cells : List Cell) (end : Option ℕ) → end ≡ when t (λ _. none) (λ _. freeEnd book text u) →
       namedRows book text n N u (rowState (s .units) cells T2) end
-      ≡ runIdentifierRows book text n N u (rowState (s .units) cells T)
+      ≡ runIdentifierRows book text n b N u (rowState (s .units) cells T)
   unfolding runIdentifierRows
   identifier-from cells end h =
       ap (λ x. namedRows book text n N u (rowState (s .units) cells T2) x) h
       ∙ ap
-      (λ b. namedRows book text n N u (rowState (s .units) cells T2) (when b (λ _. none) (λ _. freeEnd book text u))) et
+      (λ t. namedRows book text n N u (rowState (s .units) cells T2) (when t (λ _. none) (λ _. freeEnd book text u))) et
       ∙ ap
       (λ q. namedRows book text n N u (rowState (s .units) cells q)
-      (when (claimedRows book text q n u) (λ _. none) (λ _. freeEnd book text u))) cleared
+      (when (claimedRows book text q n b u) (λ _. none) (λ _. freeEnd book text u))) cleared
 
   unnamed : (f : Failure) (o : outcomes.Outcome) → none ≡ when t (λ _. none) (λ _. freeEnd book text u) →
       failureOf f ≡ some (error u 11 N) → o ≡ doneWith f s →
-      Runs text store (s .cells) store T2 o (λ cells. runIdentifierRows book text n N u (rowState (s .units) cells T))
+      Runs text store (s .cells) store T2 o (λ cells. runIdentifierRows book text n b N u (rowState (s .units) cells T))
   unfolding namedRows run.failedCall
   unnamed f o h ef eo =
       λ held.
@@ -130,12 +127,12 @@ module _ (book : Book) (text store : List ℕ) (T T1 T2 : List Row) (n N u : ℕ
 
   pub identifier-claimed : (f : Failure) (o : outcomes.Outcome) → t ≡ true →
       failureOf f ≡ some (error u 11 N) → o ≡ doneWith f s →
-      Runs text store (s .cells) store T2 o (λ cells. runIdentifierRows book text n N u (rowState (s .units) cells T))
+      Runs text store (s .cells) store T2 o (λ cells. runIdentifierRows book text n b N u (rowState (s .units) cells T))
   identifier-claimed f o h ef eo = unnamed f o (rw h) ef eo
 
   pub identifier-nothing : (x : End) (f : Failure) (o : outcomes.Outcome) → t ≡ false → endOf x ≡ freeEnd book text u →
       x ≡ End.Nothing → failureOf f ≡ some (error u 11 N) → o ≡ doneWith f s →
-      Runs text store (s .cells) store T2 o (λ cells. runIdentifierRows book text n N u (rowState (s .units) cells T))
+      Runs text store (s .cells) store T2 o (λ cells. runIdentifierRows book text n b N u (rowState (s .units) cells T))
   identifier-nothing x f o h ex en ef eo = unnamed f o (rw h (sym (ap endOf en) ∙ ex)) ef eo
 
   module _ (x : End) (end size : ℕ) (c : CellNumbers) (after : List ℕ) (m : CellOutcome) (h : t ≡ false)
@@ -144,11 +141,11 @@ module _ (book : Book) (text store : List ℕ) (T T1 T2 : List Row) (n N u : ℕ
       (em : (cell : Cell) → listed c ≡ numbersOf cell → MadeBy text store after s m (run.make text cell)) where
     named-from : (cells : List Cell) →
         namedRows book text n N u (rowState (s .units) cells T2) (some end)
-        ≡ runIdentifierRows book text n N u (rowState (s .units) cells T)
+        ≡ runIdentifierRows book text n b N u (rowState (s .units) cells T)
     named-from cells = identifier-from cells (some end) (rw h (sym (ap endOf en) ∙ ex))
 
     pub identifier-full : (o : outcomes.Outcome) → (m .limit ≡ 0 → ⊥) → o ≡ withoutFailure (m .limit) (m .state) →
-        Runs text store (s .cells) after T2 o (λ cells. runIdentifierRows book text n N u (rowState (s .units) cells T))
+        Runs text store (s .cells) after T2 o (λ cells. runIdentifierRows book text n b N u (rowState (s .units) cells T))
     unfolding namedRows
     identifier-full o k eo =
         λ held.
@@ -168,7 +165,7 @@ module _ (book : Book) (text store : List ℕ) (T T1 T2 : List Row) (n N u : ℕ
         U ≡ onRow T2 n
         (withSet (record { rest = end; level = 255; associativity = Associativity.Both; value = m .cell } ∷ [])) →
         o ≡ doneWith Failure.None (m .state) →
-        Runs text store (s .cells) after U o (λ cells. runIdentifierRows book text n N u (rowState (s .units) cells T))
+        Runs text store (s .cells) after U o (λ cells. runIdentifierRows book text n b N u (rowState (s .units) cells T))
     unfolding namedRows
     identifier-named U o k eu eo =
         λ held.
@@ -201,29 +198,29 @@ runner-above book text (suc n) h = let q : suc n - 1 ≡ n = omega arith in rw q
 abbrev pub ends : outcomes.Outcome → Entered
 ends o = record { runs = false; minimum = 0; outcome = o }
 
-entering-over : (book : Book) (text store : List ℕ) (T : List Row) (n N u : ℕ) (o : outcomes.Outcome) (e : Entered)
-    (z : Result Outcome) → e ≡ ends o → Ran text store T o z → Entering book text store T n N u e z
+entering-over : (book : Book) (text store : List ℕ) (T : List Row) (n b N u : ℕ) (o : outcomes.Outcome) (e : Entered)
+    (z : Result Outcome) → e ≡ ends o → Ran text store T o z → Entering book text store T n b N u e z
 unfolding goesIn
-entering-over book text store T n N u o e z ee ran =
-    subst (λ (x : Entered). Entering book text store T n N u x z) (sym ee) (record { is = ran .is; held = ran .held })
+entering-over book text store T n b N u o e z ee ran =
+    subst (λ (x : Entered). Entering book text store T n b N u x z) (sym ee) (record { is = ran .is; held = ran .held })
 
 over-above : (o : outcomes.Outcome) (e : Entered) (n : ℕ) → e ≡ ends o → e .runs ≡ true → 0 < n
 over-above o e n ee h = absurd (true≢false (sym h ∙ ap (λ e. e .runs) ee))
 
-module _ (book : Book) (text : List ℕ) (n N u m : ℕ) (s : State) (e : Entered) where
+module _ (book : Book) (text : List ℕ) (n b N u m : ℕ) (s : State) (e : Entered) where
   -- what the model does on one level of nesting
   abbrev opening : List ℕ → List Row → Option RowRunner → Result Outcome
   opening store T inner =
       let t = rowState (s .units) (cellsOf store (s .cells)) T in
       nestedRows book text inner n t (λ run.
-      when (hasMark book 2 N) (λ _. runIdentifierRows book text n N u t) (λ _. runCallRows book text run n N u m t))
+      when (hasMark book 2 N) (λ _. runIdentifierRows book text n b N u t) (λ _. runCallRows book text run n b N u m t))
 
   opening-within : (store : List ℕ) (T : List Row) → (n ≡ 0 → ⊥) →
       opening store T (some (innerRunner book text n)) ≡ opening store T (runnerRows book text n)
   opening-within store T h = ap (opening store T) (sym (runner-above book text n h))
 
   pub opens-deep : (store : List ℕ) (T : List Row) (o : outcomes.Outcome) → n ≡ 0 → o ≡ withoutFailure 21 s →
-      e ≡ ends o → Opens book text store store T T n N u m s e
+      e ≡ ends o → Opens book text store store T T n b N u m s e
   unfolding runnerRows nestedRows
   opens-deep store T o h eo ee =
       let cells = cellsOf store (s .cells) in
@@ -233,49 +230,49 @@ module _ (book : Book) (text : List ℕ) (n N u m : ℕ) (s : State) (e : Entere
       = ap (λ o. given o cells T) eo ∙ given-met (withoutFailure 21 s) cells T (λ z. omega (arith, z)) in
       record {
         does =
-            λ held. entering-over book text store T n N u o e _ ee
+            λ held. entering-over book text store T n b N u o e _ ee
             (ran-with text store T o s _ (ap (λ o. o .state .cells) eo) (limit ∙ nest) held);
         above = over-above o e n ee;
       }
 
-  pub opens-identifier : (before after : List ℕ) (T U : List Row) (b : Bool) (o : outcomes.Outcome) → (n ≡ 0 → ⊥) →
-      b ≡ hasMark book 2 N → b ≡ true →
-      Runs text before (s .cells) after U o (λ cells. runIdentifierRows book text n N u (rowState (s .units) cells T)) →
-      e ≡ ends o → Opens book text before after T U n N u m s e
+  pub opens-identifier : (before after : List ℕ) (T U : List Row) (t : Bool) (o : outcomes.Outcome) → (n ≡ 0 → ⊥) →
+      t ≡ hasMark book 2 N → t ≡ true →
+      Runs text before (s .cells) after U o (λ cells. runIdentifierRows book text n b N u (rowState (s .units) cells T)) →
+      e ≡ ends o → Opens book text before after T U n b N u m s e
   unfolding nestedRows
-  opens-identifier before after T U b o h eb y runs ee =
+  opens-identifier before after T U t o h eb y runs ee =
       let nest :
-      runIdentifierRows book text n N u (rowState (s .units) (cellsOf before (s .cells)) T)
+      runIdentifierRows book text n b N u (rowState (s .units) (cellsOf before (s .cells)) T)
       ≡ opening before T (runnerRows book text n)
       = rw (← (opening-within before T h), sym eb ∙ y) in
       record {
         does =
-            λ held. entering-over book text after U n N u o e _ ee
+            λ held. entering-over book text after U n b N u o e _ ee
             (let r = runs held in record { is = r .is ∙ nest; held = r .held });
         above = over-above o e n ee;
       }
 
-  pub opens-runs : (store : List ℕ) (T : List Row) (b : Bool) (o : outcomes.Outcome) → (n ≡ 0 → ⊥) →
-      b ≡ hasMark book 2 N → b ≡ false → o ≡ doneWith Failure.None s →
-      e ≡ record { runs = true; minimum = m; outcome = o } → Opens book text store store T T n N u m s e
+  pub opens-runs : (store : List ℕ) (T : List Row) (t : Bool) (o : outcomes.Outcome) → (n ≡ 0 → ⊥) →
+      t ≡ hasMark book 2 N → t ≡ false → o ≡ doneWith Failure.None s →
+      e ≡ record { runs = true; minimum = m; outcome = o } → Opens book text store store T T n b N u m s e
   unfolding nestedRows goesIn
-  opens-runs store T b o h eb y eo ee =
-      let t = rowState (s .units) (cellsOf store (s .cells)) T in
-      let nest : runCallRows book text (innerRunner book text n) n N u m t ≡ opening store T (runnerRows book text n)
+  opens-runs store T t o h eb y eo ee =
+      let q = rowState (s .units) (cellsOf store (s .cells)) T in
+      let nest : runCallRows book text (innerRunner book text n) n b N u m q ≡ opening store T (runnerRows book text n)
       = rw (← (opening-within store T h), sym eb ∙ y) in
       record {
         does = λ held.
-            subst (λ (x : Entered). Entering book text store T n N u x (opening store T (runnerRows book text n)))
+            subst (λ (x : Entered). Entering book text store T n b N u x (opening store T (runnerRows book text n)))
             (sym (ee ∙ ap (λ (o : outcomes.Outcome). record { runs = true; minimum = m; outcome = o }) eo))
             (record { is = nest; held = held });
         above = λ x. omega (arith, h);
       }
 
 -- ---- A use of a nonterminal
-module _ (book : Book) (text : List ℕ) (T : List Row) (n N u : ℕ) (s : State) (e : Entered) (spent : outcomes.Outcome)
-    (es : Spent spent s) where
+module _ (book : Book) (text : List ℕ) (T : List Row) (n b N u : ℕ) (s : State) (e : Entered)
+    (spent : outcomes.Outcome) (es : Spent spent s) where
   pub enters-spent : (store : List ℕ) → (spent .limit ≡ 0 → ⊥) → e ≡ ends spent →
-      BeginsUse book text store store T T n N u s e
+      BeginsUse book text store store T T n b N u s e
   unfolding enterRows
   enters-spent store h ee =
       let cells = cellsOf store (s .cells) in
@@ -283,20 +280,20 @@ module _ (book : Book) (text : List ℕ) (T : List Row) (n N u : ℕ) (s : State
       let none-left : spendRows (rowState (s .units) cells T) ≡ met (spent .limit) (spent .state .units)
       = unit-met (spendRows (rowState (s .units) cells T)) _ _ (sym limit ∙ es .is cells T) in
       record {
-        does = λ held. entering-over book text store T n N u spent e _ ee
+        does = λ held. entering-over book text store T n b N u spent e _ ee
             (ran-with text store T spent s _ (es .cells) (limit ∙ sym (bind-met _ none-left)) held);
         above = over-above spent e n ee;
       }
 
   -- after the unit, with the governor
-  entered : (cells : List Cell) (g : RowGovernor) → spent .limit ≡ 0 → g ≡ governorOf T n N u →
+  entered : (cells : List Cell) (g : RowGovernor) → spent .limit ≡ 0 → g ≡ governorOf T n b N u →
       (let t = rowState (spent .state .units) cells T in
       elim g [
         | same-start g ↦ ok (storedRows book text (runnerRows book text n) n g N u t)
         | minimum m ↦ nestedRows book text (runnerRows book text n) n t (λ run.
-            when (hasMark book 2 N) (λ _. runIdentifierRows book text n N u t)
-            (λ _. runCallRows book text run n N u m t))
-      ]) ≡ enterRows book text (runnerRows book text n) n N u (rowState (s .units) cells T)
+            when (hasMark book 2 N) (λ _. runIdentifierRows book text n b N u t)
+            (λ _. runCallRows book text run n b N u m t))
+      ]) ≡ enterRows book text (runnerRows book text n) n b N u (rowState (s .units) cells T)
   unfolding enterRows
   entered cells g h eg =
       let left : spendRows (rowState (s .units) cells T) ≡ ok (rowState (spent .state .units) cells T)
@@ -304,12 +301,12 @@ module _ (book : Book) (text : List ℕ) (T : List Row) (n N u : ℕ) (s : State
       rw eg (sym (bind-ok _ left))
 
   pub enters-stored : (store : List ℕ) (U : List Row) (r : Governor) (g : ℕ) (o : outcomes.Outcome) → spent .limit ≡ 0 →
-      governorIn r ≡ governorOf T n N u → r ≡ Governor.SameStart g → Stores T U g n N u (spent .state) o → e ≡ ends o →
-      BeginsUse book text store store T U n N u s e
+      governorIn r ≡ governorOf T n b N u → r ≡ Governor.SameStart g → Stores T U g n N u (spent .state) o → e ≡ ends o →
+      BeginsUse book text store store T U n b N u s e
   enters-stored store U r g o h er eg stores ee =
       let cells = cellsOf store (s .cells) in
       record {
-        does = λ held. entering-over book text store U n N u o e _ ee
+        does = λ held. entering-over book text store U n b N u o e _ ee
             (ran-with text store U o s _ (stores .cells ∙ es .cells)
             (stores .is book text (runnerRows book text n) cells
             ∙ entered cells (same-start g) h (sym (ap governorIn eg) ∙ er)) held);
@@ -317,8 +314,8 @@ module _ (book : Book) (text : List ℕ) (T : List Row) (n N u : ℕ) (s : State
       }
 
   pub enters-open : (before after : List ℕ) (U : List Row) (r : Governor) (m : ℕ) → spent .limit ≡ 0 →
-      governorIn r ≡ governorOf T n N u → r ≡ Governor.Minimum m →
-      Opens book text before after T U n N u m (spent .state) e → BeginsUse book text before after T U n N u s e
+      governorIn r ≡ governorOf T n b N u → r ≡ Governor.Minimum m →
+      Opens book text before after T U n b N u m (spent .state) e → BeginsUse book text before after T U n b N u s e
   enters-open before after U r m h er em opens =
       record {
         does = λ held.
@@ -326,7 +323,7 @@ module _ (book : Book) (text : List ℕ) (T : List Row) (n N u : ℕ) (s : State
             record {
               is = o .is
                   ∙ entered (cellsOf before (spent .state .cells)) (minimum m) h (sym (ap governorIn em) ∙ er)
-                  ∙ ap (λ c. enterRows book text (runnerRows book text n) n N u
+                  ∙ ap (λ c. enterRows book text (runnerRows book text n) n b N u
                   (rowState (s .units) (cellsOf before c) T)) (es .cells);
               held = o .held;
             };

@@ -33,6 +33,8 @@ ItemFits Item.Nothing = Unit {0}
 ItemFits (Item.Name place size) = Fits place × Fits size
 ItemFits (Item.Number value) = Unit {0}
 ItemFits (Item.Variable number kind) = Fits number × Fits kind
+-- two numbers of the code, of 32 bits
+ItemFits (Item.Declared depth index) = Unit {0}
 
 abbrev pub TakenFits : Taken → Type 0
 TakenFits Taken.Nothing = Unit {0}

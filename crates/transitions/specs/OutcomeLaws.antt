@@ -7,7 +7,7 @@
 -- - cells: cell-ok, cell-met, cells-held, now-held, got-in, makes-at, makes-full
 -- - the cells of a variant: begin-passing, begin-made, with-passing, with-made, value-passing, value-made
 -- - what a token adds: name-fit, variable-fit, item-nothing, item-cell, item-name, item-number, item-variable,
---   token-nothing, token-limit, token-made
+--   item-declared, token-nothing, token-limit, token-made
 use mathlib.Core.Path.{_≡_, refl, sym, ap, _∙_}
 use mathlib.Core.Bool.{Bool, true, false, true≢false}
 use mathlib.Core.List.{List}
@@ -19,8 +19,8 @@ use lib.ListN.{length}
 use borrow.Author.Tests.{eq-eqb, ne-eqb, lt-ltb}
 use Rattle.characters.specs.Cases.{by-test}
 use Rattle.book.specs.Book.{Book, nthVariant}
+use Rattle.semantics.specs.Tokens as tokens
 use Rattle.semantics.specs.Tokens.{isSome}
-use Rattle.semantics.specs.Steps as steps
 use Rattle.semantics.specs.Cells.{Cell, numbersOf}
 use Rattle.semantics.specs.Run as run
 use Rattle.semantics.specs.Run.{Result, met, ok, _>>=_, made}
@@ -28,6 +28,8 @@ use Rattle.run_model.specs.Rows.{Row}
 use Rattle.run_model.specs.Model.{rowState, outcome, spendRows, valueCell}
 use Rattle.cells.specs.Store.{Holds, Makes, Making, cellsAfter, listed}
 use Rattle.cells.specs.StoredLaws.{stored-cells}
+use Rattle.cells.specs.declared.numbers.DebruijnIndex.{DebruijnIndex}
+use Rattle.cells.specs.declared.numbers.VarIndex.{VarIndex}
 use Rattle.cells.specs.declared.numbers.CellNumbers.{CellNumbers}
 use Rattle.cells.specs.declared.store.Made as cells
 use Rattle.errors.specs.Maps.{failureOf}
@@ -228,40 +230,45 @@ pub variable-fit : (item : Item) (number kind : ℕ) → item ≡ Item.Variable 
 variable-fit item number kind e f = rw e at f
 
 -- the numbers of its cell
-module _ (item : Item) (l : List ℕ) (i : steps.Item) (e : itemOf item ≡ some i) where
+module _ (item : Item) (l : List ℕ) (i : tokens.Item) (e : itemOf item ≡ some i) where
   pub item-nothing : item ≡ Item.Nothing → l ≡ numbersOf (run.itemCell i)
   item-nothing q = let p : none ≡ some i = rw q at e in let z : _≡_ {A = ℕ} 0 1 = cc in absurd (omega arith)
 
-  pub item-cell : (k : steps.Item) → itemOf item ≡ some k → l ≡ numbersOf (run.itemCell k) →
+  pub item-cell : (k : tokens.Item) → itemOf item ≡ some k → l ≡ numbersOf (run.itemCell k) →
       l ≡ numbersOf (run.itemCell i)
   item-cell k q h = let p : k ≡ i = cc in rw p at h
 
   pub item-name : (place size : ℕ) → item ≡ Item.Name place size → l ≡ numbersOf (Cell.name place size) →
       l ≡ numbersOf (run.itemCell i)
   unfolding run.itemCell
-  item-name place size q h = item-cell (steps.Item.name place size) (rw q) h
+  item-name place size q h = item-cell (tokens.Item.name place size) (rw q) h
 
   pub item-number : (value : ℕ) → item ≡ Item.Number value →
       l ≡ numbersOf (Cell.number (value / 2 ^ 32) (value % 2 ^ 32)) → l ≡ numbersOf (run.itemCell i)
   unfolding run.itemCell
-  item-number value q h = item-cell (steps.Item.number value) (rw q) h
+  item-number value q h = item-cell (tokens.Item.number value) (rw q) h
 
   pub item-variable : (number kind : ℕ) → item ≡ Item.Variable number kind → l ≡ numbersOf (Cell.variable number kind) →
       l ≡ numbersOf (run.itemCell i)
   unfolding run.itemCell
-  item-variable number kind q h = item-cell (steps.Item.variable number kind) (rw q) h
+  item-variable number kind q h = item-cell (tokens.Item.variable number kind) (rw q) h
 
-some-item : (o : Option steps.Item) → true ≡ isSome o → (P : Type 0) → ((i : steps.Item) → o ≡ some i → P) → P
+  pub item-declared : (depth : DebruijnIndex) (index : VarIndex) → item ≡ Item.Declared depth index →
+      l ≡ numbersOf (Cell.declared (depth .0) (index .0)) → l ≡ numbersOf (run.itemCell i)
+  unfolding run.itemCell
+  item-declared depth index q h = item-cell (tokens.Item.declared (depth .0) (index .0)) (rw q) h
+
+some-item : (o : Option tokens.Item) → true ≡ isSome o → (P : Type 0) → ((i : tokens.Item) → o ≡ some i → P) → P
 unfolding isSome
 some-item none e P f = let z : false ≡ true = sym e in absurd (true≢false (sym z))
 some-item (some i) e P f = f i refl
 
-no-item : (o : Option steps.Item) → false ≡ isSome o → o ≡ none
+no-item : (o : Option tokens.Item) → false ≡ isSome o → o ≡ none
 unfolding isSome
 no-item none e = refl
 no-item (some i) e = absurd (true≢false (sym e))
 
-module _ (book : Book) (text : List ℕ) (j items : ℕ) (o : Option steps.Item) (s : State) where
+module _ (book : Book) (text : List ℕ) (j items : ℕ) (o : Option tokens.Item) (s : State) where
   pub token-nothing : (store : List ℕ) (m : CellOutcome) (t : Bool) → t ≡ isSome o → t ≡ false →
       m ≡ record { limit = 0; cell = items; state = s } →
       MadeBy text store store s m (run.withToken book text j items o)
@@ -271,7 +278,7 @@ module _ (book : Book) (text : List ℕ) (j items : ℕ) (o : Option steps.Item)
 
   module _ (before middle : List ℕ) (m : CellOutcome) (c : CellNumbers) (t : Bool) (et : t ≡ isSome o) (y : t ≡ true)
       (w : (cell : Cell) → listed c ≡ numbersOf cell → MadeBy text before middle s m (run.make text cell))
-      (e : (i : steps.Item) → o ≡ some i → listed c ≡ numbersOf (run.itemCell i)) where
+      (e : (i : tokens.Item) → o ≡ some i → listed c ≡ numbersOf (run.itemCell i)) where
     pub token-limit : (m .limit ≡ 0 → ⊥) → MadeBy text before middle s m (run.withToken book text j items o)
     unfolding run.withToken _>>=_
     token-limit l h =

@@ -13,7 +13,8 @@ use Rattle.characters.specs.Skipping.{skipFrom}
 use Rattle.book.specs.Book.{Book, nthStep}
 use Rattle.book.specs.declared.records.Step.{Step}
 use Rattle.semantics.specs.Values.{Parse}
-use Rattle.semantics.specs.Steps.{Item, Todo, taking}
+use Rattle.semantics.specs.Tokens.{Item}
+use Rattle.semantics.specs.Steps.{Todo, taking}
 use Rattle.semantics.specs.Cells.{Cell}
 use Rattle.semantics.specs.Run.{Result, met, ok, _>>=_, make, withCell, withToken}
 use Rattle.run_model.specs.Rows.{Row}
@@ -126,6 +127,19 @@ abbrev pub StagedFrom : Book → List ℕ → List ℕ → State → List ℕ �
 StagedFrom book text before s after j g z =
     Held text before (s .cells) →
     Staged book text after j (g .outcome) (g .doing) (g .place) (g .items) (s .units) (cellsOf before (s .cells)) z
+
+-- a part that looks at the table, in which the path's call has row c
+pub record StagedAt (book : Book) (text store : List ℕ) (T : List Row) (c j : ℕ) (o : code.Outcome) (doing : Doing)
+    (x items units : ℕ) (cells : List Cell) (z : ModelPart) : Type 0 where
+  pub is : (inner : Option RowRunner) (n : ℕ) (rest : List (Todo ℕ)) →
+      resumes book text inner n c j rest doing x items (given o (cellsOf store (o .state .cells)) T) ≡
+      z inner n c rest (rowState units cells T)
+  pub held : Held text store (o .state .cells)
+
+abbrev pub StagedIn : Book → List ℕ → List ℕ → State → List ℕ → List Row → ℕ → ℕ → Stage → ModelPart → Type 0
+StagedIn book text before s after T c j g z =
+    Held text before (s .cells) →
+    StagedAt book text after T c j (g .outcome) (g .doing) (g .place) (g .items) (s .units) (cellsOf before (s .cells)) z
 
 abbrev pub ReachedFrom : Book → List ℕ → List ℕ → State → List ℕ → ℕ → Reached → ModelPart → Type 0
 ReachedFrom book text before s after j g z =

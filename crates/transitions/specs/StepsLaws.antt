@@ -23,13 +23,14 @@ use Rattle.book.specs.Book.{Book, nthVariant, stepNumber}
 use Rattle.book.specs.declared.records.Step.{Step}
 use Rattle.book.specs.declared.records.Variant.{Variant}
 use Rattle.semantics.specs.Values.{Parse}
+use Rattle.semantics.specs.Tokens as tokens
 use Rattle.semantics.specs.Steps as steps
 use Rattle.semantics.specs.Steps.{Todo, taking, stepAt, closed}
 use Rattle.semantics.specs.Errors.{Error, error, stepError}
 use Rattle.semantics.specs.Cells.{Cell}
 use Rattle.semantics.specs.Run as run
 use Rattle.semantics.specs.Run.{met, ok, _>>=_, closingCode}
-use Rattle.run_model.specs.Rows.{Row}
+use Rattle.run_model.specs.Rows.{Row, scopeIn}
 use Rattle.run_model.specs.Model as model
 use Rattle.run_model.specs.Model.{RowState, rowState, outcome, RowRunner, RowGo, RowMade, rowMade, makes, valueCell}
 use Rattle.run_model.specs.Model.{addRun, completeRows}
@@ -56,7 +57,7 @@ use Rattle.transitions.specs.Outcomes.{cellsOf, Held, bare, given, Runs,
 use Rattle.transitions.specs.Outcomes.{doneWith, failureAt}
 use Rattle.transitions.specs.OutcomeLaws.{given-ok, given-met}
 use Rattle.transitions.specs.Steps.{nextRows, descendsRows, choosesRows, doesRows, unopenedRows, tokenRows}
-use Rattle.transitions.specs.Steps.{ModelPart, StagedFrom, ReachedFrom, StepSpent}
+use Rattle.transitions.specs.Steps.{ModelPart, StagedFrom, StagedIn, ReachedFrom, StepSpent}
 use Rattle.transitions.specs.Steps.{endedBy, reachedWith, thenSteps, thenDoes}
 use Rattle.transitions.specs.ResumeLaws.{stateIn, bind-met, bind-ok, unit-met, unit-ok, makes-ok, makes-met}
 use Rattle.transitions.specs.ResumeLaws.{resumes-met, resumes-on, resumes-failed, made-resumes}
@@ -299,7 +300,7 @@ module _ (book : Book) (text before after : List ℕ) (j : ℕ) (s : State) (m :
       }
 
 -- ---- A token was read
-pub token-taken : (book : Book) (text before after : List ℕ) (j items : ℕ) (o : Option steps.Item) (next : ℕ)
+pub token-taken : (book : Book) (text before after : List ℕ) (j items : ℕ) (o : Option tokens.Item) (next : ℕ)
     (s : State) (m : CellOutcome) (g : Reached) →
     MadeBy text before after s m (run.withToken book text j items o) → g ≡ reachedWith m next →
     ReachedFrom book text before s after j g (λ inner n c rest s. tokenRows book text inner n c j rest o next items s)
@@ -321,41 +322,44 @@ stepPart book text j step x items inner n c rest s = stepsRows book text inner n
 -- what the step took, in the model, on a state whose unit is spent
 module _ (book : Book) (text : List ℕ) (inner : Option RowRunner) (n c j : ℕ) (rest : List (Todo ℕ)) (step : Step)
     (x items : ℕ) (s t : RowState) (u : stepUnitRows book text inner n step s ≡ ok t) where
-  step-nothing : stepAt book text step x ≡ steps.Taken.nothing →
+  abbrev takes : steps.Taken
+  takes = stepAt book text (scopeIn text (t .rows) c) step x
+
+  step-nothing : takes ≡ steps.Taken.nothing →
       stepPart book text j step x items inner n c rest s
-      ≡ ok (outcome (some (stepError book text step (skipFrom text x))) t)
+      ≡ ok (outcome (some (stepError book text (scopeIn text (t .rows) c) step (skipFrom text x))) t)
   unfolding stepsRows _>>=_
   step-nothing e = rw (u, stepsRows, _>>=_) (rw e)
 
-  step-token : (next : ℕ) (o : Option steps.Item) → stepAt book text step x ≡ steps.read next o →
+  step-token : (next : ℕ) (o : Option tokens.Item) → takes ≡ steps.read next o →
       stepPart book text j step x items inner n c rest s ≡ tokenRows book text inner n c j rest o next items t
   unfolding stepsRows tokenRows _>>=_
   step-token next o e = rw (u, stepsRows, _>>=_) (rw e)
 
-  step-child : (M : ℕ) → stepAt book text step x ≡ steps.Taken.child M →
+  step-child : (M : ℕ) → takes ≡ steps.Taken.child M →
       stepPart book text j step x items inner n c rest s ≡ doesRows book text inner n c j rest (Doing.Child M) x items t
   unfolding stepsRows doesRows descendsRows nextRows _>>=_
   step-child M e = rw (u, stepsRows, _>>=_) (rw e)
 
-  step-optional : (M : ℕ) → stepAt book text step x ≡ steps.Taken.optional M →
+  step-optional : (M : ℕ) → takes ≡ steps.Taken.optional M →
       stepPart book text j step x items inner n c rest s
       ≡ doesRows book text inner n c j rest (Doing.Optional M) x items t
   unfolding stepsRows doesRows choosesRows _>>=_
   step-optional M e = rw (u, stepsRows, _>>=_) (rw e)
 
   step-list : (comma : Bool) (M : ℕ) (close : Option ℕ) (y : ℕ) →
-      stepAt book text step x ≡ steps.Taken.list comma M close y → stepPart book text j step x items inner n c rest s
+      takes ≡ steps.Taken.list comma M close y → stepPart book text j step x items inner n c rest s
       ≡ listingRows book text inner n c j comma M close rest (stepsRows book text inner n c j rest) y items t
   unfolding stepsRows _>>=_
   step-list comma M close y e = rw (u, stepsRows, _>>=_) (rw e)
 
-  step-unopened : (y : ℕ) → stepAt book text step x ≡ steps.Taken.unopened y →
+  step-unopened : (y : ℕ) → takes ≡ steps.Taken.unopened y →
       stepPart book text j step x items inner n c rest s ≡ unopenedRows book text inner n c j rest y items t
   unfolding stepsRows unopenedRows _>>=_
   step-unopened y e = rw (u, stepsRows, _>>=_) (rw e)
 
-module _ (book : Book) (text store : List ℕ) (j : ℕ) (s : State) (x items : ℕ) (step : Step) (spent : Outcome)
-    (p : StepSpent spent step s) where
+module _ (book : Book) (text store : List ℕ) (T : List Row) (c j : ℕ) (s : State) (x items : ℕ) (step : Step)
+    (spent : Outcome) (p : StepSpent spent step s) where
   same-cells : cellsOf store (spent .state .cells) ≡ cellsOf store (s .cells)
   same-cells = ap (λ k. cellsOf store k) (p .cells)
 
@@ -363,78 +367,79 @@ module _ (book : Book) (text store : List ℕ) (j : ℕ) (s : State) (x items : 
   spent-held h = rw (p .cells) h
 
   pub step-limit : (r : Reached) (g : Stage) → (spent .limit ≡ 0 → ⊥) → r ≡ endedBy spent → g ≡ thenSteps r →
-      StagedFrom book text store s store j g (stepPart book text j step x items)
+      StagedIn book text store s store T c j g (stepPart book text j step x items)
   unfolding stepsRows
   step-limit r g l er eg h =
       rw (eg, er) (record {
-        is = λ inner n c rest T.
+        is = λ inner n rest.
             resumes-met book text inner n c j rest Doing.Steps 0 0 spent (cellsOf store (spent .state .cells)) T l
             ∙ sym (bind-met _ (unit-stops spent step s p book text inner n (cellsOf store (s .cells)) T l));
         held = spent-held h;
       })
 
-  module _ (l : spent .limit ≡ 0) (t : Taken) (et : takenOf t ≡ stepAt book text step x) where
+  module _ (l : spent .limit ≡ 0) (t : Taken)
+      (et : takenOf t ≡ stepAt book text (scopeIn text T c) step x) where
     -- the state of the model after the unit
-    spends : (inner : Option RowRunner) (n : ℕ) (T : List Row) →
+    spends : (inner : Option RowRunner) (n : ℕ) →
         stepUnitRows book text inner n step (rowState (s .units) (cellsOf store (s .cells)) T)
         ≡ ok (stateIn (spent .state) store T)
-    spends inner n T =
+    spends inner n =
         unit-goes spent step s p book text inner n (cellsOf store (s .cells)) T l
         ∙ ap (λ k. ok (rowState (spent .state .units) k T)) (sym same-cells)
 
     pub step-fails : (e : code.Error) (o : Outcome) (r : Reached) (g : Stage) → t ≡ Taken.Nothing →
-        errorOf e ≡ stepError book text step (skipFrom text x) → o ≡ doneWith (Failure.At e) (spent .state) →
-        r ≡ endedBy o → g ≡ thenSteps r → StagedFrom book text store s store j g (stepPart book text j step x items)
+        errorOf e ≡ stepError book text (scopeIn text T c) step (skipFrom text x) → o ≡ doneWith (Failure.At e) (spent .state) →
+        r ≡ endedBy o → g ≡ thenSteps r → StagedIn book text store s store T c j g (stepPart book text j step x items)
     step-fails e o r g k d eo er eg h =
         rw (eg, er, eo) (record {
-          is = λ inner n c rest T.
+          is = λ inner n rest.
               resumes-failed book text inner n c j rest Doing.Steps 0 0 e (spent .state)
               (cellsOf store (spent .state .cells)) T
               ∙ ap (λ z. ok (outcome (some z) (stateIn (spent .state) store T))) d
               ∙ sym (step-nothing book text inner n c j rest step x items
               (rowState (s .units) (cellsOf store (s .cells)) T) (stateIn (spent .state) store T)
-              (spends inner n T) (sym et ∙ ap takenOf k));
+              (spends inner n) (sym et ∙ ap takenOf k));
           held = spent-held h;
         })
 
     pub step-reads : (after : List ℕ) (next : ℕ) (item : Item) (r : Reached) (g : Stage) → t ≡ Taken.Token next item →
         ReachedFrom book text store (spent .state) after j r
         (λ inner n c rest s. tokenRows book text inner n c j rest (itemOf item) next items s) →
-        g ≡ thenSteps r → StagedFrom book text store s after j g (stepPart book text j step x items)
+        g ≡ thenSteps r → StagedIn book text store s after T c j g (stepPart book text j step x items)
     step-reads after next item r g k w eg h =
         let u = w (spent-held h) in
         rw eg (record {
-          is = λ inner n c rest T.
+          is = λ inner n rest.
               u .is inner n c rest T
               ∙ sym (step-token book text inner n c j rest step x items
               (rowState (s .units) (cellsOf store (s .cells)) T) (stateIn (spent .state) store T)
-              (spends inner n T) next (itemOf item) (sym et ∙ ap takenOf k));
+              (spends inner n) next (itemOf item) (sym et ∙ ap takenOf k));
           held = u .held;
         })
 
     pub step-descends : (M : ℕ) (g : Stage) → t ≡ Taken.Child M → g ≡ thenDoes x items (Doing.Child M) (spent .state) →
-        StagedFrom book text store s store j g (stepPart book text j step x items)
+        StagedIn book text store s store T c j g (stepPart book text j step x items)
     step-descends M g k eg h =
         rw eg (record {
-          is = λ inner n c rest T.
+          is = λ inner n rest.
               resumes-on book text inner n c j rest (Doing.Child M) x items 0 (spent .state)
               (cellsOf store (spent .state .cells)) T refl
               ∙ sym (step-child book text inner n c j rest step x items (rowState (s .units) (cellsOf store (s .cells))
-              T) (stateIn (spent .state) store T) (spends inner n T) M (sym et ∙ ap takenOf k));
+              T) (stateIn (spent .state) store T) (spends inner n) M (sym et ∙ ap takenOf k));
           held = spent-held h;
         })
 
     pub step-chooses : (M : ℕ) (g : Stage) → t ≡ Taken.Optional M →
         g ≡ thenDoes x items (Doing.Optional M) (spent .state) →
-        StagedFrom book text store s store j g (stepPart book text j step x items)
+        StagedIn book text store s store T c j g (stepPart book text j step x items)
     step-chooses M g k eg h =
         rw eg (record {
-          is = λ inner n c rest T.
+          is = λ inner n rest.
               resumes-on book text inner n c j rest (Doing.Optional M) x items 0 (spent .state)
               (cellsOf store (spent .state .cells)) T refl
               ∙ sym (step-optional book text inner n c j rest step x items
               (rowState (s .units) (cellsOf store (s .cells)) T) (stateIn (spent .state) store T)
-              (spends inner n T) M (sym et ∙ ap takenOf k));
+              (spends inner n) M (sym et ∙ ap takenOf k));
           held = spent-held h;
         })
 
@@ -442,36 +447,37 @@ module _ (book : Book) (text store : List ℕ) (j : ℕ) (s : State) (x items : 
         t ≡ Taken.List comma M closing y → StagedFrom book text store (spent .state) after j g
         (λ inner n c rest s. listingRows book text inner n c j comma M (closingIn closing) rest
         (stepsRows book text inner n c j rest) y items s) →
-        StagedFrom book text store s after j g (stepPart book text j step x items)
+        StagedIn book text store s after T c j g (stepPart book text j step x items)
     step-lists after comma M closing y g k w h =
         let u = w (spent-held h) in
         record {
-          is = λ inner n c rest T.
+          is = λ inner n rest.
               u .is inner n c rest T
               ∙ sym (step-list book text inner n c j rest step x items
               (rowState (s .units) (cellsOf store (s .cells)) T) (stateIn (spent .state) store T)
-              (spends inner n T) comma M (closingIn closing) y (sym et ∙ ap takenOf k));
+              (spends inner n) comma M (closingIn closing) y (sym et ∙ ap takenOf k));
           held = u .held;
         }
 
     pub step-unopens : (after : List ℕ) (y : ℕ) (r : Reached) (g : Stage) → t ≡ Taken.Unopened y →
         ReachedFrom book text store (spent .state) after j r
         (λ inner n c rest s. unopenedRows book text inner n c j rest y items s) → g ≡ thenSteps r →
-        StagedFrom book text store s after j g (stepPart book text j step x items)
+        StagedIn book text store s after T c j g (stepPart book text j step x items)
     step-unopens after y r g k w eg h =
         let u = w (spent-held h) in
         rw eg (record {
-          is = λ inner n c rest T.
+          is = λ inner n rest.
               u .is inner n c rest T
               ∙ sym (step-unopened book text inner n c j rest step x items
               (rowState (s .units) (cellsOf store (s .cells)) T) (stateIn (spent .state) store T)
-              (spends inner n T) y (sym et ∙ ap takenOf k));
+              (spends inner n) y (sym et ∙ ap takenOf k));
           held = u .held;
         })
 
 -- the step that the code has read
 pub at-step :
-    (book : Book) (text before after : List ℕ) (j : ℕ) (s : State) (g : Stage) (x items : ℕ) (step other : Step) →
-    step ≡ other → StagedFrom book text before s after j g (stepPart book text j step x items) →
-    StagedFrom book text before s after j g (stepPart book text j other x items)
-at-step book text before after j s g x items step other e w = rw (← e) w
+    (book : Book) (text before after : List ℕ) (T : List Row) (c j : ℕ) (s : State) (g : Stage) (x items : ℕ)
+    (step other : Step) → step ≡ other →
+    StagedIn book text before s after T c j g (stepPart book text j step x items) →
+    StagedIn book text before s after T c j g (stepPart book text j other x items)
+at-step book text before after T c j s g x items step other e w = rw (← e) w

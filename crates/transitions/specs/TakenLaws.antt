@@ -27,7 +27,10 @@ use Rattle.characters.specs.Spelling.{same}
 use Rattle.book.specs.Book.{Book, Entry, nthEntry, lookupFrom, lookupName, nthStep}
 use Rattle.book.specs.declared.names.Found.{Found}
 use Rattle.book.specs.declared.records.Step.{Step}
-use Rattle.semantics.specs.Tokens.{Variable, characterEnd, identifierEnd, spelled, reservedAt, freeEnd, variableAt}
+use Rattle.semantics.specs.Uses.{Scope}
+use Rattle.semantics.specs.Tokens as tokens
+use Rattle.semantics.specs.Tokens.{Variable, Read, characterEnd, identifierEnd, spelled, reservedAt, freeEnd}
+use Rattle.semantics.specs.Tokens.{variableIn, variableAt}
 use Rattle.semantics.specs.Theorem.Tokens.{identifier-within, free-end-within}
 use Rattle.semantics.specs.Steps as steps
 use Rattle.semantics.specs.Steps.{After, goes, halts, afterElement, closed, stepAt}
@@ -123,35 +126,60 @@ name-fits names spelling kinds j k e =
     (λ j k n. let z : _≡_ {A = ℕ} 0 1 = cc in absurd (omega arith)) j k e
 
 -- ---- Variables
-module _ (book : Book) (text : List ℕ) (fit : Fit book text) where
-  variable-named : (at end : ℕ) (v : Variable) → identifierEnd text at ≡ some end → (f : Found) →
-      lookupName (book .names) (spelled text at end) ≡ f →
-      elim f [ Found.Name i kind ↦ some (record { end = end; number = i; kind = kind }) | Found.Nothing ↦ none ]
-      ≡ some v → Fits (v .end) × Fits (v .number) × Fits (v .kind)
-  variable-named at end v e (Found.Name i kind) q p =
-      let s : record { end = end; number = i; kind = kind } ≡ v = cc in
-      let low = name-fits (book .names) (spelled text at end) (fit .kinds) i kind q in
-      let ends : Fits end = omega (arith, identifier-within text at end e, fit .short) in
-      let all : Fits end × Fits i × Fits kind = (ends, omega (arith, fit .names), low .1) in
-      rw (← s) all
-  variable-named at end v e Found.Nothing q p = let z : _≡_ {A = ℕ} 0 1 = cc in absurd (omega arith)
+abbrev ItemIn : Option tokens.Item → Type 0
+ItemIn none = Unit {0}
+ItemIn (some (tokens.Item.name place size)) = Fits place × Fits size
+ItemIn (some (tokens.Item.number value)) = Unit {0}
+ItemIn (some (tokens.Item.variable number kind)) = Fits number × Fits kind
+ItemIn (some (tokens.Item.declared depth index)) = Unit {0}
 
-  pub variable-fits : (at : ℕ) (v : Variable) → variableAt book text at ≡ some v →
-      Fits (v .end) × Fits (v .number) × Fits (v .kind)
+module _ (book : Book) (text : List ℕ) (fit : Fit book text) where
+  starting-fits : (spelling : List ℕ) (v : Variable) (f : Found) → lookupName (book .names) spelling ≡ f →
+      elim f [
+        | Found.Name i kind ↦ some (record { kind = kind; item = tokens.Item.variable i kind })
+        | Found.Nothing ↦ none
+      ] ≡ some v → ItemIn (some (v .item))
+  starting-fits spelling v (Found.Name i kind) q p =
+      let s : record { kind = kind; item = tokens.Item.variable i kind } ≡ v = cc in
+      let low = name-fits (book .names) spelling (fit .kinds) i kind q in
+      let both : Fits i × Fits kind = (omega (arith, fit .names), low .1) in
+      rw (← s) both
+  starting-fits spelling v Found.Nothing q p = let z : _≡_ {A = ℕ} 0 1 = cc in absurd (omega arith)
+
+  -- a starting name fits; a declared one is two numbers of the code
+  named-fits : (d : ℕ) (scope : Scope) (spelling : List ℕ) (v : Variable) →
+      variableIn (book .names) d scope spelling ≡ some v → ItemIn (some (v .item))
+  unfolding variableIn
+  named-fits d [] spelling v q = starting-fits spelling v (lookupName (book .names) spelling) refl q
+  named-fits d (binder ∷ scope) spelling v q =
+      by (lookupName binder spelling) refl (λ e. named-fits (suc d) scope spelling v e)
+    where
+      by : (f : Found) → f ≡ lookupName binder spelling →
+          (variableIn (book .names) (suc d) scope spelling ≡ some v → ItemIn (some (v .item))) →
+          ItemIn (some (v .item))
+      by (Found.Name i kind) e h =
+          let p : some (record { kind = kind; item = tokens.Item.declared d i }) ≡ some v = rw (← e, variableIn) at q in
+          let s : record { kind = kind; item = tokens.Item.declared d i } ≡ v = cc in
+          rw (← s) tt
+      by Found.Nothing e h = h (rw (← e, variableIn) at q)
+
+  pub variable-fits : (scope : Scope) (at : ℕ) (v : Read Variable) → variableAt book text scope at ≡ some v →
+      Fits (v .end) × ItemIn (some (v .value .item))
   unfolding variableAt
-  variable-fits at v q =
+  variable-fits scope at v q =
       by-option (identifierEnd text at)
-      (λ end e.
-      variable-named at end v e (lookupName (book .names) (spelled text at end)) refl (rw (e, variableAt) at q))
+      (λ end e. by-option (variableIn (book .names) 0 scope (spelled text at end))
+      (λ w f.
+      let p : some (record { end = end; value = w }) ≡ some v = rw (e, variableAt, f) at q in
+      let s : record { end = end; value = w } ≡ v = cc in
+      let ends : Fits end = omega (arith, identifier-within text at end e, fit .short) in
+      let both : Fits end × ItemIn (some (w .item)) = (ends, named-fits 0 scope (spelled text at end) w f) in
+      rw (← s) both)
+      (λ f.
+      let p : none ≡ some v = rw (e, variableAt, f) at q in let z : _≡_ {A = ℕ} 0 1 = cc in absurd (omega arith)))
       (λ e. let p : none ≡ some v = rw (e, variableAt) at q in let z : _≡_ {A = ℕ} 0 1 = cc in absurd (omega arith))
 
 -- ---- What a step takes
-abbrev ItemIn : Option steps.Item → Type 0
-ItemIn none = Unit {0}
-ItemIn (some (steps.Item.name place size)) = Fits place × Fits size
-ItemIn (some (steps.Item.number value)) = Unit {0}
-ItemIn (some (steps.Item.variable number kind)) = Fits number × Fits kind
-
 abbrev TakenIn : steps.Taken → Type 0
 TakenIn (steps.Taken.token t) = Fits (t .next) × ItemIn (t .item)
 TakenIn (steps.Taken.child N) = Unit {0}
@@ -160,17 +188,17 @@ TakenIn (steps.Taken.list comma N close place) = Fits place
 TakenIn (steps.Taken.unopened place) = Fits place
 TakenIn steps.Taken.nothing = Unit {0}
 
-module _ (book : Book) (text : List ℕ) (fit : Fit book text) (x : ℕ) (h : Fits x) where
+module _ (book : Book) (text : List ℕ) (scope : Scope) (fit : Fit book text) (x : ℕ) (h : Fits x) where
   at-fits : Fits (skipFrom text x)
   at-fits = skip-fits text x (fit .short) h
 
-  character-taken : (a : ℕ) → TakenIn (stepAt book text (Step.Character a) x)
+  character-taken : (a : ℕ) → TakenIn (stepAt book text scope (Step.Character a) x)
   unfolding stepAt
   character-taken a =
       by-option (characterEnd text a x)
       (λ end e. rw (e, stepAt) (character-fits text a x end (fit .short) e, tt)) (λ e. rw (e, stepAt) tt)
 
-  word-taken : (a : ℕ) → TakenIn (stepAt book text (Step.Word a) x)
+  word-taken : (a : ℕ) → TakenIn (stepAt book text scope (Step.Word a) x)
   unfolding stepAt
   word-taken a =
       by-option (identifierEnd text (skipFrom text x))
@@ -180,7 +208,7 @@ module _ (book : Book) (text : List ℕ) (fit : Fit book text) (x : ℕ) (h : Fi
       (λ t. rw (e, t, stepAt) (fits, tt)) (λ t. rw (e, t, stepAt) tt))
       (λ e. rw (e, stepAt) tt)
 
-  identifier-taken : TakenIn (stepAt book text Step.Identifier x)
+  identifier-taken : TakenIn (stepAt book text scope Step.Identifier x)
   unfolding stepAt
   identifier-taken =
       by-option (freeEnd book text (skipFrom text x))
@@ -189,7 +217,7 @@ module _ (book : Book) (text : List ℕ) (fit : Fit book text) (x : ℕ) (h : Fi
       rw (e, stepAt) (fits, (at-fits, omega arith)))
       (λ e. rw (e, stepAt) tt)
 
-  number-told : (n : Number) → numberAt text (skipFrom text x) ≡ n → TakenIn (stepAt book text Step.Number x)
+  number-told : (n : Number) → numberAt text (skipFrom text x) ≡ n → TakenIn (stepAt book text scope Step.Number x)
   unfolding stepAt
   number-told (Number.Value value end) e =
       let short = fit .short in
@@ -198,44 +226,44 @@ module _ (book : Book) (text : List ℕ) (fit : Fit book text) (x : ℕ) (h : Fi
   number-told Number.TooLarge e = rw (e, stepAt) tt
   number-told Number.Nothing e = rw (e, stepAt) tt
 
-  variable-taken : TakenIn (stepAt book text Step.Variable x)
+  variable-taken : TakenIn (stepAt book text scope Step.Variable x)
   unfolding stepAt
   variable-taken =
-      by-option (variableAt book text (skipFrom text x))
-      (λ v e. let f = variable-fits book text fit (skipFrom text x) v e in rw (e, stepAt) (f .0, (f .1, f .2)))
+      by-option (variableAt book text scope (skipFrom text x))
+      (λ v e. let f = variable-fits book text fit scope (skipFrom text x) v e in rw (e, stepAt) f)
       (λ e. rw (e, stepAt) tt)
 
-  kind-taken : (a : ℕ) → TakenIn (stepAt book text (Step.VariableOfKind a) x)
+  kind-taken : (a : ℕ) → TakenIn (stepAt book text scope (Step.VariableOfKind a) x)
   unfolding stepAt
   kind-taken a =
-      by-option (variableAt book text (skipFrom text x))
-      (λ v e. let f = variable-fits book text fit (skipFrom text x) v e in
-      by-test (eqb (v .kind) a) (λ t. rw (e, t, stepAt) (f .0, (f .1, f .2))) (λ t. rw (e, t, stepAt) tt))
+      by-option (variableAt book text scope (skipFrom text x))
+      (λ v e. let f = variable-fits book text fit scope (skipFrom text x) v e in
+      by-test (eqb (v .value .kind) a) (λ t. rw (e, t, stepAt) f) (λ t. rw (e, t, stepAt) tt))
       (λ e. rw (e, stepAt) tt)
 
-  reject-variable-taken : TakenIn (stepAt book text Step.RejectVariable x)
+  reject-variable-taken : TakenIn (stepAt book text scope Step.RejectVariable x)
   unfolding stepAt
   reject-variable-taken =
-      by-option (variableAt book text (skipFrom text x)) (λ v e. rw (e, stepAt) tt) (λ e. rw (e, stepAt) (h, tt))
+      by-option (variableAt book text scope (skipFrom text x)) (λ v e. rw (e, stepAt) tt) (λ e. rw (e, stepAt) (h, tt))
 
-  reject-reserved-taken : TakenIn (stepAt book text Step.RejectReserved x)
+  reject-reserved-taken : TakenIn (stepAt book text scope Step.RejectReserved x)
   unfolding stepAt
   reject-reserved-taken =
       by-test (reservedAt book text (skipFrom text x)) (λ e. rw (e, stepAt) tt) (λ e. rw (e, stepAt) (h, tt))
 
-  delimited-taken : (M b c : ℕ) → TakenIn (stepAt book text (Step.Delimited M b c) x)
+  delimited-taken : (M b c : ℕ) → TakenIn (stepAt book text scope (Step.Delimited M b c) x)
   unfolding stepAt
   delimited-taken M b c =
       by-option (characterEnd text b x)
       (λ end e. rw (e, stepAt) (character-fits text b x end (fit .short) e)) (λ e. rw (e, stepAt) tt)
 
-  optional-taken : (M b c : ℕ) → TakenIn (stepAt book text (Step.OptionalDelimited M b c) x)
+  optional-taken : (M b c : ℕ) → TakenIn (stepAt book text scope (Step.OptionalDelimited M b c) x)
   unfolding stepAt
   optional-taken M b c =
       by-option (characterEnd text b x) (λ end e. rw (e, stepAt) (character-fits text b x end (fit .short) e))
       (λ e. rw (e, stepAt) at-fits)
 
-  step-taken : (step : Step) → TakenIn (stepAt book text step x)
+  step-taken : (step : Step) → TakenIn (stepAt book text scope step x)
   unfolding stepAt
   step-taken (Step.Character a) = character-taken a
   step-taken (Step.Word a) = word-taken a
@@ -257,6 +285,7 @@ item-in Item.Nothing f = f
 item-in (Item.Name place size) f = f
 item-in (Item.Number value) f = f
 item-in (Item.Variable number kind) f = f
+item-in (Item.Declared depth index) f = f
 
 taken-in : (t : Taken) → TakenIn (takenOf t) → TakenFits t
 taken-in Taken.Nothing f = f
@@ -266,9 +295,9 @@ taken-in (Taken.Optional N) f = f
 taken-in (Taken.List comma N closing place) f = f
 taken-in (Taken.Unopened place) f = f
 
-pub taken-fits : (book : Book) (text : List ℕ) → Fit book text → (x : ℕ) → Fits x → (step : Step) →
-    (t : Taken) → takenOf t ≡ stepAt book text step x → TakenFits t
-taken-fits book text fit x h step t e = taken-in t (rw e (step-taken book text fit x h step))
+pub taken-fits : (book : Book) (text : List ℕ) (scope : Scope) → Fit book text → (x : ℕ) → Fits x → (step : Step) →
+    (t : Taken) → takenOf t ≡ stepAt book text scope step x → TakenFits t
+taken-fits book text scope fit x h step t e = taken-in t (rw e (step-taken book text scope fit x h step))
 
 -- ---- The same by what was taken
 module _ (t : Taken) (f : TakenFits t) where

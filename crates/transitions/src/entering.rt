@@ -29,7 +29,6 @@ use errors::Failure;
 use errors::NONTERMINAL_WANTED;
 use sets::Parse;
 use tokens::End;
-use tokens::Variable;
 
 // A use of a nonterminal, up to its runs: it is to be run, with a minimum, or over.
 pub struct Entered {
@@ -79,18 +78,24 @@ fn stored(
     }
 }
 
-// A variable that an open call above a row claims.
-fn claimed(book: &[u8], index: &[usize], text: &[u8], rows: &[u32], row: usize, at: u32) -> bool
+// A variable that an open call claims, where a use stands in a row and with a binder.
+fn claimed(
+    book: &[u8],
+    index: &[usize],
+    text: &[u8],
+    rows: &[u32],
+    row: usize,
+    binder: u32,
+    at: u32,
+) -> bool
     requires { ⌜ InTable row rows ⌝ }
-    ensures { λ r. ⌜ r ≡ claimedRows (bookAt book index) (atEntry text) (tableAt rows) row at ⌝ }
+    ensures { λ r. ⌜ r ≡ claimedRows (bookAt book index) (atEntry text) (tableAt rows) row binder at ⌝ }
 {
-    match tokens::variable_at(book, index, text, at as usize) {
-        Variable::Named {
-            end: _,
-            number: _,
-            kind: _,
-        } => calls::any_claims(book, index, rows, row, at),
-        Variable::Nothing => false,
+    let found = tokens::variable_at(book, index, text, rows, row, binder, at as usize);
+    if tokens::is_variable(found) {
+        calls::claims_use(book, index, rows, row, binder, at)
+    } else {
+        false
     }
 }
 
@@ -102,16 +107,17 @@ fn run_identifier(
     store: &mut [u32],
     rows: &mut [u32],
     row: usize,
+    binder: u32,
     nonterminal: u32,
     at: u32,
     state: State,
 ) -> Outcome
     requires { ⌜ Ready book index text rows row ⌝ }
-    ensures { λ r. ⌜ Does book index text store rows state r (identifies row nonterminal at) ⌝ }
+    ensures { λ r. ⌜ Does book index text store rows state r (identifies row binder nonterminal at) ⌝ }
 {
     calls::clear_set(rows, row);
     calls::end_call(rows, row);
-    if claimed(book, index, text, rows, row, at) {
+    if claimed(book, index, text, rows, row, binder, at) {
         return done(no_parse(nonterminal, at), state);
     }
     let End::At(end) = tokens::free_end(book, index, text, at as usize) else {
@@ -123,11 +129,12 @@ fn run_identifier(
     if m.limit != 0 {
         return without_failure(m.limit, s);
     }
+    let rest = end as u32;
     calls::put_one(
         rows,
         row,
         Parse {
-            rest: end as u32,
+            rest,
             level: DEFAULT_LEVEL as u32,
             associativity: Associativity::Both,
             value: m.cell,
@@ -157,13 +164,14 @@ fn open(
     store: &mut [u32],
     rows: &mut [u32],
     row: usize,
+    binder: u32,
     nonterminal: u32,
     at: u32,
     minimum: usize,
     state: State,
 ) -> Entered
     requires { ⌜ Ready book index text rows row ⌝ }
-    ensures { λ r. ⌜ Opens book index text store rows row nonterminal at minimum state r ⌝ }
+    ensures { λ r. ⌜ Opens book index text store rows row binder nonterminal at minimum state r ⌝ }
 {
     if row == 0 {
         return without_runs(without_failure(TOO_DEEP, state));
@@ -176,6 +184,7 @@ fn open(
             store,
             rows,
             row,
+            binder,
             nonterminal,
             at,
             state,
@@ -197,19 +206,20 @@ pub fn begin_use(
     store: &mut [u32],
     rows: &mut [u32],
     row: usize,
+    binder: u32,
     nonterminal: u32,
     at: u32,
     state: State,
 ) -> Entered
     requires { ⌜ Ready book index text rows row ⌝ }
-    ensures { λ r. ⌜ BeginsUse book index text store rows row nonterminal at state r ⌝ }
+    ensures { λ r. ⌜ BeginsUse book index text store rows row binder nonterminal at state r ⌝ }
 {
     let spent = spend(state);
     if spent.limit != 0 {
         return without_runs(spent);
     }
     let s = spent.state;
-    match calls::governor_of(rows, row, nonterminal, at) {
+    match calls::governor_of(rows, row, binder, nonterminal, at) {
         Governor::SameStart(governor) => {
             without_runs(stored(rows, governor, row, nonterminal, at, s))
         }
@@ -220,6 +230,7 @@ pub fn begin_use(
             store,
             rows,
             row,
+            binder,
             nonterminal,
             at,
             minimum,

@@ -4,8 +4,8 @@ ghost use mathlib.Core.Option.{some};
 ghost use Rattle.book.specs.Book.{nthVariant};
 ghost use Rattle.characters.specs.Slices.{atEntry};
 ghost use Rattle.book.specs.Index.{bookAt};
+ghost use Rattle.semantics.specs.Tokens as tokens;
 ghost use Rattle.semantics.specs.Tokens.{isSome};
-ghost use Rattle.semantics.specs.Steps as steps;
 ghost use Rattle.semantics.specs.Cells.{Cell, numbersOf};
 ghost use Rattle.semantics.specs.Run as run;
 ghost use Rattle.run_model.specs.Model.{valueCell};
@@ -104,13 +104,14 @@ pub fn with_cell(
 // The numbers of what a token adds; of nothing, none are asked for.
 fn item_numbers(item: Item) -> CellNumbers
     requires { ⌜ ItemFits item ⌝ }
-    ensures { λ r. ⌜ ((i : steps.Item) → itemOf item ≡ some i → listed r ≡ numbersOf (run.itemCell i)) ⌝ }
+    ensures { λ r. ⌜ ((i : tokens.Item) → itemOf item ≡ some i → listed r ≡ numbersOf (run.itemCell i)) ⌝ }
 {
     match item {
         Item::Nothing => cells::empty(),
         Item::Name { place, size } => cells::name(place as u32, size as u32),
         Item::Number(value) => cells::number(value),
         Item::Variable { number, kind } => cells::variable(number as u32, kind as u32),
+        Item::Declared(depth, index) => cells::declared(depth, index),
     }
 }
 

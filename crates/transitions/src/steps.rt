@@ -5,7 +5,8 @@ ghost use Rattle.sets.specs.Sets.{parse, parseOf};
 ghost use Rattle.tokens.specs.Maps.{itemOf};
 ghost use Rattle.transitions.specs.Fit.{Fits, ItemFits};
 ghost use Rattle.transitions.specs.Steps.{thenDoes, StepSpent, ParseEnded};
-ghost use Rattle.transitions.specs.Contracts.{Fitting, Ready, Does, Stages, StagesAll, Reaches};
+ghost use Rattle.transitions.specs.Contracts.{Fitting, Ready, Does, Stages, StagesIn, StagesAll};
+ghost use Rattle.transitions.specs.Contracts.{Reaches};
 ghost use Rattle.transitions.specs.Contracts.{completes, takes, reads, lists, unopens, stops, follows};
 ghost use Rattle.transitions.specs.declared.stages.Next.{Next};
 use crate::items::make;
@@ -242,11 +243,12 @@ pub fn take_step(
     index: &[usize],
     text: &[u8],
     store: &mut [u32],
+    rows: &[u32],
     here: Progress,
     state: State,
 ) -> Stage
-    requires { ⌜ Fitting book index text ⌝ }
-    ensures { λ r. ⌜ Stages book index text store here state r (takes here) ⌝ }
+    requires { ⌜ Ready book index text rows (here .call) ⌝ }
+    ensures { λ r. ⌜ StagesIn book index text store rows here state r (takes here) ⌝ }
 {
     let step = book::step(book, index, here.step as usize);
     let spent = step_unit(step, state);
@@ -255,10 +257,10 @@ pub fn take_step(
     }
     let s = spent.state;
     let x = here.place as usize;
-    match tokens::step_at(book, index, text, step, x) {
+    match tokens::step_at(book, index, text, rows, here.call, step, x) {
         Taken::Nothing => {
             let at = skipped(text, here.place);
-            let e = tokens::step_error(book, index, text, step, at);
+            let e = tokens::step_error(book, index, text, rows, here.call, step, at);
             then_steps(ended(done(Failure::At(e), s)))
         }
         Taken::Token { next, item } => then_steps(take_token(

@@ -14,7 +14,7 @@ returns c =
     let spend = c .before .before .before .spend in
     let if1 = c .before .if1 in
     enters-spent (bookIn (args .book .now) (args .index .now)) (args .text .now) (table (args .rows .now)) (args .row)
-    (args .nonterminal) (args .at)
+    (args .binder) (args .nonterminal) (args .at)
     (args .state) _ _ (spend .ensures) (args .store .now) (if1 .taken) (c .without-runs .ensures)
 
 stored-requires : tie.Need-stored-requires
@@ -26,7 +26,7 @@ stored-requires c κs =
     let governor-of = c .before .before .before .before .governor-of in
     let governor = c .before .before .governor in
     let above =
-    governor-above (table (args .rows .now)) (args .row) (args .nonterminal) (args .at) _
+    governor-above (table (args .rows .now)) (args .row) (args .binder) (args .nonterminal) (args .at) _ (pre .0)
     (sym (ap governorIn (governor .given .1)) ∙ governor-of .ensures) in
     (above .0, above .1, pre .1)
 
@@ -41,7 +41,7 @@ returns-2 c =
     let governor = c .before .before .before .before .before .before .governor in
     let stored = c .before .before .before .stored in
     enters-stored (bookIn (args .book .now) (args .index .now)) (args .text .now) (table (args .rows .now)) (args .row)
-    (args .nonterminal) (args .at) (args .state) _ _ (spend .ensures) (args .store .now) _ _ _ _ (if1 .left)
+    (args .binder) (args .nonterminal) (args .at) (args .state) _ _ (spend .ensures) (args .store .now) _ _ _ _ (if1 .left)
     (governor-of .ensures) (governor .given .1) (stored .ensures) (c .without-runs2 .ensures)
 
 returns-3 : tie.Need-returns-3
@@ -56,7 +56,7 @@ returns-3 c =
     let minimum = c .before .before .before .before .before .before .before .before .minimum in
     let opening = c .before .before .before .before .«open» in
     enters-open (bookIn (args .book .now) (args .index .now)) (args .text .now) (table (args .rows .now)) (args .row)
-    (args .nonterminal) (args .at) (args .state) _ _ (spend .ensures) (args .store .now) _ _ _ _ (if1 .left)
+    (args .binder) (args .nonterminal) (args .at) (args .state) _ _ (spend .ensures) (args .store .now) _ _ _ _ (if1 .left)
     (governor-of .ensures) (minimum .given .1) (opening .ensures)
 
 pub begin-use-spec : {M : Type 1} → statement M

@@ -10,18 +10,20 @@ returns : tie.Need-returns
 returns c =
     let args = c .before .before .before .before .before .before .before .before .args in
     let variable-at = c .before .before .before .variable-at in
-    let enum-told = c .before .enum-told in
+    let is-variable = c .before .before .is-variable in
+    let if1 = c .before .if1 in
     claimed-named (bookIn (args .book .now) (args .index .now)) (args .text .now) (table (args .rows .now)) (args .row)
-    (args .at) _ (variable-at .ensures) _ _ _ _ (enum-told .given .1) (c .any-claims .ensures)
+    (args .binder) (args .at) (variable-at .result) (variable-at .ensures) _ (is-variable .ensures) _ (if1 .taken) (c .claims-use .ensures)
 
 returns-2 : tie.Need-returns-2
 returns-2 c =
     let args = c .before .before .before .before .before .before .before .args in
     let variable-at = c .before .before .variable-at in
+    let is-variable = c .before .is-variable in
     claimed-nothing (bookIn (args .book .now) (args .index .now)) (args .text .now) (table (args .rows .now))
-    (args .row) (args .at) _ (variable-at .ensures) (c .enum-told2 .given .1)
+    (args .row) (args .binder) (args .at) (variable-at .result) (variable-at .ensures) _ (is-variable .ensures) (c .if1 .left)
 
 pub claimed-spec : {M : Type 1} → statement M
 claimed-spec =
     tie.close
-    (tie.spec (λ c κs. search needs) (λ c. search needs) (λ c κs. search needs) (λ c. search needs) returns returns-2)
+    (tie.spec (λ c κs. search needs) (λ c κs. search needs) (λ c κs. search needs) returns returns-2)

@@ -25,7 +25,7 @@ returns c =
     let if1 = c .before .before .if1 in
     let no-parse = c .before .no-parse in
     identifier-claimed (bookIn (args .book .now) (args .index .now)) (args .text .now) (args .store .now)
-    (table (args .rows .now)) _ _ (args .row) (args .nonterminal) (args .at) (args .state) _
+    (table (args .rows .now)) _ _ (args .row) (args .binder) (args .nonterminal) (args .at) (args .state) _
     (table-below (args .rows .now) (args .row) (pre .0)) (clear-set .ensures) (end-call .ensures)
     (claimed .ensures) (no-parse .result) _ (if1 .taken) (no-parse .ensures) (c .done .ensures)
 
@@ -44,7 +44,7 @@ returns-2 c =
     let enum-told = c .before .before .enum-told in
     let no-parse2 = c .before .no-parse2 in
     identifier-nothing (bookIn (args .book .now) (args .index .now)) (args .text .now) (args .store .now)
-    (table (args .rows .now)) _ _ (args .row) (args .nonterminal) (args .at) (args .state) _
+    (table (args .rows .now)) _ _ (args .row) (args .binder) (args .nonterminal) (args .at) (args .state) _
     (table-below (args .rows .now) (args .row) (pre .0)) (clear-set .ensures) (end-call .ensures) (claimed .ensures) _
     (no-parse2 .result) _ (if1 .left) (free-end .ensures) (enum-told .given .1) (no-parse2 .ensures) (c .done2 .ensures)
 
@@ -97,22 +97,22 @@ returns-3 c =
     let make = c .before .before .before .before .before .before .make in
     let if2 = c .before .if2 in
     identifier-full (bookIn (args .book .now) (args .index .now)) (args .text .now) (args .store .now)
-    (table (args .rows .now)) _ _ (args .row) (args .nonterminal) (args .at) (args .state) _
+    (table (args .rows .now)) _ _ (args .row) (args .binder) (args .nonterminal) (args .at) (args .state) _
     (table-below (args .rows .now) (args .row) (pre .0)) (clear-set .ensures) (end-call .ensures)
     (claimed .ensures) _ _ _ _ _ _ (if1 .left) (free-end .ensures) (end .given .1) (span-length .ensures)
     (name .ensures) (make .ensures) _ (if2 .taken) (c .without-failure .ensures)
 
-cast-t29 : tie.Need-cast-t29
-cast-t29 c =
-    let args = c .before .before .before .before .before .before .before .before .before .before .before .before .before
+cast-rest : tie.Need-cast-rest
+cast-rest c =
+    let args = c .before .before .before .before .before .before .before .before .before .before .before .before
     .before .before .before .before .before .before .before .before .before .before .before .before .before .before
     .before .before .before .args in
-    let pre = c .before .before .before .before .before .before .before .before .before .before .before .before .before
+    let pre = c .before .before .before .before .before .before .before .before .before .before .before .before
     .before .before .before .before .before .before .before .before .before .before .before .before .before .before
     .before .before .before .pre in
-    let free-end = c .before .before .before .before .before .before .before .before .before .before .before
+    let free-end = c .before .before .before .before .before .before .before .before .before .before
     .before .before .free-end in
-    let end = c .before .before .before .before .before .before .before .before .before .before .before .end in
+    let end = c .before .before .before .before .before .before .before .before .before .before .end in
     omega (
       arith,
       free-end-fits (bookIn (args .book .now) (args .index .now)) (args .text .now) (args .at) _
@@ -169,7 +169,7 @@ returns-4 c =
     let if2 = c .before .before .before .before .before .if2 in
     let put-one = c .before .before .before .put-one in
     identifier-named (bookIn (args .book .now) (args .index .now)) (args .text .now) (args .store .now)
-    (table (args .rows .now)) _ _ (args .row) (args .nonterminal) (args .at) (args .state) _
+    (table (args .rows .now)) _ _ (args .row) (args .binder) (args .nonterminal) (args .at) (args .state) _
     (table-below (args .rows .now) (args .row) (pre .0)) (clear-set .ensures) (end-call .ensures)
     (claimed .ensures) _ _ _ _ _ _ (if1 .left) (free-end .ensures) (end .given .1) (span-length .ensures)
     (name .ensures) (make .ensures) _ _ (if2 .left) (put-one .ensures) (c .done3 .ensures)
@@ -181,5 +181,5 @@ run-identifier-spec =
     (λ c κs. search needs) (λ c κs. search needs) (λ c κs. search needs) (λ c κs. search needs) (λ c κs. search needs)
     (λ c. search needs) returns (λ c κs. search needs) (λ c. search needs) (λ c. search needs) (λ c κs. search needs)
     (λ c κs. search needs) (λ c. search needs) returns-2 (λ c κs. search needs) cast-name (λ c κs. search needs)
-    (λ c κs. search needs) (λ c κs. search needs) (λ c. search needs) same-length-4 returns-3 cast-t29
+    (λ c κs. search needs) (λ c κs. search needs) (λ c. search needs) same-length-4 returns-3 cast-rest
     (λ c. search needs) put-one-requires (λ c κs. search needs) (λ c. search needs) same-length-6 returns-4)

@@ -15,12 +15,15 @@ use Rattle.transitions.proofs.items.adds.Statement.{statement}
 use Rattle.transitions.proofs.items.adds.Tie as tie
 
 -- any other item adds one
-others-add : (item : Item) → OneOf (1 ∷ 2 ∷ 3 ∷ []) (tagOf the-type item) → true ≡ isSome (itemOf item)
+others-add : (item : Item) → OneOf (1 ∷ 2 ∷ 3 ∷ 4 ∷ []) (tagOf the-type item) → true ≡ isSome (itemOf item)
 unfolding isSome
-others-add Item.Nothing h = absurd (⊎-elim (λ e. omega arith) (λ g. ⊎-elim (λ e. omega arith) (λ e. omega arith) g) h)
+others-add Item.Nothing h =
+    absurd (⊎-elim (λ e. omega arith)
+    (λ g. ⊎-elim (λ e. omega arith) (λ f. ⊎-elim (λ e. omega arith) (λ e. omega arith) f) g) h)
 others-add (Item.Name place size) h = refl
 others-add (Item.Number value) h = refl
 others-add (Item.Variable number kind) h = refl
+others-add (Item.Declared depth index) h = refl
 
 returns : tie.Need-returns
 unfolding isSome

@@ -2,7 +2,7 @@
 use native.Mathlib.Omega.{arith}
 use borrow.Author.Needs.{needs}
 use Rattle.transitions.specs.OutcomeLaws.{name-fit, variable-fit, item-nothing, item-name, item-number}
-use Rattle.transitions.specs.OutcomeLaws.{item-variable}
+use Rattle.transitions.specs.OutcomeLaws.{item-variable, item-declared}
 use Rattle.transitions.proofs.items.item_numbers.Statement.{statement}
 use Rattle.transitions.proofs.items.item_numbers.Tie as tie
 
@@ -58,10 +58,16 @@ returns-4 c =
     let item3 = c .before .before .item3 in
     λ i e. item-variable (args .item) _ i e _ _ (item3 .given .1) (c .variable .ensures)
 
+returns-5 : tie.Need-returns-5
+returns-5 c =
+    let args = c .before .before .before .before .args in
+    let item4 = c .before .before .item4 in
+    λ i e. item-declared (args .item) _ i e _ _ (item4 .given .1) (c .declared .ensures)
+
 pub item-numbers-spec : {M : Type 1} → statement M
 item-numbers-spec =
     tie.close
     (tie.spec
     (λ c. search needs) (λ c κs. search needs) (λ c. search needs) cast-name cast-name-2 (λ c κs. search needs)
     (λ c. search needs) (λ c κs. search needs) (λ c. search needs) cast-variable cast-variable-2 (λ c κs. search needs)
-    returns returns-2 returns-3 returns-4)
+    (λ c. search needs) (λ c κs. search needs) returns returns-2 returns-3 returns-4 returns-5)
