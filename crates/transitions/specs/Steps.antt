@@ -64,7 +64,7 @@ module _ (book : Book) (text : List ℕ) (inner : Option RowRunner) (n c j : ℕ
   -- a child of nonterminal M at a place, and what follows its parses
   unfoldable pub descendsRows : Next → ℕ → ℕ → ℕ → RowState → Result Outcome
   descendsRows next M x items s =
-      enterChildRows book text inner n c M x s >>= (λ o.
+      enterChildRows book text inner n none c M x s >>= (λ o.
       followedRows book text inner n (nextRows book text c j rest next items) o)
 
   -- an optional child, or the elements of a list

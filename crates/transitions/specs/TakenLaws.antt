@@ -186,6 +186,8 @@ TakenIn (steps.Taken.child N) = Unit {0}
 TakenIn (steps.Taken.optional N) = Unit {0}
 TakenIn (steps.Taken.list comma N close place) = Fits place
 TakenIn (steps.Taken.unopened place) = Fits place
+TakenIn (steps.Taken.names close N place) = Fits place
+TakenIn (steps.Taken.body N) = Unit {0}
 TakenIn steps.Taken.nothing = Unit {0}
 
 module _ (book : Book) (text : List ℕ) (scope : Scope) (fit : Fit book text) (x : ℕ) (h : Fits x) where
