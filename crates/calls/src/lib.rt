@@ -81,7 +81,7 @@ const RUN_SET: usize = STORED_SET + SET_SIZE;
 const ROW_SIZE: usize = RUN_SET + SET_SIZE;
 
 // binders: no opening is around; one is; the least of a body behind one, which declared no name
-const OUTSIDE: u32 = 0;
+pub const OUTSIDE: u32 = 0;
 
 const AROUND: u32 = 1;
 

@@ -35,20 +35,20 @@ runner-some book text zero h = absurd (omega (arith, h))
 runner-some book text (suc n) h = rw sub-one
 
 -- ---- A use of a nonterminal
-module _ (book : Book) (text st0 st1 : List ℕ) (T U : List Row) (n N u : ℕ) (s : State) (e : Entered)
-    (E : BeginsUse book text st0 st1 T U n N u s e) where
+module _ (book : Book) (text st0 st1 : List ℕ) (T U : List Row) (n b N u : ℕ) (s : State) (e : Entered)
+    (E : BeginsUse book text st0 st1 T U n b N u s e) where
   pub enter-over : e .runs ≡ false →
       Runs text st0 (s .cells) st1 U (e .outcome)
-      (λ cells. enterRows book text (runnerRows book text n) n N u (rowState (s .units) cells T))
+      (λ cells. enterRows book text (runnerRows book text n) n b N u (rowState (s .units) cells T))
   unfolding goesIn
   enter-over h held = let d = E .does held in record { is = rw (h, goesIn) at (d .is); held = d .held }
 
   pub enter-runs : (st2 : List ℕ) (U1 : List Row) (r : Outcome) → e .runs ≡ true →
       Runs text st1 (e .outcome .state .cells) st2 U1 r (λ cells.
-      runCallRows book text (innerRunner book text n) n N u (e .minimum)
+      runCallRows book text (innerRunner book text n) n b N u (e .minimum)
       (rowState (e .outcome .state .units) cells U)) →
       Runs text st0 (s .cells) st2 U1 r
-      (λ cells. enterRows book text (runnerRows book text n) n N u (rowState (s .units) cells T))
+      (λ cells. enterRows book text (runnerRows book text n) n b N u (rowState (s .units) cells T))
   unfolding goesIn
   enter-runs st2 U1 r h k held =
       let d = E .does held in
@@ -56,13 +56,13 @@ module _ (book : Book) (text st0 st1 : List ℕ) (T U : List Row) (n N u : ℕ) 
       record { is = q .is ∙ (rw (h, goesIn) at (d .is)); held = q .held }
 
 -- ---- The runs of a call
-module _ (book : Book) (text st0 st1 : List ℕ) (T T1 U U1 : List Row) (n N u m : ℕ) (s : State) (run : RowRunner)
-    (o : Outcome) (e : RunEnd) (eo : T1 ≡ onRow T n (opened N u))
+module _ (book : Book) (text st0 st1 : List ℕ) (T T1 U U1 : List Row) (n b N u m : ℕ) (s : State) (run : RowRunner)
+    (o : Outcome) (e : RunEnd) (eo : T1 ≡ onRow T n (opened b N u))
     (one : Runs text st0 (s .cells) st1 U o (λ cells. oneRunRows book text run n m (rowState (s .units) cells T1)))
     (fe : FirstEnded U U1 n o e) where
   first-run : Held text st0 (s .cells) →
       goesAgain (λ t. roundsRows book text 65 run n m t) e (cellsOf st1 (e .outcome .state .cells)) U1 ≡
-      runCallRows book text run n N u m (rowState (s .units) (cellsOf st0 (s .cells)) T)
+      runCallRows book text run n b N u m (rowState (s .units) (cellsOf st0 (s .cells)) T)
   unfolding runCallRows
   first-run held =
       let again : RowState → Result model.Outcome = λ t. roundsRows book text 65 run n m t in
@@ -74,14 +74,14 @@ module _ (book : Book) (text st0 st1 : List ℕ) (T T1 U U1 : List Row) (n N u m
 
   pub run-call-over : e .again ≡ false →
       Runs text st0 (s .cells) st1 U1 (e .outcome)
-      (λ cells. runCallRows book text run n N u m (rowState (s .units) cells T))
+      (λ cells. runCallRows book text run n b N u m (rowState (s .units) cells T))
   unfolding goesAgain
   run-call-over h held = record { is = rw (h, goesAgain) at (first-run held); held = keep held }
 
   pub run-call-rounds : (st2 : List ℕ) (U2 : List Row) (r : Outcome) → e .again ≡ true →
       Runs text st1 (e .outcome .state .cells) st2 U2 r
       (λ cells. roundsRows book text 65 run n m (rowState (e .outcome .state .units) cells U1)) →
-      Runs text st0 (s .cells) st2 U2 r (λ cells. runCallRows book text run n N u m (rowState (s .units) cells T))
+      Runs text st0 (s .cells) st2 U2 r (λ cells. runCallRows book text run n b N u m (rowState (s .units) cells T))
   unfolding goesAgain
   run-call-rounds st2 U2 r h k held =
       let q = k (keep held) in

@@ -17,7 +17,7 @@ use Rattle.semantics.specs.Steps.{Todo}
 use Rattle.semantics.specs.Errors.{Error}
 use Rattle.semantics.specs.Cells.{Cell}
 use Rattle.semantics.specs.Run.{Result, met, _>>=_}
-use Rattle.run_model.specs.Rows.{Row, rowOf, onRow, withChild}
+use Rattle.run_model.specs.Rows.{Row, rowOf, onRow, withChild, inherited}
 use Rattle.run_model.specs.Model as model
 use Rattle.run_model.specs.Model.{RowState, rowState, outcome, RowRunner, RowNext, together}
 use Rattle.run_model.specs.Model.{enterRows, runnerRows, stepsRows, nestedRows, enterChildRows, followFrom}
@@ -38,9 +38,9 @@ use Rattle.parser.specs.CallLaws.{runner-some}
 
 -- ---- Children
 module _ (book : Book) (text : List ℕ) (inner : Option RowRunner) (n c j : ℕ) (rest : List (Todo ℕ)) (next : Next)
-    (M x items : ℕ) (s : State) (st0 st1 st2 : List ℕ) (T T1 U U1 : List Row) (u : ℕ) (o r : Outcome)
-    (child : (u ≡ skipFrom text x) × (T1 ≡ onRow T c (withChild u)))
-    (E : Runs text st0 (s .cells) st1 U o (λ cells. enterRows book text inner n M u (rowState (s .units) cells T1)))
+    (M x items : ℕ) (s : State) (st0 st1 st2 : List ℕ) (T T1 U U1 : List Row) (b u : ℕ) (o r : Outcome)
+    (binder : b ≡ inherited (rowOf T c .binder)) (child : (u ≡ skipFrom text x) × (T1 ≡ onRow T c (withChild u)))
+    (E : Runs text st0 (s .cells) st1 U o (λ cells. enterRows book text inner n b M u (rowState (s .units) cells T1)))
     (F : Runs text st1 (o .state .cells) st2 U1 r
     (λ cells. followsRows book text inner n c j rest next items (given o cells U))) where
   pub descended : Runs text st0 (s .cells) st2 U1 r
@@ -51,7 +51,7 @@ module _ (book : Book) (text : List ℕ) (inner : Option RowRunner) (n c j : ℕ
       let q = F (d .held) in
       record {
         is = q .is ∙ ap (λ (z : Result model.Outcome). followsRows book text inner n c j rest next items z) (d .is)
-            ∙ rw (child .1, child .0);
+            ∙ rw (binder, child .1, child .0);
         held = q .held;
       }
 

@@ -97,11 +97,11 @@ OnPath book index text rows n here =
 
 -- ---- Which part of the model each function is
 module _ (n : ℕ) where
-  abbrev pub enters : ℕ → ℕ → FromState
-  enters N u book text s = enterRows book text (runnerRows book text n) n N u s
+  abbrev pub enters : ℕ → ℕ → ℕ → FromState
+  enters binder N u book text s = enterRows book text (runnerRows book text n) n binder N u s
 
-  abbrev pub runsCall : ℕ → ℕ → ℕ → FromState
-  runsCall N u m book text s = runCallRows book text (innerRunner book text n) n N u m s
+  abbrev pub runsCall : ℕ → ℕ → ℕ → ℕ → FromState
+  runsCall binder N u m book text s = runCallRows book text (innerRunner book text n) n binder N u m s
 
   abbrev pub runsAgain : ℕ → FromState
   runsAgain m book text s = roundsRows book text mostRounds (innerRunner book text n) n m s

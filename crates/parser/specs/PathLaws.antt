@@ -37,7 +37,7 @@ use Rattle.transitions.specs.declared.stages.Reached.{Reached}
 use Rattle.transitions.specs.declared.stages.Stage.{Stage}
 use Rattle.transitions.specs.Outcomes.{cellsOf, Held, given, goesOn, Ran, Runs, failureAt}
 use Rattle.transitions.specs.Steps.{todoFrom, nextRows, descendsRows, choosesRows, doesRows, resumes, firstSideRows}
-use Rattle.transitions.specs.Steps.{StagedFrom}
+use Rattle.transitions.specs.Steps.{StagedIn}
 use Rattle.transitions.specs.Steps.{ReachedFrom, Chosen}
 use Rattle.parser.specs.Cycle.{bothSidesRows, rankOf}
 use Rattle.parser.specs.ResultLaws.{Going, bind-assoc, bind-assoc-in, limit-ends, goes-to, goes-on, ended}
@@ -283,7 +283,7 @@ module _ (book : Book) (text : List ℕ) (inner : Option RowRunner) (n c j step 
       resumes-steps cells = rw (goes-on o cells T h, e)
 
       pub path-step : (st1 : List ℕ) (g : Stage) → (left ≡ 0 → ⊥) → step + left ≤ length (book .steps) →
-          StagedFrom book text st (o .state) st1 j g (λ inner n c rest s.
+          StagedIn book text st (o .state) st1 T c j g (λ inner n c rest s.
           stepsRows book text inner n c j (taking (nthStep (book .steps) step) ∷ rest) at items s) →
           Held text st0 c0 → Going text st1 (g .outcome .state .cells)
           (resumes book text inner n c j (todoFrom book (step + 1) (left - 1)) (g .doing) (g .place) (g .items)
@@ -293,7 +293,7 @@ module _ (book : Book) (text : List ℕ) (inner : Option RowRunner) (n c j step 
           let d = S (v .held) in
           record {
             is =
-                d .is inner n c (todoFrom book (step + 1) (left - 1)) T
+                d .is inner n (todoFrom book (step + 1) (left - 1))
                 ∙ ap (λ (todo : List (Todo ℕ)). stepsRows book text inner n c j todo at items
                 (rowState (o .state .units) (cellsOf st (o .state .cells)) T)) (sym (todo-step book step left l k))
                 ∙ sym (resumes-steps (cellsOf st (o .state .cells)))

@@ -55,15 +55,16 @@ fn run_call(
     store: &mut [u32],
     rows: &mut [u32],
     row: usize,
+    binder: u32,
     nonterminal: u32,
     at: u32,
     minimum: usize,
     state: State,
 ) -> Outcome
     requires { ⌜ CanRun book index text rows row ⌝ }
-    ensures { λ r. ⌜ Does book index text store rows state r (runsCall row nonterminal at minimum) ⌝ }
+    ensures { λ r. ⌜ Does book index text store rows state r (runsCall row binder nonterminal at minimum) ⌝ }
 {
-    calls::open_call(rows, row, nonterminal, at);
+    calls::open_call(rows, row, binder, nonterminal, at);
     let o = one_run(book, index, text, store, rows, row, minimum, state);
     let e = after_first(rows, row, o);
     let after = e.outcome;
@@ -73,8 +74,8 @@ fn run_call(
     rounds(book, index, text, store, rows, row, minimum, after.state)
 }
 
-// A use of a nonterminal at a skipped place: one unit, the governor, then one level of nesting. Its parses are what the
-// row found.
+// A use of a nonterminal at a skipped place, in a row and with a binder: one unit, the governor, then one level of
+// nesting. Its parses are what the row found.
 pub fn enter(
     book: &[u8],
     index: &[usize],
@@ -82,14 +83,26 @@ pub fn enter(
     store: &mut [u32],
     rows: &mut [u32],
     row: usize,
+    binder: u32,
     nonterminal: u32,
     at: u32,
     state: State,
 ) -> Outcome
     requires { ⌜ Ready book index text rows row ⌝ }
-    ensures { λ r. ⌜ Does book index text store rows state r (enters row nonterminal at) ⌝ }
+    ensures { λ r. ⌜ Does book index text store rows state r (enters row binder nonterminal at) ⌝ }
 {
-    let e = begin_use(book, index, text, store, rows, row, nonterminal, at, state);
+    let e = begin_use(
+        book,
+        index,
+        text,
+        store,
+        rows,
+        row,
+        binder,
+        nonterminal,
+        at,
+        state,
+    );
     let o = e.outcome;
     if !e.runs {
         return o;
@@ -101,6 +114,7 @@ pub fn enter(
         store,
         rows,
         row,
+        binder,
         nonterminal,
         at,
         e.minimum,

@@ -4,7 +4,7 @@
 // rows give and the cells that the lent store holds (`Does` and `Continues` of specs/Contracts.antt of the crate
 // transitions); so what
 // `enter` gives at row 200 is what the definition of the run gives (`rows-run` of run_model). The contracts ask that
-// row numbers are at most 200, that the rows have their 104,922 numbers, and that the numbers of the book and the text
+// row numbers are at most 200, that the rows have their 105,525 numbers, and that the numbers of the book and the text
 // fit into 32 bits, which an accepted book's do (`accepted-fits` of transitions). They hold whatever the rows held.
 //
 // What ends the cycle: the levels of nesting left fall from a call to the steps of its variants and from a parse to

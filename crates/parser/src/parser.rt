@@ -124,8 +124,20 @@ fn descend(
     requires { ⌜ OnPath book index text rows free here ⌝ }
     ensures { λ r. ⌜ Does book index text store rows state r (descends free here next nonterminal) ⌝ }
 {
+    let binder = calls::inherited_binder(rows, here.call);
     let at = begin_child(text, rows, here);
-    let o = enter(book, index, text, store, rows, free, nonterminal, at, state);
+    let o = enter(
+        book,
+        index,
+        text,
+        store,
+        rows,
+        free,
+        binder,
+        nonterminal,
+        at,
+        state,
+    );
     follow(book, index, text, store, rows, free, here, next, o)
 }
 
@@ -280,7 +292,7 @@ fn steps(
                 if remaining == 0 {
                     return finish(book, index, text, store, rows, here, o.state);
                 }
-                let g = take_step(book, index, text, store, here, o.state);
+                let g = take_step(book, index, text, store, rows, here, o.state);
                 step += 1;
                 remaining -= 1;
                 place = g.place;

@@ -82,20 +82,20 @@ module _ (o : code.Outcome) (store rows : List ℕ) where
 
 module _ (book : Book) (text store₀ store₁ store₂ rows rows′ : List ℕ) (units start first : ℕ) (o : code.Outcome) where
   -- what `enter` says of the code's outcome, seen from outside, is the definition's run
-  run-seen : Ran text store₂ (table rows′) o (enterRows book text (runnerRows book text 200) 200 start first
+  run-seen : Ran text store₂ (table rows′) o (enterRows book text (runnerRows book text 200) 200 0 start first
       (rowState units (cellsOf store₁ 0) (table rows))) →
       first ≡ skipFrom text 0 → seenOf o store₂ rows′ ≡ definition.run book text units start
   unfolding seenOf
   run-seen ran e =
       ap seen (ran .is)
-      ∙ ap (λ (cells : List Cell). seen (enterRows book text (runnerRows book text 200) 200 start first
+      ∙ ap (λ (cells : List Cell). seen (enterRows book text (runnerRows book text 200) 200 0 start first
       (rowState units cells (table rows)))) (no-cells store₁) ∙ ap
-      (λ (u : ℕ). seen (enterRows book text (runnerRows book text 200) 200 start u (rowState units [] (table rows)))) e
+      (λ (u : ℕ). seen (enterRows book text (runnerRows book text 200) 200 0 start u (rowState units [] (table rows)))) e
       ∙ sym (rows-run book text units start (table rows) (table-length rows))
 
   pub run-is : Cleared store₀ store₁ → 17408 ≤ length store₀ → first ≡ skipFrom text 0 →
       Runs text store₁ 0 store₂ (table rows′) o
-      (λ cells. enterRows book text (runnerRows book text 200) 200 start first (rowState units cells (table rows))) →
+      (λ cells. enterRows book text (runnerRows book text 200) 200 0 start first (rowState units cells (table rows))) →
       RunsText book text units start store₂ rows′ o
   run-is c room e runs =
       let ran = runs (held-none text store₀ store₁ c room) in record { is = run-seen ran e; held = ran .held }
@@ -267,13 +267,13 @@ module _ (index store rows cells parses bytes text : List ℕ) (start allowance 
 
 -- the working memory has its sizes
 pub room : (index store rows : List ℕ) (t : Bool) → t ≡ noRoom index store rows → t ≡ false →
-    (1091 ≤ length index) × (17408 ≤ length store) × (104922 ≤ length rows)
+    (1091 ≤ length index) × (17408 ≤ length store) × (105525 ≤ length rows)
 room index store rows t e h = by (ltb (length index) 1091) (ltb (length store) 17408) refl refl (sym e ∙ h)
   where
     by : (a b : Bool) → ltb (length index) 1091 ≡ a → ltb (length store) 17408 ≡ b →
-        (a || (b || ltb (length rows) 104922)) ≡ false →
-        (1091 ≤ length index) × (17408 ≤ length store) × (104922 ≤ length rows)
+        (a || (b || ltb (length rows) 105525)) ≡ false →
+        (1091 ≤ length index) × (17408 ≤ length store) × (105525 ≤ length rows)
     by true b p q k = clash refl k
     by false true p q k = clash refl k
     by false false p q k =
-        (ltb-false (length index) 1091 p, ltb-false (length store) 17408 q, ltb-false (length rows) 104922 k)
+        (ltb-false (length index) 1091 p, ltb-false (length store) 17408 q, ltb-false (length rows) 105525 k)

@@ -33,6 +33,7 @@ use book::INDEX_SIZE;
 use book::Verdict;
 use book::check_into;
 use calls::MOST_NESTING;
+use calls::OUTSIDE;
 use calls::ROWS_SIZE;
 use calls::parse_count;
 use cells::CELLS_SIZE;
@@ -184,6 +185,7 @@ fn run(
         store,
         rows,
         MOST_NESTING,
+        OUTSIDE,
         start,
         first,
         begun,

@@ -69,6 +69,7 @@ use Rattle.calls.proofs.parse_count.Reads as parse-count-reads
 use Rattle.calls.proofs.nth_parse.Reads as nth-parse-reads
 use Rattle.calls.proofs.nonterminal_of.Reads as nonterminal-of-reads
 use Rattle.calls.proofs.open_call.Reads as open-call-reads
+use Rattle.calls.proofs.inherited_binder.Reads as inherited-binder-reads
 use Rattle.transitions.proofs.after_first.Reads as after-first-reads
 use Rattle.transitions.proofs.after_round.Reads as after-round-reads
 use Rattle.transitions.proofs.begin_child.Reads as begin-child-reads
@@ -226,6 +227,8 @@ parser·choice-callees t = (
 
 abbrev parser·descend-callees : ℕ → parser·descend-lts.Claims
 parser·descend-callees t = (
+  inherited-binder-reads.Asked,
+  inherited-binder-reads.Learnt,
   begin-child-reads.Asked,
   begin-child-reads.Learnt,
   left-recursion·enter-below t,
@@ -316,7 +319,7 @@ left-recursion·enter-returns : (t : ℕ) →
 left-recursion·enter-returns t c =
     let begin-use = c .before .before .before .before .before .before .before .begin-use in
     let if1 = c .if1 in
-    enter-over _ _ _ _ _ _ _ _ _ _ _ (begin-use .ensures) (not-true _ (if1 .taken))
+    enter-over _ _ _ _ _ _ _ _ _ _ _ _ (begin-use .ensures) (not-true _ (if1 .taken))
 
 left-recursion·enter-run-call-requires : (t : ℕ) →
     left-recursion·enter-lts.Need-run-call-requires (left-recursion·enter-callees t) (left-recursion·enter-at t)
@@ -361,7 +364,7 @@ left-recursion·enter-returns-2 t c =
     .before .before .begin-use in
     let if1 = c .before .before .before .before .before .before .before .if1 in
     let run-call = c .before .before .before .before .run-call in
-    enter-runs _ _ _ _ _ _ _ _ _ _ _ (begin-use .ensures) _ _ _ (not-false _ (if1 .left)) (run-call .ensures)
+    enter-runs _ _ _ _ _ _ _ _ _ _ _ _ (begin-use .ensures) _ _ _ (not-false _ (if1 .left)) (run-call .ensures)
 
 abbrev left-recursion·rounds-Inv-loop : left-recursion·rounds-lts.InvT-loop
 left-recursion·rounds-Inv-loop book index text store₀ rows₀ left minimum s₀ round₀ store rows s round =
@@ -576,7 +579,7 @@ left-recursion·run-call-returns t c =
     let one-run = c .before .before .before .before .before .before .before .before .before .before .before .one-run in
     let after-first = c .before .before .before .before .before .after-first in
     let if1 = c .if1 in
-    run-call-over _ _ _ _ _ _ _ _ _ _ _ _ _ _ _ _ (open-call .ensures) (one-run .ensures) (after-first .ensures)
+    run-call-over _ _ _ _ _ _ _ _ _ _ _ _ _ _ _ _ _ (open-call .ensures) (one-run .ensures) (after-first .ensures)
     (not-true _ (if1 .taken))
 
 left-recursion·run-call-rounds-requires :
@@ -634,7 +637,7 @@ left-recursion·run-call-returns-2 t c =
     c .before .before .before .before .before .before .before .before .before .before .before .before .after-first in
     let if1 = c .before .before .before .before .before .before .before .if1 in
     let rounds = c .before .before .before .before .rounds in
-    run-call-rounds _ _ _ _ _ _ _ _ _ _ _ _ _ _ _ _ (open-call .ensures) (one-run .ensures) (after-first .ensures) _ _ _
+    run-call-rounds _ _ _ _ _ _ _ _ _ _ _ _ _ _ _ _ _ (open-call .ensures) (one-run .ensures) (after-first .ensures) _ _ _
     (not-false _ (if1 .left)) (rounds .ensures)
 
 parser·choice-first-side-requires : (t : ℕ) →
@@ -726,16 +729,23 @@ parser·choice-returns-2 t c =
     choice-both _ _ _ _ _ _ _ _ _ _ _ _ _ _ _ _ _ _ _ (first-side .ensures) (steps .ensures) (if1 .left) _ _ _ _
     (descend .ensures) (both-sides .ensures)
 
+parser·descend-inherited-binder-requires : (t : ℕ) →
+    parser·descend-lts.Need-inherited-binder-requires (parser·descend-callees t) (parser·descend-at t)
+    parser·descend.Post
+parser·descend-inherited-binder-requires t c κs =
+    let start = c .before .before .before .before .before .before in
+    (start .pre .1 .3 .0, start .pre .1 .1)
+
 parser·descend-begin-child-requires : (t : ℕ) →
     parser·descend-lts.Need-begin-child-requires (parser·descend-callees t) (parser·descend-at t) parser·descend.Post
 parser·descend-begin-child-requires t c κs =
-    let start = c .before .before .before .before .before .before in
+    let start = c .before .before .before .before .before .before .before .before in
     ((start .pre .1 .3 .0, start .pre .1 .1), start .pre .1 .2 .short)
 
 parser·descend-enter-requires : (t : ℕ) →
     parser·descend-lts.Need-enter-requires (parser·descend-callees t) (parser·descend-at t) parser·descend.Post
 parser·descend-enter-requires t c κs =
-    let start = c .before .before .before .before .before .before .before .before .before .before .before in
+    let start = c .before .before .before .before .before .before .before .before .before .before .before .before .before in
     let begin-child = c .before .before .before .before .begin-child in (
       omega (arith, start .pre .0),
       (start .pre .1 .0, omega (arith, start .pre .1 .1, begin-child .kept .1 .0), start .pre .1 .2),
@@ -744,8 +754,8 @@ parser·descend-enter-requires t c κs =
 parser·descend-follow-requires : (t : ℕ) →
     parser·descend-lts.Need-follow-requires (parser·descend-callees t) (parser·descend-at t) parser·descend.Post
 parser·descend-follow-requires t c κs =
-    let start = c .before .before .before .before .before .before .before .before .before .before .before .before
-    .before .before .before .before .before .before in
+    let start = c .before .before .before .before .before .before .before .before .before .before .before .before .before
+    .before .before .before .before .before .before .before in
     let begin-child =
     c .before .before .before .before .before .before .before .before .before .before .before .begin-child in
     let enter = c .before .before .before .before .before .before .enter in (
@@ -777,11 +787,15 @@ parser·descend-same-length-2 t c =
 parser·descend-returns : (t : ℕ) →
     parser·descend-lts.Need-returns (parser·descend-callees t) (parser·descend-at t) parser·descend.Post
 parser·descend-returns t c =
+    let inherited-binder =
+    c .before .before .before .before .before .before .before .before .before .before .before .before .before
+    .before .before .before .before .before .inherited-binder in
     let begin-child = c .before .before .before .before .before .before .before .before .before .before .before .before
     .before .before .before .before .begin-child in
     let enter = c .before .before .before .before .before .before .before .before .before .before .before .enter in
     let follow = c .before .before .before .before .follow in
-    descended _ _ _ _ _ _ _ _ _ _ _ _ _ _ _ _ _ _ _ _ _ _ (begin-child .ensures) (enter .ensures) (follow .ensures)
+    descended _ _ _ _ _ _ _ _ _ _ _ _ _ _ _ _ _ _ _ _ _ _ _ (inherited-binder .ensures) (begin-child .ensures)
+    (enter .ensures) (follow .ensures)
 
 abbrev parser·follow-Inv-loop : parser·follow-lts.InvT-loop
 parser·follow-Inv-loop book index text store₀ rows₀ left here next parses all₀ i₀ store rows all i =
@@ -1259,38 +1273,40 @@ parser·steps-take-step-requires : (t : ℕ) →
     parser·steps-lts.Need-take-step-requires (parser·steps-callees t) (parser·steps-at t) parser·steps.Post
     parser·steps-Inv-loop parser·steps-μ-loop
 parser·steps-take-step-requires t c κs =
-    let start = c .before .before .before .before .before .before .before .before .before .before .before .before in
-    start .pre .1 .2
+    let start =
+    c .before .before .before .before .before .before .before .before .before .before .before .before .before in
+    let loop = c .before .before .before .before .before .before .before .loop in
+    (start .pre .1 .3 .0, omega (arith, start .pre .1 .1, loop .inv .1), start .pre .1 .2)
 
 parser·steps-add-step : (t : ℕ) →
     parser·steps-lts.Need-add-step (parser·steps-callees t) (parser·steps-at t) parser·steps.Post
     parser·steps-Inv-loop parser·steps-μ-loop
 parser·steps-add-step t c =
-    let start = c .before .before .before .before .before .before .before .before .before .before .before .before
+    let start = c .before .before .before .before .before .before .before .before .before .before .before .before .before
     .before .before .before in
-    let loop = c .before .before .before .before .before .before .before .before .before .loop in
-    let if2 = c .before .before .before .before .if2 in
+    let loop = c .before .before .before .before .before .before .before .before .before .before .loop in
+    let if2 = c .before .before .before .before .before .if2 in
     omega (arith, loop .inv .2 .2, start .pre .1 .2 .all, if2 .left)
 
 parser·steps-sub-remaining : (t : ℕ) →
     parser·steps-lts.Need-sub-remaining (parser·steps-callees t) (parser·steps-at t) parser·steps.Post
     parser·steps-Inv-loop parser·steps-μ-loop
-parser·steps-sub-remaining t c = omega (arith, (c .before .before .before .before .if2) .left)
+parser·steps-sub-remaining t c = omega (arith, (c .before .before .before .before .before .if2) .left)
 
 parser·steps-loop-less : (t : ℕ) →
     parser·steps-lts.Need-loop-less (parser·steps-callees t) (parser·steps-at t) parser·steps.Post
     parser·steps-Inv-loop parser·steps-μ-loop
-parser·steps-loop-less t c = omega (arith, (c .before .before .before .before .before .if2) .left)
+parser·steps-loop-less t c = omega (arith, (c .before .before .before .before .before .before .if2) .left)
 
 parser·steps-loop-again : (t : ℕ) →
     parser·steps-lts.Need-loop-again (parser·steps-callees t) (parser·steps-at t) parser·steps.Post
     parser·steps-Inv-loop parser·steps-μ-loop
 parser·steps-loop-again t c =
-    let loop = c .before .before .before .before .before .before .before .before .before .before .loop in
-    let goes-on = c .before .before .before .before .before .before .before .before .before .goes-on in
-    let if1 = c .before .before .before .before .before .before .before .before .if1 in
-    let enum-told = c .before .before .before .before .before .before .enum-told in
-    let if2 = c .before .before .before .before .before .if2 in
+    let loop = c .before .before .before .before .before .before .before .before .before .before .before .loop in
+    let goes-on = c .before .before .before .before .before .before .before .before .before .before .goes-on in
+    let if1 = c .before .before .before .before .before .before .before .before .before .if1 in
+    let enum-told = c .before .before .before .before .before .before .before .enum-told in
+    let if2 = c .before .before .before .before .before .before .if2 in
     let take-step = c .before .before .before .take-step in (
       take-step .kept .1 .1 .1 .0 ∙ loop .inv .0,
       loop .inv .1,
@@ -1575,7 +1591,7 @@ pub +left-recursion·enter+left-recursion·rounds+left-recursion·run-call+parse
     (parser·choice-descend-requires t) (parser·choice-both-sides-requires t) (parser·choice-same-length-3 t)
     (parser·choice-same-length-4 t) (parser·choice-returns-2 t))
     (λ t. parser·descend-lts.spec (parser·descend-callees t) (parser·descend-at t) parser·descend.Post
-    (parser·descend-begin-child-requires t) (parser·descend-enter-requires t) (parser·descend-follow-requires t)
+    (parser·descend-inherited-binder-requires t) (parser·descend-begin-child-requires t) (parser·descend-enter-requires t) (parser·descend-follow-requires t)
     (parser·descend-same-length t) (parser·descend-same-length-2 t) (parser·descend-returns t))
     (λ t. parser·follow-lts.spec (parser·follow-callees t) (parser·follow-at t) parser·follow.Post
     parser·follow-Inv-loop parser·follow-μ-loop (λ c κs. search needs) (parser·follow-returns t)
