@@ -30,6 +30,9 @@ pub mod Forward
 pub mod Made
 pub mod Failures
 pub mod Link
+pub mod LinkTail
+pub mod LinkLists
+pub mod LinkBinders
 pub mod LinkSteps
 -- the answer: its limits, its lists, its refusals, and the theorem
 pub mod Limits
