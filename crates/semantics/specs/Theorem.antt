@@ -25,6 +25,8 @@ pub mod Meanings
 pub mod Table
 -- the run holds only cells of its table, from its start to its end
 pub mod Holding
+pub mod ForwardCalls
+pub mod ForwardBinders
 pub mod Forward
 -- the run does what the relation says of the trees that its cells stand for
 pub mod Made
