@@ -25,6 +25,7 @@ pub mod Meanings
 pub mod Table
 -- the run holds only cells of its table, from its start to its end
 pub mod Holding
+pub mod HoldingCells
 pub mod ForwardCalls
 pub mod ForwardBinders
 pub mod Forward

@@ -26,8 +26,9 @@ use Rattle.semantics.specs.Theorem.Table.{Table, no-cells, Item, prefix-
 use Rattle.semantics.specs.Theorem.Holding.{Tabled, Grown, Gives, Ready, Left, Wants, List-left, grown-refl}
 use Rattle.semantics.specs.Theorem.Holding.{grown-then, gives-from, gives-ok, ready-still, gives-set, left-still}
 use Rattle.semantics.specs.Theorem.Holding.{wants-still, wants-take, list-still, naming-left, closing-left}
-use Rattle.semantics.specs.Theorem.Holding.{elements-left, ending-left, holds-none, new-empty, new-list}
-use Rattle.semantics.specs.Theorem.Holding.{new-absent, with-cell-onward, with-token-onward, complete-gives}
+use Rattle.semantics.specs.Theorem.Holding.{elements-left, ending-left, holds-none}
+use Rattle.semantics.specs.Theorem.HoldingCells.{new-empty, new-list, new-absent, with-cell-onward}
+use Rattle.semantics.specs.Theorem.HoldingCells.{with-token-onward, complete-gives}
 use Rattle.semantics.specs.Theorem.ForwardCalls.{PassingChild, spend-grown, Good, GoodGo, plain-next-good}
 use Rattle.semantics.specs.Theorem.ForwardCalls.{list-next-good, enter-gives, child-gives, sides-give}
 use Rattle.semantics.specs.Theorem.ForwardBinders.{opens-give, name-choice-gives, names-give, body-alone-gives}

@@ -22,7 +22,8 @@ use Rattle.semantics.specs.Theorem.Table.{Item, prefix-refl, chain-still
 use Rattle.semantics.specs.Theorem.Holding.{Tabled, Grown, Gives, Ready, Wants, grown-refl, grown-then}
 use Rattle.semantics.specs.Theorem.Holding.{gives-from, gives-ok, ready-still, ready-after, gives-set, left-still}
 use Rattle.semantics.specs.Theorem.Holding.{wants-still, Binder-left, binder-still, left-naming, left-closing}
-use Rattle.semantics.specs.Theorem.Holding.{new-kind, new-empty, new-link, new-list, new-absent, with-cell-onward}
+use Rattle.semantics.specs.Theorem.HoldingCells.{new-kind, new-empty, new-link, new-list, new-absent}
+use Rattle.semantics.specs.Theorem.HoldingCells.{with-cell-onward}
 use Rattle.semantics.specs.Theorem.ForwardCalls.{PassingChild, spend-grown, chosen-gives, Good, plain-next-good}
 use Rattle.semantics.specs.Theorem.ForwardCalls.{child-gives}
 

@@ -4,7 +4,8 @@
 -- The plan. A part of the run begins with what is held (`Ready`, `Left`); if it has a result, then it has only added
 -- cells, and its set holds (`Gives`). Each part has one law of this kind, in the order in which the run is defined; a
 -- level of nesting takes the law of the level inside it (`Good`). Here: calls, and a child with what follows its
--- parses. ForwardBinders has binders, Forward the other steps and the whole run. What is held is in Holding.
+-- parses. ForwardBinders has binders, Forward the other steps and the whole run. What is held is in Holding, and
+-- the cells that are made are in HoldingCells.
 use mathlib.Core.Path.{_≡_, refl, subst}
 use mathlib.Core.Bool.{Bool, true}
 use mathlib.Core.List.{List, [], _∷_, List·Memᴰ·head, List·Memᴰ·tail}
@@ -34,8 +35,8 @@ use Rattle.semantics.specs.Theorem.Table.{Item, Prefix, prefix-then, ite
 use Rattle.semantics.specs.Theorem.Holding.{Tabled, Grown, Held, Gives, Ready, Left, Wants, List-left, grown-refl}
 use Rattle.semantics.specs.Theorem.Holding.{gives-from, gives-ok, holds-still, ready-still, ready-after}
 use Rattle.semantics.specs.Theorem.Holding.{gives-set, wants-still, left-elements, left-ending, holds-none}
-use Rattle.semantics.specs.Theorem.Holding.{holds-one, holds-kept, holds-all, new-link, new-name, begin-onward}
-use Rattle.semantics.specs.Theorem.Holding.{with-cell-onward}
+use Rattle.semantics.specs.Theorem.Holding.{holds-one, holds-kept, holds-all}
+use Rattle.semantics.specs.Theorem.HoldingCells.{new-link, new-name, begin-onward, with-cell-onward}
 
 -- a passing variant has one step, which is a child
 abbrev pub PassingChild : Book → Type 0
