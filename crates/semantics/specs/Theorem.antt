@@ -11,6 +11,7 @@ pub mod BigStep
 pub mod Heights
 pub mod Sound
 pub mod Marks
+pub mod TakenApart
 pub mod Complete
 pub mod Exactly
 -- results taken apart, what tokens read, sets of parses, facts of an accepted book
