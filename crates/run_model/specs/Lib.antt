@@ -1,6 +1,8 @@
 pub mod Rows
 pub mod Model
 pub mod Keeps
+pub mod KeepsCalls
+pub mod KeepsBinders
 pub mod KeepsRun
 pub mod Views
 pub mod Named

@@ -29,7 +29,7 @@ use Rattle.run_model.specs.Model.{RowState, rowState, Outcome, outcome, 
 use Rattle.run_model.specs.Model.{takeVariant, variantsRows, oneRunRows, settle, roundsRows, settleFirst}
 use Rattle.run_model.specs.Model.{runCallRows, namedRows, runIdentifierRows, nestedRows, storedRows, enterRows}
 use Rattle.run_model.specs.Keeps.{row-put, keeps-put, run-put, Ran, Keeping}
-use Rattle.run_model.specs.KeepsRun.{keeps-taken, keeps-one-run}
+use Rattle.run_model.specs.KeepsCalls.{keeps-taken, keeps-one-run}
 use Rattle.run_model.specs.Views.{open-put, path-keeps, scope-keeps, Picked, Agree, no-governor, after-start}
 use Rattle.run_model.specs.Views.{at-start, agree-behind, agree, claims-behind, claims-path}
 use Rattle.run_model.specs.Named.{no-names-in, steps-no-names}

@@ -24,26 +24,28 @@ use Rattle.semantics.specs.Numbers.{mostDeclared}
 use Rattle.semantics.specs.Values.{Parse, absentParse}
 use Rattle.semantics.specs.Uses.{Enclosing, scopeOf, useOf}
 use Rattle.semantics.specs.Tokens.{Read, when, characterEnd, declarationAt}
-use Rattle.semantics.specs.Steps.{Token, stepAt, afterElement, closed, Todo, taking, elements, ending, naming}
-use Rattle.semantics.specs.Steps.{closing}
+use Rattle.semantics.specs.Steps.{Token, stepAt, afterElement, closed, Todo, taking, elements, ending, naming, closing}
 use Rattle.semantics.specs.Cells.{Cell}
 use Rattle.semantics.specs.Errors.{Error, chosenFailure, stepError}
-use Rattle.semantics.specs.Run.{Result, ok, _>>=_, State, Parsed, parsed, Call, call, Runner, Go, Next, add, spend}
-use Rattle.semantics.specs.Run.{make, chosen, complete, withToken, plainNext, listNext, stops, nested, enterChild}
-use Rattle.semantics.specs.Run.{followMore, follow, followed, stepUnit, orAbsent, choice, listing, declaredNames}
-use Rattle.semantics.specs.Run.{openScope, bodyAfter, opens, declares, nameChoice, steps, run}
+use Rattle.semantics.specs.Run.{Result, ok, _>>=_, State, Parsed, parsed, Call, Runner, Go, Next, add, spend, make}
+use Rattle.semantics.specs.Run.{chosen, complete, withToken, plainNext, listNext, stops, nested, enterChild, followMore}
+use Rattle.semantics.specs.Run.{follow, followed, stepUnit, orAbsent, choice, listing, declaredNames, openScope}
+use Rattle.semantics.specs.Run.{bodyAfter, opens, declares, nameChoice, steps, run}
 use Rattle.run_model.specs.Rows.{Row, withChild, withRun, rowOf, onRow, openAbove, useAt, askedAt, storedOf}
-use Rattle.run_model.specs.Rows.{marksOf, inherited, entryAt, namesAbove, behindNames, pathOf, pathAt, scopeAt, callOf, scopeIn}
+use Rattle.run_model.specs.Rows.{marksOf, inherited, entryAt, namesAbove, behindNames, pathOf, pathAt, scopeAt}
+use Rattle.run_model.specs.Rows.{callOf, scopeIn}
 use Rattle.run_model.specs.Model.{RowState, rowState, Outcome, outcome, RowRunner, RowGo, RowNext, makes}
 use Rattle.run_model.specs.Model.{spendRows, together, valueCell, variantParse, addRun, completeRows}
 use Rattle.run_model.specs.Model.{plainNextRows, listNextRows, stopsRows, nestedRows, enterChildRows, followFrom}
 use Rattle.run_model.specs.Model.{followedRows, stepUnitRows, chosenRows, orChild, orAbsentRows, choiceRows}
 use Rattle.run_model.specs.Model.{listingRows, withDeclared, openRows, bodyRows, opensRows, declaresRows}
 use Rattle.run_model.specs.Model.{nameChoiceRows, stepsRows}
-use Rattle.run_model.specs.Keeps.{row-put, row-else, keeps-put, KeepsAt, Called, at-put, at-below, Beside, Calls, Keeping, Inner}
-use Rattle.run_model.specs.KeepsRun.{keeps-child, child-leaves, KeepsNext, keeps-one, keeps-followed}
-use Rattle.run_model.specs.KeepsRun.{keeps-plain-next, keeps-list-next, KeepsGo, keeps-stops, keeps-opens}
-use Rattle.run_model.specs.KeepsRun.{keeps-declares, keeps-steps}
+use Rattle.run_model.specs.Keeps.{row-put, row-else, keeps-put, KeepsAt, Called, at-put, at-below, Beside, Calls}
+use Rattle.run_model.specs.Keeps.{Keeping, Inner}
+use Rattle.run_model.specs.KeepsCalls.{keeps-child, child-leaves, KeepsNext, keeps-one, keeps-followed}
+use Rattle.run_model.specs.KeepsCalls.{keeps-plain-next, keeps-list-next, KeepsGo}
+use Rattle.run_model.specs.KeepsRun.{keeps-stops, keeps-steps}
+use Rattle.run_model.specs.KeepsBinders.{keeps-opens, keeps-declares}
 use Rattle.run_model.specs.Views.{open-equal, open-put, open-skips, path-keeps, path-skips}
 use Rattle.run_model.specs.Named.{NoNames, NamesAt, NamesIn, no-names-in, names-alike, names-declared}
 use Rattle.run_model.specs.Sim.{stateOf, see, then-see, same-see, option-see, after-see, taken-see, plain-make}
@@ -78,7 +80,8 @@ module _ (book : Book) (text : List ℕ) (n : ℕ) (inner : Option RowRunner) (i
 
     child-path : (T : List Row) (at : ℕ) → Here book text C c (suc n) j T →
         pathOf text (put T at) n
-        ≡ Enclosing.within (useOf book (rowOf T c .nonterminal) (rowOf T c .start) j at) ∷ pathAt text T c (rowOf T c .binder)
+        ≡ Enclosing.within (useOf book (rowOf T c .nonterminal) (rowOf T c .start) j at) ∷ pathAt text T c
+        (rowOf T c .binder)
     child-path T at h =
         let r = withChild at (rowOf T c) in
         let l : c < length T = omega (arith, h .standing .size) in
@@ -131,7 +134,8 @@ module _ (book : Book) (text : List ℕ) (n : ℕ) (inner : Option RowRunner) (i
         (λ t. let e = eqb-true i c t in rw e (ap (entryAt text) (k .mine)))
         (λ t. ap (entryAt text) (k .other i l (eqb-false i c t)))) ∙ is
 
-    opened-path : (T : List Row) (k : ℕ) → pathAt text T n (suc (suc k)) ≡ Enclosing.behind (namesAbove text T k n) ∷ pathOf text T n
+    opened-path : (T : List Row) (k : ℕ) → pathAt text T n (suc (suc k)) ≡ Enclosing.behind
+        (namesAbove text T k n) ∷ pathOf text T n
     unfolding behindNames
     opened-path T k = refl
 
@@ -207,7 +211,7 @@ module _ (book : Book) (text : List ℕ) (n : ℕ) (inner : Option RowRunner) (i
         nextA q (stateAt c (rowState units cells T)) R (rowOf T c .run)
         ≡ see (ranAt c) (next q (rowState units cells T) S)
 
-    module _ (next : RowNext) (nextA : Next) (keeps : KeepsNext book text n inner inners room c below within next)
+    module _ (next : RowNext) (nextA : Next) (keeps : KeepsNext n c next)
         (alike : NextAlike next nextA) where
       sim-one : (q : Parse ℕ) (units : ℕ) (cells : List Cell) (T : List Row) → Here book text C c n j T →
           nested book text innerA (stateAt c (rowState units cells T))
@@ -278,7 +282,8 @@ module _ (book : Book) (text : List ℕ) (n : ℕ) (inner : Option RowRunner) (i
           let U = o .state .rows in
           let g = child-here x T U h k in
           rw (child-run x T U (h .standing .size) k) at
-          (sim-followed (o .failure) (o .state .units) (o .state .cells) U (here-shut book text C c n j U g (k .shut)) g))
+          (sim-followed (o .failure) (o .state .units) (o .state .cells) U
+          (here-shut book text C c n j U g (k .shut)) g))
 
       sim-or-child : (M x : ℕ) (a : Outcome) → Here book text C c (suc n) j (a .state .rows) →
           (enterChild book text innerA none C j M x (ranAt c a .state)
@@ -296,7 +301,8 @@ module _ (book : Book) (text : List ℕ) (n : ℕ) (inner : Option RowRunner) (i
           let g = child-here x T U h k in
           then-see (ranAt c) (ranAt c) (Beside c (suc n) U) _ _ _ _
           (rw (child-run x T U (h .standing .size) k) at
-          (sim-followed (o .failure) (o .state .units) (o .state .cells) U (here-shut book text C c n j U g (k .shut)) g))
+          (sim-followed (o .failure) (o .state .units) (o .state .cells) U
+          (here-shut book text C c n j U g (k .shut)) g))
           (keeps-followed book text n inner inners room c below within next keeps o (g .standing .size))
           (λ b l.
           let f = here-keeps book text C c (suc n) j U (b .state .rows) g l in
@@ -311,8 +317,8 @@ module _ (book : Book) (text : List ℕ) (n : ℕ) (inner : Option RowRunner) (i
         (λ cell units₁ cells₁.
         alike .of C c j rest (q .rest) cell (rowState units₁ cells₁ T) (rw e at h) (no-names-in text T m rest plain))
 
-    sim-list-next : (comma : Bool) (M values : ℕ) (close : Option ℕ) (rest : List (Todo ℕ)) → NoNames rest → (items : ℕ) →
-        NextAlike (listNextRows book text c j comma M values close rest items)
+    sim-list-next : (comma : Bool) (M values : ℕ) (close : Option ℕ) (rest : List (Todo ℕ)) → NoNames rest →
+        (items : ℕ) → NextAlike (listNextRows book text c j comma M values close rest items)
         (listNext book text C j comma M values close rest items)
     unfolding listNext listNextRows NamesIn
     sim-list-next comma M values close rest plain items m S R e keeping alike q units cells T h =
@@ -328,7 +334,7 @@ module _ (book : Book) (text : List ℕ) (n : ℕ) (inner : Option RowRunner) (i
         goA x items (rowOf T c .run) (stateAt c (rowState units cells T))
         ≡ see (ranAt c) (go x items (rowState units cells T))
 
-    module _ (go : RowGo) (goA : Go) (keeps : KeepsGo book text n inner inners room c below within go)
+    module _ (go : RowGo) (goA : Go) (keeps : KeepsGo n c go)
         (alike : GoAlike go goA) where
       -- a list stops
       sim-stops : (values : ℕ) (close : Option ℕ) →
@@ -357,7 +363,7 @@ module _ (book : Book) (text : List ℕ) (n : ℕ) (inner : Option RowRunner) (i
           then-see (ranAt c) (ranAt c) (Beside c (suc n) T) _ _ _ _ (alike x cell₂ units₂ cells₂ T h)
           (keeps x cell₂ (rowState units₂ cells₂ T) (h .standing .size))
           (λ a k. sim-or-child (plainNextRows book text c j rest items) (plainNext book text C j rest items)
-          (keeps-plain-next book text n inner inners room c below within j rest items) (sim-plain-next rest plain items)
+          (keeps-plain-next book text n c below within j rest items) (sim-plain-next rest plain items)
           M x a (here-keeps book text C c (suc n) j T (a .state .rows) h k))))
 
       -- the elements of a list: stop, or one more
@@ -369,12 +375,12 @@ module _ (book : Book) (text : List ℕ) (n : ℕ) (inner : Option RowRunner) (i
           spend-see (ranAt c) (rowState units cells T) (askedAt (rowOf T c) ∷ marksOf T c) _ _
           (λ units₁.
           then-see (ranAt c) (ranAt c) (Beside c (suc n) T) _ _ _ _ (sim-stops values close x items units₁ cells T h)
-          (keeps-stops book text n inner inners room c below within j values close go keeps x items
+          (keeps-stops book text n c j values close go keeps x items
           (rowState units₁ cells T) (h .standing .size))
           (λ a k.
           sim-or-child (listNextRows book text c j comma M values close rest items)
           (listNext book text C j comma M values close rest items)
-          (keeps-list-next book text n inner inners room c below within j comma M values close rest items)
+          (keeps-list-next book text n c below within j comma M values close rest items)
           (sim-list-next comma M values close rest plain items) M x a
           (here-keeps book text C c (suc n) j T (a .state .rows) h k)))
 
@@ -473,7 +479,8 @@ module _ (book : Book) (text : List ℕ) (n : ℕ) (inner : Option RowRunner) (i
 
       sim-body : (opening : Option (List Entry)) (M item x items units : ℕ) (cells : List Cell) (T : List Row) →
           Here book text C c (suc n) j T → OpensAt T opening →
-          bodyAfter book text innerA opening C j M item rest x items (rowOf T c .run) (stateAt c (rowState units cells T))
+          bodyAfter book text innerA opening C j M item rest x items (rowOf T c .run)
+          (stateAt c (rowState units cells T))
           ≡ see (ranAt c) (bodyRows book text inner n opening c j M item rest x items (rowState units cells T))
       unfolding bodyAfter bodyRows
       sim-body opening M item x items units cells T h is =
@@ -482,12 +489,13 @@ module _ (book : Book) (text : List ℕ) (n : ℕ) (inner : Option RowRunner) (i
           (λ cell units₁ cells₁.
           open-see opening units₁ cells₁ T (askedAt (rowOf T c) ∷ marksOf T c) _ _ (h .standing .scope)
           (sim-descend (plainNextRows book text c j rest cell) (plainNext book text C j rest cell)
-          (keeps-plain-next book text n inner inners room c below within j rest cell)
+          (keeps-plain-next book text n c below within j rest cell)
           (sim-plain-next rest plain cell) opening M x units₁ cells₁ T h is))
 
       sim-opens : (names : List Entry) (kinds close M x items units : ℕ) (cells : List Cell) (T : List Row) →
           Here book text C c (suc n) j T → NamesAt text T n names →
-          opens book text innerA C j names kinds close M rest x items (rowOf T c .run) (stateAt c (rowState units cells T))
+          opens book text innerA C j names kinds close M rest x items (rowOf T c .run)
+          (stateAt c (rowState units cells T))
           ≡ see (ranAt c) (opensRows book text inner n c j names kinds close M rest x items (rowState units cells T))
       unfolding opens opensRows see
       sim-opens names kinds close M x items units cells T h is =
@@ -562,7 +570,8 @@ module _ (book : Book) (text : List ℕ) (n : ℕ) (inner : Option RowRunner) (i
           Here book text C c (suc n) j T → NamesAt text T n names →
           nameChoice book text innerA C j names kinds close M rest x items (rowOf T c .run)
           (stateAt c (rowState units cells T))
-          ≡ see (ranAt c) (nameChoiceRows book text inner n c j names kinds close M rest x items (rowState units cells T))
+          ≡ see (ranAt c) (nameChoiceRows book text inner n c j names kinds close M rest x items
+          (rowState units cells T))
       unfolding nameChoice nameChoiceRows see
       sim-name-choice names kinds close M x items units cells T h is =
           spend-see (ranAt c) (rowState units cells T) (askedAt (rowOf T c) ∷ marksOf T c) _ _
@@ -575,7 +584,8 @@ module _ (book : Book) (text : List ℕ) (n : ℕ) (inner : Option RowRunner) (i
           let U = a .state .rows in
           let g = here-keeps book text C c (suc n) j T U h k in
           then-see (ranAt c) (ranAt c) (Beside c (suc n) U) _ _ _ _
-          (sim-declares names kinds close M x items (a .state .units) (a .state .cells) U g (names-still T U names k is))
+          (sim-declares names kinds close M x items (a .state .units) (a .state .cells) U g
+          (names-still T U names k is))
           (keeps-declares book text n inner inners room c below within j names kinds close M rest x items
           (a .state) (g .standing .size))
           (λ b l.
@@ -591,15 +601,16 @@ module _ (book : Book) (text : List ℕ) (n : ℕ) (inner : Option RowRunner) (i
         GoAlike (rowsGo (taking step ∷ rest)) (stepsGo (taking step ∷ rest))
     unfolding steps stepsRows see
     sim-step step rest plain f x items units cells T h =
-        let k : KeepsGo book text n inner inners room c below within (rowsGo rest) =
+        let k : KeepsGo n c (rowsGo rest) =
         keeps-steps book text n inner inners room c below within j rest in
         unit-see step units cells T (askedAt (rowOf T c) ∷ marksOf T c) _ _
-        (λ units₁. rw (h .standing .scope) (taken-see (ranAt c) (stepAt book text (scopeOf (C .path)) step x) _ _ _ _ _ _ _ _ _ _ _ _ _ _
+        (λ units₁. rw (h .standing .scope) (taken-see (ranAt c)
+        (stepAt book text (scopeOf (C .path)) step x) _ _ _ _ _ _ _ _ _ _ _ _ _ _
         _ _
         (sim-nothing step x units₁ cells T h)
         (λ t. sim-token (rowsGo rest) (stepsGo rest) k f t x items units₁ cells T h)
         (λ M. sim-descend (plainNextRows book text c j rest items) (plainNext book text C j rest items)
-        (keeps-plain-next book text n inner inners room c below within j rest items)
+        (keeps-plain-next book text n c below within j rest items)
         (sim-plain-next rest plain items) none M x units₁ cells T h tt)
         (λ M. sim-or-absent (rowsGo rest) (stepsGo rest) k f M rest plain x items units₁ cells T h)
         (λ comma M close y.
