@@ -8,5 +8,7 @@ pub mod Views
 pub mod Named
 pub mod Sim
 pub mod SimCalls
+pub mod SimChild
+pub mod SimBinders
 pub mod SimSteps
 pub mod Theorem
