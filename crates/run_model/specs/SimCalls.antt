@@ -199,7 +199,8 @@ module _ (book : Book) (text : List ℕ) (m : ℕ) (S : RowRunner) (R : Runner) 
       (λ _. rw (add-all-state units cells (askedAt r ∷ marksOf T n) [] (r .set) (r .run))
       (same-see (endAt n) (addAll (stateOf units cells []) (r .set) (r .run)) _ _
       (λ all. rw (state-put n units cells T (withSet all r) l refl) at
-      (f (withMine (callOf text T n) all) units cells (onRow T n (withSet all)) (all-standing (callOf text T n) T all h)))))
+      (f (withMine (callOf text T n) all) units cells (onRow T n (withSet all))
+      (all-standing (callOf text T n) T all h)))))
 
   sim-rounds : (k : ℕ) (C : Call) (units : ℕ) (cells : List Cell) (T : List Row) → Standing text C n T →
       rounds book text k R C least (stateAt n (rowState units cells T))

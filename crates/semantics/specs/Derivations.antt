@@ -13,7 +13,8 @@ use Rattle.book.specs.declared.records.Step.{Step}
 use Rattle.book.specs.Numbers.{defaultLevel}
 use Rattle.semantics.specs.Values.{Tree, Trees, no-trees, _▸_, variant, name, number, variable, declared}
 use Rattle.semantics.specs.Values.{absent, list, Parse}
-use Rattle.semantics.specs.Uses.{Path, scopeOf, within, behind, useOf, hasMark, minimum, same-start, governor, keeps}
+use Rattle.semantics.specs.Uses.{Path, scopeOf, within, behind, useOf, hasMark, minimum, same-start, governor}
+use Rattle.semantics.specs.Uses.{keeps}
 use Rattle.semantics.specs.Tokens.{Item, Read, characterEnd, freeEnd, spelled, claimed, declarationAt}
 use Rattle.semantics.specs.Steps.{Taken, stepAt, goes, halts, afterElement, closed, Todo, taking, elements}
 use Rattle.semantics.specs.Steps.{ending, naming, closing, todoOf}
@@ -71,8 +72,8 @@ abbrev pub inside : Book → Attempt → ℕ → Path
 inside book a at = within (useOf book (a .nonterminal) (a .start) (a .variant) at) ∷ a .path
 
 module _ (book : Book) (text : List ℕ) where
-  -- what a step of an attempt takes at a place, in the attempt's scope. Document 02 d: "Derivations are now taken over a
-  -- scope as well as a place"
+  -- what a step of an attempt takes at a place, in the attempt's scope. Document 02 d: "Derivations are now taken over
+  -- a scope as well as a place"
   abbrev pub takes : Attempt → Step → ℕ → Taken
   takes a s x = stepAt book text (scopeOf (a .path)) s x
 
