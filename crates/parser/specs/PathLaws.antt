@@ -108,7 +108,7 @@ module _ (book : Book) (text : List ℕ) (inner : Option RowRunner) (n c j : ℕ
               ∙ C .is book inner n (cellsOf st3 (b .state .cells))
               ∙ ap (λ (z : Result model.Outcome).
               z >>= (λ o. ok (chosenRows book text inner n c (skipFrom text x) (failureOf (failureAt a)) o))) (d .is)
-              ∙ bind-assoc (enterChildRows book text inner n c M x
+              ∙ bind-assoc (enterChildRows book text inner n none c M x
               (rowState (a .state .units) (cellsOf st2 (a .state .cells)) U))
               (λ o. followedRows book text inner n (nextRows book text c j rest next items) o)
               (λ o. ok (chosenRows book text inner n c (skipFrom text x) (failureOf (failureAt a)) o))

@@ -4,7 +4,7 @@
 --
 -- Plan: rows that differ in little, by an equation of what is left when the fields that may differ are forgotten;
 -- tables that keep such rows from a row on; results that have a property unless they are limits, and runners. The
--- functions of the model are in KeepsRun.
+-- functions of the model are in KeepsCalls, KeepsBinders and KeepsRun.
 use mathlib.Core.Path.{_≡_, refl, ap, _∙_}
 use mathlib.Core.Bool.{Bool, true, false}
 use mathlib.Core.List.{List, [], _∷_}

@@ -1,433 +1,167 @@
--- What each function of the model leaves of the rows, in the model's order: `keeps-enter` for calls, `keeps-steps` for
--- steps, `keeps-runner` for the runners, by recursion on the levels left. Scaffolding: no definition of document 01.
+-- What lists and steps leave of the rows (`keeps-steps`), and so the runners (`keeps-runner`), by recursion on the
+-- levels left. It rests on KeepsCalls and KeepsBinders. Scaffolding: no definition of document 01.
 use mathlib.Core.Path.{_≡_, refl, _∙_}
 use mathlib.Core.Bool.{Bool, true, false}
-use mathlib.Core.List.{List, [], _∷_, _++_}
-use mathlib.Core.Option.{Option, none, some}
-use Prim.Native.Nat.{ℕ, zero, suc, _+_, _<_, _≤_}
+use mathlib.Core.List.{List, [], _∷_}
+use mathlib.Core.Option.{Option, none}
+use Prim.Native.Nat.{ℕ, zero, suc, _<_, _≤_}
 use native.Mathlib.Omega.{arith}
-use lib.Dec.{leb, eqb}
-use lib.ListN.{getD, set, length, length-set}
-use Rattle.characters.specs.Cases.{by-test}
+use lib.ListN.{length}
 use Rattle.characters.specs.Classes.{between}
 use Rattle.characters.specs.Skipping.{skipFrom}
-use Rattle.book.specs.Book.{Entry, Book, nthVariant, stepNumber}
+use Rattle.book.specs.Book.{Book, stepNumber}
 use Rattle.book.specs.declared.records.Step.{Step}
-use Rattle.semantics.specs.Numbers.{mostDeclared}
-use Rattle.semantics.specs.Values.{Parse, absentParse}
-use Rattle.semantics.specs.Uses.{hasMark}
-use Rattle.semantics.specs.Tokens.{Read, when, characterEnd, declarationAt}
-use Rattle.semantics.specs.Steps.{stepAt, afterElement, closed, Todo, taking, elements, ending, naming}
-use Rattle.semantics.specs.Steps.{closing, todoOf}
+use Rattle.semantics.specs.Tokens.{when}
+use Rattle.semantics.specs.Steps.{stepAt, closed, Todo, taking, elements, ending, naming, closing}
 use Rattle.semantics.specs.Cells.{Cell}
-use Rattle.semantics.specs.Errors.{Error}
-use Rattle.semantics.specs.Run.{Result, ok, _>>=_, allIn, addAll, begin, declaredNames}
-use Rattle.run_model.specs.Rows.{Row, opened, ended, withChild, wasAsked, withSet, withRun, copied, rowOf, onRow}
-use Rattle.run_model.specs.Rows.{binderFor, scopeIn, governorOf}
-use Rattle.run_model.specs.Model.{RowState, rowState, Outcome, RowRunner, RowGo, RowNext, unmarked, atRow}
-use Rattle.run_model.specs.Model.{spendRows, addRun, completeRows, takeVariant, variantsRows, oneRunRows, settle}
-use Rattle.run_model.specs.Model.{roundsRows, settleFirst, runCallRows, namedRows, runIdentifierRows}
-use Rattle.run_model.specs.Model.{plainNextRows, listNextRows, stopsRows, nestedRows, withStored, storedRows}
-use Rattle.run_model.specs.Model.{enterRows, enterChildRows, followFrom, followedRows, stepUnitRows, orChild}
-use Rattle.run_model.specs.Model.{orAbsentRows, choiceRows, listingRows, withDeclared, openRows, bodyRows, opensRows}
-use Rattle.run_model.specs.Model.{declaresRows, nameChoiceRows, stepsRows, runnerRows}
-use Rattle.run_model.specs.Keeps.{Keeps, KeepsAt, Called, keeps-refl, keeps-then, keeps-put, keeps-mark, at-refl}
-use Rattle.run_model.specs.Keeps.{at-then, at-put, at-below, at-of, at-less, run-refl, run-then, run-put, run-of}
-use Rattle.run_model.specs.Keeps.{called-put, called-then, On, on-met, on-ok, on-bind, on-map, on-any, on-when}
-use Rattle.run_model.specs.Keeps.{on-option, on-list, on-after, on-governor, on-taken, on-makes, on-spend, Beside}
-use Rattle.run_model.specs.Keeps.{Ran, Calls, Fits, Keeping, Inner, last, more, on-nested}
+use Rattle.semantics.specs.Run.{Result, ok, _>>=_}
+use Rattle.run_model.specs.Rows.{withChild, withRun, rowOf, onRow, scopeIn}
+use Rattle.run_model.specs.Model.{RowState, rowState, Outcome, RowRunner, RowGo, RowNext, spendRows, addRun}
+use Rattle.run_model.specs.Model.{completeRows, plainNextRows, listNextRows, stopsRows, stepUnitRows, orChild}
+use Rattle.run_model.specs.Model.{orAbsentRows, choiceRows, listingRows, stepsRows, runnerRows}
+use Rattle.run_model.specs.Keeps.{KeepsAt, at-refl, at-then, at-put, On, on-ok, on-bind, on-map, on-any}
+use Rattle.run_model.specs.Keeps.{on-option, on-taken, on-makes, on-spend, Beside, Calls, Keeping, Inner, last}
+use Rattle.run_model.specs.Keeps.{more}
+use Rattle.run_model.specs.KeepsCalls.{KeepsNext, KeepsGo, keeps-plain-next, keeps-list-next, keeps-child}
+use Rattle.run_model.specs.KeepsCalls.{child-leaves, keeps-followed}
+use Rattle.run_model.specs.KeepsBinders.{keeps-body, keeps-opens, keeps-name-choice}
 
--- ---- A call at row n, whose variants run with row m = n - 1 free
-module _ (book : Book) (text : List ℕ) (m : ℕ) (S : RowRunner) (keeping : Keeping m S) (n : ℕ) (next : n ≡ suc m)
-    (room : n ≤ 200) (least : ℕ) where
-  -- one variant
-  pub keeps-taken : (j x items units : ℕ) (cells : List Cell) (T : List Row) → length T ≡ 201 →
-      On (Ran n T)
-      (S n j (todoOf book (nthVariant book j)) x items (rowState units cells (onRow T n (takeVariant book text j))))
-  keeps-taken j x items units cells T h =
-      let U = onRow T n (takeVariant book text j) in
-      let f : Fits n m U =
-      record { below = omega arith; within = room; size = length-set T n (takeVariant book text j (rowOf T n)) ∙ h } in
-      on-map (Beside n (suc m) U) (Ran n T) _
-      (keeping .of n j (todoOf book (nthVariant book j)) x items (rowState units cells U) f)
-      (λ o k.
-      run-then (run-put n T (takeVariant book text j (rowOf T n)) (omega arith) refl)
-      (run-of (at-less (omega arith) k)))
+-- ---- Lists, and an optional child
+module _ (book : Book) (text : List ℕ) (n c : ℕ) where
+  pub keeps-stops : (j values : ℕ) (close : Option ℕ) (go : RowGo) → KeepsGo n c go →
+      KeepsGo n c (stopsRows book text j values close go)
+  unfolding stopsRows
+  keeps-stops j values close go g x items s h =
+      let Q = Beside c (suc n) (s .rows) in
+      on-makes Q _ s _
+      (λ cell units cells. on-option Q (closed text close x) _ _ (on-ok Q at-refl)
+      (λ y. on-makes Q _ (rowState units cells (s .rows)) _ (λ cell₁ units₁ cells₁.
+      g y cell₁ (rowState units₁ cells₁ (s .rows)) h)))
 
-  pub keeps-variants : (k j : ℕ) (e : Option Error) (s : RowState) → length (s .rows) ≡ 201 →
-      On (Ran n (s .rows)) (variantsRows book text S n least k j e s)
-  unfolding variantsRows
-  keeps-variants zero j e s h = on-ok (Ran n (s .rows)) run-refl
-  keeps-variants (suc k) j e s h =
-      on-when (Ran n (s .rows)) (leb least (nthVariant book j .level)) _ _
-      (on-makes (Ran n (s .rows)) (begin book text j) s _
-      (λ cell units cells.
-      on-bind (Ran n (s .rows)) (Ran n (s .rows)) _ _
-      (keeps-taken j (rowOf (s .rows) n .start) cell units cells (s .rows) h)
-      (λ o a. on-map (Ran n (o .state .rows)) (Ran n (s .rows)) _
-      (keeps-variants k (suc j) _ (o .state) (a .above .size ∙ h)) (λ p b. run-then a b))))
-      (keeps-variants k (suc j) e s h)
+module _ (book : Book) (text : List ℕ) (n : ℕ) (inner : Option RowRunner) (inners : Inner n inner) (room : n ≤ 200)
+    (c : ℕ) (below : n < c) (within : c ≤ 200) where
+  pub keeps-or-child : (M : ℕ) (next : RowNext) → KeepsNext n c next → (x : ℕ) (a : Outcome) →
+      length (a .state .rows) ≡ 201 → On (Beside c (suc n) (a .state .rows)) (orChild book text inner n c M next x a)
+  unfolding orChild
+  keeps-or-child M next f x a h =
+      let T = a .state .rows in
+      let Q = Beside c (suc n) T in
+      on-bind (Calls n (onRow T c (withChild (skipFrom text x)))) Q _ _
+      (keeps-child book text n inner inners room c below within none M x (a .state) h)
+      (λ r k.
+      let d : KeepsAt c (suc n) T (r .state .rows) =
+      child-leaves book text n inner inners room c below within x T (r .state .rows) h k in
+      on-bind (Beside c (suc n) (r .state .rows)) Q _ _
+      (keeps-followed book text n inner inners room c below within next f r (d .size ∙ h))
+      (λ b l. on-ok Q (at-then d l)))
 
-  pub keeps-one-run : (s : RowState) → length (s .rows) ≡ 201 → On (Ran n (s .rows)) (oneRunRows book text S n least s)
-  unfolding oneRunRows
-  keeps-one-run s h =
-      let U = onRow (s .rows) n (withRun []) in
-      on-map (Ran n U) (Ran n (s .rows)) _
-      (keeps-variants _ _ none (atRow n (withRun []) s) (length-set (s .rows) n (withRun [] (rowOf (s .rows) n)) ∙ h))
-      (λ o a. run-then (run-put n (s .rows) (withRun [] (rowOf (s .rows) n)) (omega arith) refl) a)
+  pub keeps-or-absent : (j M : ℕ) (rest : List (Todo ℕ)) (go : RowGo) → KeepsGo n c go →
+      KeepsGo n c (orAbsentRows book text inner n c j M rest go)
+  unfolding orAbsentRows
+  keeps-or-absent j M rest go g x items s h =
+      let Q = Beside c (suc n) (s .rows) in
+      on-makes Q _ s _
+      (λ cell units cells. on-makes Q _ (rowState units cells (s .rows)) _
+      (λ cell₁ units₁ cells₁. on-bind Q Q _ _ (g x cell₁ (rowState units₁ cells₁ (s .rows)) h)
+      (λ a k. on-map (Beside c (suc n) (a .state .rows)) Q _
+      (keeps-or-child M (plainNextRows book text c j rest items)
+      (keeps-plain-next book text n c below within j rest items) x a (k .size ∙ h))
+      (λ b l. at-then k l))))
 
-  keeps-settle : (T : List Row) (again : RowState → Result Outcome) (s : RowState) → length (s .rows) ≡ 201 →
-      Keeps (suc n) T (s .rows) → ((t : RowState) → length (t .rows) ≡ 201 → On (Calls n (t .rows)) (again t)) →
-      On (Calls n T) (settle book text n again s)
-  unfolding settle
-  keeps-settle T again s h k f =
-      let r = rowOf (s .rows) n in
-      on-when (Calls n T) (allIn (r .set) (r .run)) _ _
-      (on-ok (Calls n T) (called-put n T (s .rows) (ended r) (omega arith) k refl))
-      (on-any (Calls n T) (addAll (unmarked s) (r .set) (r .run)) _
-      (λ all.
-      on-map (Calls n (onRow (s .rows) n (withSet all))) (Calls n T) _
-      (f (atRow n (withSet all) s) (length-set (s .rows) n (withSet all r) ∙ h))
-      (λ o a. called-then (keeps-then k (keeps-put n (s .rows) (withSet all r))) a)))
-
-  keeps-rounds : (k : ℕ) (s : RowState) → length (s .rows) ≡ 201 →
-      On (Calls n (s .rows)) (roundsRows book text k S n least s)
-  unfolding roundsRows
-  keeps-rounds zero s h = on-met (Calls n (s .rows)) _ _
-  keeps-rounds (suc k) s h =
-      on-bind (Ran n (s .rows)) (Calls n (s .rows)) _ _ (keeps-one-run s h)
-      (λ o a. keeps-settle (s .rows) _ (o .state) (a .above .size ∙ h) (a .above) (λ t g. keeps-rounds k t g))
-
-  keeps-first : (T : List Row) (again : RowState → Result Outcome) (o : Outcome) → length (o .state .rows) ≡ 201 →
-      Keeps (suc n) T (o .state .rows) → ((t : RowState) → length (t .rows) ≡ 201 → On (Calls n (t .rows)) (again t)) →
-      On (Calls n T) (settleFirst book text n again o)
-  unfolding settleFirst
-  keeps-first T again o h k f =
-      let U = o .state .rows in
-      let r = rowOf U n in
-      let over : Called n T (onRow U n (λ r. ended (copied r))) =
-      called-put n T U (ended (copied r)) (omega arith) k refl in
-      on-list (Calls n T) (r .run) _ _ (on-ok (Calls n T) over)
-      (λ p ps. on-when (Calls n T) (eqb (r .asked) 1) _ _
-      (on-map (Calls n (onRow U n copied)) (Calls n T) _ (f (atRow n copied (o .state)) (length-set U n (copied r) ∙ h))
-      (λ o a. called-then (keeps-then k (keeps-put n U (copied r))) a))
-      (on-ok (Calls n T) over))
-
-  pub keeps-run-call : (binder N u : ℕ) (s : RowState) → length (s .rows) ≡ 201 →
-      On (Calls n (s .rows)) (runCallRows book text S n binder N u least s)
-  unfolding runCallRows
-  keeps-run-call binder N u s h =
-      let U = onRow (s .rows) n (opened binder N u) in
-      let size : length U ≡ 201 = length-set (s .rows) n (opened binder N u (rowOf (s .rows) n)) ∙ h in
-      on-bind (Ran n U) (Calls n (s .rows)) _ _ (keeps-one-run (atRow n (opened binder N u) s) size)
-      (λ o a.
-      keeps-first (s .rows) _ o (a .above .size ∙ size)
-      (keeps-then (keeps-put n (s .rows) (opened binder N u (rowOf (s .rows) n))) (a .above))
-      (λ t g. keeps-rounds 65 t g))
-
--- ---- A use of mark 2
-keeps-named : (book : Book) (text : List ℕ) (n N u : ℕ) (T : List Row) (s : RowState) → n < length (s .rows) →
-    Called n T (s .rows) → (end : Option ℕ) → On (Calls n T) (namedRows book text n N u s end)
-unfolding namedRows
-keeps-named book text n N u T s h c none = on-ok (Calls n T) c
-keeps-named book text n N u T s h c (some end) =
-    on-makes (Calls n T) _ s _
-    (λ cell units cells. on-ok (Calls n T) (called-put n T (s .rows) _ h (c .above) (c .shut)))
-
-keeps-identifier : (book : Book) (text : List ℕ) (n binder N u : ℕ) (s : RowState) → n < length (s .rows) →
-    On (Calls n (s .rows)) (runIdentifierRows book text n binder N u s)
-unfolding runIdentifierRows
-keeps-identifier book text n binder N u s h =
-    let r = ended (withSet [] (rowOf (s .rows) n)) in
-    let l : length (set (s .rows) n r) ≡ length (s .rows) = length-set (s .rows) n r in
-    keeps-named book text n N u (s .rows) (atRow n (λ r. ended (withSet [] r)) s) (omega arith)
-    (called-put n (s .rows) (s .rows) r h keeps-refl refl) _
-
--- ---- One level of nesting
-module _ (book : Book) (text : List ℕ) (n : ℕ) (inner : Option RowRunner)
-    (inners : Inner n inner) (room : n ≤ 200) where
-  keeps-stored : (g : ℕ) (s : RowState) → length (s .rows) ≡ 201 →
-      Called n (s .rows) (withStored book text inner n g s .rows)
-  keeps-stored g s h =
-      let l : length (onRow (s .rows) g wasAsked) ≡ length (s .rows) =
-      length-set (s .rows) g (wasAsked (rowOf (s .rows) g)) in
-      called-put n (s .rows) (onRow (s .rows) g wasAsked) _ (omega arith) (keeps-mark (suc n) g (s .rows)) refl
-
-  pub keeps-enter : (binder N u : ℕ) (s : RowState) → length (s .rows) ≡ 201 →
-      On (Calls n (s .rows)) (enterRows book text inner n binder N u s)
-  unfolding enterRows storedRows
-  keeps-enter binder N u s h =
-      let Q = Calls n (s .rows) in
+  pub keeps-choice : (j : ℕ) (comma : Bool) (M values : ℕ) (close : Option ℕ) (rest : List (Todo ℕ)) (go : RowGo) →
+      KeepsGo n c go → KeepsGo n c (choiceRows book text inner n c j comma M values close rest go)
+  unfolding choiceRows
+  keeps-choice j comma M values close rest go g x items s h =
+      let Q = Beside c (suc n) (s .rows) in
       on-spend Q s _
-      (λ units cells. on-governor Q (governorOf (s .rows) n binder N u) _ _
-      (λ least. on-nested Q book text n inner inners _ _
-      (λ m S e keeping.
-      on-when Q (hasMark book 2 N) _ _
-      (keeps-identifier book text n binder N u (rowState units cells (s .rows)) (omega arith))
-      (keeps-run-call book text m S keeping n e room least binder N u (rowState units cells (s .rows)) h)))
-      (λ g. on-ok Q (keeps-stored g (rowState units cells (s .rows)) h)))
+      (λ units cells. on-bind Q Q _ _ (keeps-stops book text n c j values close go g x items
+      (rowState units cells (s .rows)) h)
+      (λ a k. on-map (Beside c (suc n) (a .state .rows)) Q _
+      (keeps-or-child M (listNextRows book text c j comma M values close rest items)
+      (keeps-list-next book text n c below within j comma M values close rest items) x a (k .size ∙ h))
+      (λ b l. at-then k l)))
 
-  -- ---- Steps of the call of row c
-  module _ (c : ℕ) (below : n < c) (within : c ≤ 200) where
-    abbrev Leaves : RowState → Result Outcome → Type 0
-    Leaves s y = On (Beside c (suc n) (s .rows)) y
+  pub keeps-listing : (j : ℕ) (comma : Bool) (M : ℕ) (close : Option ℕ) (rest : List (Todo ℕ)) (go : RowGo) →
+      KeepsGo n c go → KeepsGo n c (listingRows book text inner n c j comma M close rest go)
+  unfolding listingRows
+  keeps-listing j comma M close rest go g x items s h =
+      on-makes (Beside c (suc n) (s .rows)) _ s _
+      (λ cell units cells. keeps-choice j comma M cell close rest go g x items (rowState units cells (s .rows)) h)
 
-    -- a child's call
-    pub keeps-child : (opening : Option (List Entry)) (M x : ℕ) (s : RowState) → length (s .rows) ≡ 201 →
-        On (Calls n (onRow (s .rows) c (withChild (skipFrom text x)))) (enterChildRows book text inner n opening c M x s)
-    unfolding enterChildRows
-    keeps-child opening M x s h =
-        keeps-enter (binderFor opening (rowOf (s .rows) c .binder)) M (skipFrom text x)
-        (atRow c (withChild (skipFrom text x)) s) (length-set (s .rows) c _ ∙ h)
+  -- ---- Steps
+  keeps-complete : (j : ℕ) → KeepsGo n c (λ x items s. completeRows book text c j x items s)
+  unfolding completeRows addRun
+  keeps-complete j x items s h =
+      let Q = Beside c (suc n) (s .rows) in
+      on-makes Q _ s _
+      (λ cell units cells. on-any Q _ _ (λ more.
+      on-ok Q (at-put c (suc n) (s .rows) (withRun more (rowOf (s .rows) c)) (omega arith) refl)))
 
-    pub child-leaves : (x : ℕ) (T U : List Row) → length T ≡ 201 →
-        Called n (onRow T c (withChild (skipFrom text x))) U → KeepsAt c (suc n) T U
-    child-leaves x T U h a =
-        at-then (at-put c (suc n) T (withChild (skipFrom text x) (rowOf T c)) (omega arith) refl)
-        (at-of (omega arith) (a .above))
+  on-unit : {A : Type 0} (Q : A → Type 0) (step : Step) (s : RowState) (K : RowState → Result A) →
+      ((units : ℕ) (cells : List Cell) → On Q (K (rowState units cells (s .rows)))) →
+      On Q (stepUnitRows book text inner n step s >>= K)
+  unfolding stepUnitRows _>>=_
+  on-unit Q step s K h = by (between 10 11 (stepNumber step))
+    where
+      by : (b : Bool) → On Q (when b (λ _. ok s) (λ _. spendRows s) >>= K)
+      by true = h (s .units) (s .cells)
+      by false = on-spend Q s K h
 
-    -- what follows a parse, one level further in
-    abbrev pub KeepsNext : RowNext → Type 0
-    KeepsNext next =
-        (m : ℕ) (S : RowRunner) → n ≡ suc m → Keeping m S → (q : Parse ℕ) (s : RowState) → length (s .rows) ≡ 201 →
-        On (Beside c n (s .rows)) (next q s S)
+  -- one step, with what is left behind it
+  keeps-step : (j : ℕ) (step : Step) (rest : List (Todo ℕ)) →
+      KeepsGo n c (λ x items s. stepsRows book text inner n c j rest x items s) →
+      KeepsGo n c (λ x items s. stepsRows book text inner n c j (taking step ∷ rest) x items s)
+  unfolding stepsRows
+  keeps-step j step rest g x items s h =
+      let Q = Beside c (suc n) (s .rows) in
+      on-unit Q step s _
+      (λ units cells. on-taken Q (stepAt book text (scopeIn text (s .rows) c) step x) _ _ _ _ _ _ _ _
+      (on-ok Q at-refl)
+      (λ t. on-makes Q _ (rowState units cells (s .rows)) _ (λ cell units₁ cells₁.
+      g (t .next) cell (rowState units₁ cells₁ (s .rows)) h))
+      (λ M.
+      on-bind (Calls n (onRow (s .rows) c (withChild (skipFrom text x)))) Q _ _
+      (keeps-child book text n inner inners room c below within none M x (rowState units cells (s .rows)) h)
+      (λ r k.
+      let d : KeepsAt c (suc n) (s .rows) (r .state .rows) =
+      child-leaves book text n inner inners room c below within x (s .rows) (r .state .rows) h k in
+      on-map (Beside c (suc n) (r .state .rows)) Q _
+      (keeps-followed book text n inner inners room c below within (plainNextRows book text c j rest items)
+      (keeps-plain-next book text n c below within j rest items) r (d .size ∙ h))
+      (λ b l. at-then d l)))
+      (λ M.
+      keeps-or-absent j M rest (stepsRows book text inner n c j rest) g x items (rowState units cells (s .rows)) h)
+      (λ comma M close y.
+      keeps-listing j comma M close rest (stepsRows book text inner n c j rest) g y items
+      (rowState units cells (s .rows)) h)
+      (λ y. on-makes Q _ (rowState units cells (s .rows)) _
+      (λ cell units₁ cells₁.
+      keeps-stops book text n c j cell none (stepsRows book text inner n c j rest) g y items
+      (rowState units₁ cells₁ (s .rows)) h))
+      (λ close M y. on-makes Q _ (rowState units cells (s .rows)) _
+      (λ cell units₁ cells₁.
+      keeps-name-choice book text n inner inners room c below within j [] cell close M rest y items
+      (rowState units₁ cells₁ (s .rows)) h))
+      (λ M. on-makes Q _ (rowState units cells (s .rows)) _
+      (λ cell units₁ cells₁. keeps-body book text n inner inners room c below within none j M cell rest x items
+      (rowState units₁ cells₁ (s .rows)) h)))
 
-    pub keeps-one : (next : RowNext) → KeepsNext next → (q : Parse ℕ) (s : RowState) → length (s .rows) ≡ 201 →
-        On (Beside c n (s .rows)) (nestedRows book text inner n s (λ run. next q s run))
-    keeps-one next k q s h =
-        on-nested (Beside c n (s .rows)) book text n inner inners s _ (λ m S e keeping. k m S e keeping q s h)
-
-    pub keeps-follow : (next : RowNext) → KeepsNext next → (k i : ℕ) (e : Option Error) (s : RowState) →
-        length (s .rows) ≡ 201 → On (Beside c n (s .rows)) (followFrom book text inner n next k i e s)
-    unfolding followFrom
-    keeps-follow next f zero i e s h = on-ok (Beside c n (s .rows)) at-refl
-    keeps-follow next f (suc k) i e s h =
-        on-bind (Beside c n (s .rows)) (Beside c n (s .rows)) _ _
-        (keeps-one next f (getD (rowOf (s .rows) n .set) i absentParse) s h)
-        (λ o a.
-        on-map (Beside c n (o .state .rows)) (Beside c n (s .rows)) _
-        (keeps-follow next f k (suc i) _ (o .state) (a .size ∙ h)) (λ p b. at-then a b))
-
-    pub keeps-followed : (next : RowNext) → KeepsNext next → (o : Outcome) → length (o .state .rows) ≡ 201 →
-        On (Beside c (suc n) (o .state .rows)) (followedRows book text inner n next o)
-    unfolding followedRows
-    keeps-followed next f o h =
-        let T = o .state .rows in
-        on-option (Beside c (suc n) T) (o .failure) _ _
-        (on-map (Beside c n T) (Beside c (suc n) T) _
-        (keeps-follow next f (length (rowOf T n .set)) 0 none (o .state) h) (λ p a. at-less (omega arith) a))
-        (λ e. on-ok (Beside c (suc n) T) at-refl)
-
-    pub keeps-plain-next : (j : ℕ) (rest : List (Todo ℕ)) (items : ℕ) →
-        KeepsNext (plainNextRows book text c j rest items)
-    unfolding plainNextRows
-    keeps-plain-next j rest items m S e keeping q s h =
-        on-makes (Beside c n (s .rows)) _ s _
-        (λ cell units cells. on-map (Beside c (suc m) (s .rows)) (Beside c n (s .rows)) _
-        (keeping .of c j rest (q .rest) cell (rowState units cells (s .rows))
-        (record { below = omega arith; within = within; size = h }))
-        (λ o a. at-less (omega arith) a))
-
-    pub keeps-list-next : (j : ℕ) (comma : Bool) (M values : ℕ) (close : Option ℕ) (rest : List (Todo ℕ)) (items : ℕ) →
-        KeepsNext (listNextRows book text c j comma M values close rest items)
-    unfolding listNextRows
-    keeps-list-next j comma M values close rest items m S e keeping q s h =
-        let f : Fits c m (s .rows) = record { below = omega arith; within = within; size = h } in
-        on-makes (Beside c n (s .rows)) _ s _
-        (λ cell units cells. on-map (Beside c (suc m) (s .rows)) (Beside c n (s .rows)) _
-        (on-after (Beside c (suc m) (s .rows)) (afterElement text comma (q .rest)) _ _
-        (λ y. keeping .of c j (elements comma M cell close ∷ rest) y items (rowState units cells (s .rows)) f)
-        (λ y. keeping .of c j (ending cell close ∷ rest) y items (rowState units cells (s .rows)) f))
-        (λ o a. at-less (omega arith) a))
-
-    -- what is left behind a list or a step
-    abbrev pub KeepsGo : RowGo → Type 0
-    KeepsGo go = (x items : ℕ) (s : RowState) → length (s .rows) ≡ 201 → On (Beside c (suc n) (s .rows)) (go x items s)
-
-    pub keeps-stops : (j values : ℕ) (close : Option ℕ) (go : RowGo) → KeepsGo go →
-        KeepsGo (stopsRows book text j values close go)
-    unfolding stopsRows
-    keeps-stops j values close go g x items s h =
-        let Q = Beside c (suc n) (s .rows) in
-        on-makes Q _ s _
-        (λ cell units cells. on-option Q (closed text close x) _ _ (on-ok Q at-refl)
-        (λ y. on-makes Q _ (rowState units cells (s .rows)) _ (λ cell₁ units₁ cells₁.
-        g y cell₁ (rowState units₁ cells₁ (s .rows)) h)))
-
-    pub keeps-or-child : (M : ℕ) (next : RowNext) → KeepsNext next → (x : ℕ) (a : Outcome) →
-        length (a .state .rows) ≡ 201 → On (Beside c (suc n) (a .state .rows)) (orChild book text inner n c M next x a)
-    unfolding orChild
-    keeps-or-child M next f x a h =
-        let T = a .state .rows in
-        let Q = Beside c (suc n) T in
-        on-bind (Calls n (onRow T c (withChild (skipFrom text x)))) Q _ _ (keeps-child none M x (a .state) h)
-        (λ r k.
-        let d : KeepsAt c (suc n) T (r .state .rows) = child-leaves x T (r .state .rows) h k in
-        on-bind (Beside c (suc n) (r .state .rows)) Q _ _ (keeps-followed next f r (d .size ∙ h))
-        (λ b l. on-ok Q (at-then d l)))
-
-    pub keeps-or-absent : (j M : ℕ) (rest : List (Todo ℕ)) (go : RowGo) → KeepsGo go →
-        KeepsGo (orAbsentRows book text inner n c j M rest go)
-    unfolding orAbsentRows
-    keeps-or-absent j M rest go g x items s h =
-        let Q = Beside c (suc n) (s .rows) in
-        on-makes Q _ s _
-        (λ cell units cells. on-makes Q _ (rowState units cells (s .rows)) _
-        (λ cell₁ units₁ cells₁. on-bind Q Q _ _ (g x cell₁ (rowState units₁ cells₁ (s .rows)) h)
-        (λ a k. on-map (Beside c (suc n) (a .state .rows)) Q _
-        (keeps-or-child M (plainNextRows book text c j rest items) (keeps-plain-next j rest items) x a (k .size ∙ h))
-        (λ b l. at-then k l))))
-
-    pub keeps-choice : (j : ℕ) (comma : Bool) (M values : ℕ) (close : Option ℕ) (rest : List (Todo ℕ)) (go : RowGo) →
-        KeepsGo go → KeepsGo (choiceRows book text inner n c j comma M values close rest go)
-    unfolding choiceRows
-    keeps-choice j comma M values close rest go g x items s h =
-        let Q = Beside c (suc n) (s .rows) in
-        on-spend Q s _
-        (λ units cells. on-bind Q Q _ _ (keeps-stops j values close go g x items (rowState units cells (s .rows)) h)
-        (λ a k. on-map (Beside c (suc n) (a .state .rows)) Q _
-        (keeps-or-child M (listNextRows book text c j comma M values close rest items)
-        (keeps-list-next j comma M values close rest items) x a (k .size ∙ h))
-        (λ b l. at-then k l)))
-
-    pub keeps-listing : (j : ℕ) (comma : Bool) (M : ℕ) (close : Option ℕ) (rest : List (Todo ℕ)) (go : RowGo) →
-        KeepsGo go → KeepsGo (listingRows book text inner n c j comma M close rest go)
-    unfolding listingRows
-    keeps-listing j comma M close rest go g x items s h =
-        on-makes (Beside c (suc n) (s .rows)) _ s _
-        (λ cell units cells. keeps-choice j comma M cell close rest go g x items (rowState units cells (s .rows)) h)
-
-    -- ---- Binders
-    on-open : {A : Type 0} (Q : A → Type 0) (opening : Option (List Entry)) (s : RowState) (K : RowState → Result A) →
-        On Q (K s) → On Q (openRows book text inner n opening c s >>= K)
-    unfolding openRows _>>=_ On
-    on-open Q none s K h = h
-    on-open Q (some names) s K h =
-        by-test (leb (length names + declaredNames (scopeIn text (s .rows) c)) mostDeclared)
-        (λ t. rw t h) (λ t. rw t tt)
-
-    pub keeps-body : (opening : Option (List Entry)) (j M item : ℕ) (rest : List (Todo ℕ)) →
-        KeepsGo (bodyRows book text inner n opening c j M item rest)
-    unfolding bodyRows
-    keeps-body opening j M item rest x items s h =
-        let Q = Beside c (suc n) (s .rows) in
-        on-makes Q _ s _
-        (λ cell units cells. on-open Q opening (rowState units cells (s .rows)) _
-        (on-bind (Calls n (onRow (s .rows) c (withChild (skipFrom text x)))) Q _ _
-        (keeps-child opening M x (rowState units cells (s .rows)) h)
-        (λ r k.
-        let d : KeepsAt c (suc n) (s .rows) (r .state .rows) = child-leaves x (s .rows) (r .state .rows) h k in
-        on-map (Beside c (suc n) (r .state .rows)) Q _
-        (keeps-followed (plainNextRows book text c j rest cell) (keeps-plain-next j rest cell) r (d .size ∙ h))
-        (λ b l. at-then d l))))
-
-    pub keeps-opens : (j : ℕ) (names : List Entry) (kinds close M : ℕ) (rest : List (Todo ℕ)) →
-        KeepsGo (opensRows book text inner n c j names kinds close M rest)
-    unfolding opensRows
-    keeps-opens j names kinds close M rest x items s h =
-        let Q = Beside c (suc n) (s .rows) in
-        on-makes Q _ s _
-        (λ cell units cells. on-option Q (characterEnd text close x) _ _ (on-ok Q at-refl)
-        (λ y. keeps-body (some names) j M cell rest y items (rowState units cells (s .rows)) h))
-
-    pub keeps-declares : (j : ℕ) (names : List Entry) (kinds close M : ℕ) (rest : List (Todo ℕ)) →
-        KeepsGo (declaresRows book text inner n c j names kinds close M rest)
-    unfolding declaresRows
-    keeps-declares j names kinds close M rest x items s h =
-        let Q = Beside c (suc n) (s .rows) in
-        on-spend Q s _
-        (λ units cells. on-nested Q book text n inner inners (rowState units cells (s .rows)) _
-        (λ m S e keeping. on-option Q (declarationAt book text (skipFrom text x)) _ _ (on-ok Q at-refl)
-        (λ d. on-makes Q _ (rowState units cells (s .rows)) _ (λ cell units₁ cells₁.
-        on-makes Q _ (rowState units₁ cells₁ (s .rows)) _ (λ cell₂ units₂ cells₂.
-        let t = withDeclared book text inner n (skipFrom text x) d (rowState units₂ cells₂ (s .rows)) in
-        let put : KeepsAt c (suc n) (s .rows) (t .rows) = at-below c n (s .rows) _ below in
-        let f : Fits c m (t .rows) = record { below = omega arith; within = within; size = put .size ∙ h } in
-        on-map (Beside c (suc m) (t .rows)) Q _
-        (on-after (Beside c (suc m) (t .rows)) (afterElement text true (d .end)) _ _
-        (λ y. keeping .of c j (naming (names ++ (d .value ∷ [])) cell₂ close M ∷ rest) y items t f)
-        (λ y. keeping .of c j (closing (names ++ (d .value ∷ [])) cell₂ close M ∷ rest) y items t f))
-        (λ o a. at-then put (at-less (omega arith) a)))))))
-
-    pub keeps-name-choice : (j : ℕ) (names : List Entry) (kinds close M : ℕ) (rest : List (Todo ℕ)) →
-        KeepsGo (nameChoiceRows book text inner n c j names kinds close M rest)
-    unfolding nameChoiceRows
-    keeps-name-choice j names kinds close M rest x items s h =
-        let Q = Beside c (suc n) (s .rows) in
-        on-spend Q s _
-        (λ units cells. on-bind Q Q _ _
-        (keeps-opens j names kinds close M rest x items (rowState units cells (s .rows)) h)
-        (λ a k. on-bind (Beside c (suc n) (a .state .rows)) Q _ _
-        (keeps-declares j names kinds close M rest x items (a .state) (k .size ∙ h))
-        (λ b l. on-ok Q (at-then k l))))
-
-    keeps-complete : (j : ℕ) → KeepsGo (λ x items s. completeRows book text c j x items s)
-    unfolding completeRows addRun
-    keeps-complete j x items s h =
-        let Q = Beside c (suc n) (s .rows) in
-        on-makes Q _ s _
-        (λ cell units cells. on-any Q _ _ (λ more.
-        on-ok Q (at-put c (suc n) (s .rows) (withRun more (rowOf (s .rows) c)) (omega arith) refl)))
-
-    on-unit : {A : Type 0} (Q : A → Type 0) (step : Step) (s : RowState) (K : RowState → Result A) →
-        ((units : ℕ) (cells : List Cell) → On Q (K (rowState units cells (s .rows)))) →
-        On Q (stepUnitRows book text inner n step s >>= K)
-    unfolding stepUnitRows _>>=_
-    on-unit Q step s K h = by (between 10 11 (stepNumber step))
-      where
-        by : (b : Bool) → On Q (when b (λ _. ok s) (λ _. spendRows s) >>= K)
-        by true = h (s .units) (s .cells)
-        by false = on-spend Q s K h
-
-    -- one step, with what is left behind it
-    keeps-step : (j : ℕ) (step : Step) (rest : List (Todo ℕ)) →
-        KeepsGo (λ x items s. stepsRows book text inner n c j rest x items s) →
-        KeepsGo (λ x items s. stepsRows book text inner n c j (taking step ∷ rest) x items s)
-    unfolding stepsRows
-    keeps-step j step rest g x items s h =
-        let Q = Beside c (suc n) (s .rows) in
-        on-unit Q step s _
-        (λ units cells. on-taken Q (stepAt book text (scopeIn text (s .rows) c) step x) _ _ _ _ _ _ _ _
-        (on-ok Q at-refl)
-        (λ t. on-makes Q _ (rowState units cells (s .rows)) _ (λ cell units₁ cells₁.
-        g (t .next) cell (rowState units₁ cells₁ (s .rows)) h))
-        (λ M.
-        on-bind (Calls n (onRow (s .rows) c (withChild (skipFrom text x)))) Q _ _
-        (keeps-child none M x (rowState units cells (s .rows)) h)
-        (λ r k.
-        let d : KeepsAt c (suc n) (s .rows) (r .state .rows) = child-leaves x (s .rows) (r .state .rows) h k in
-        on-map (Beside c (suc n) (r .state .rows)) Q _
-        (keeps-followed (plainNextRows book text c j rest items) (keeps-plain-next j rest items) r (d .size ∙ h))
-        (λ b l. at-then d l)))
-        (λ M.
-        keeps-or-absent j M rest (stepsRows book text inner n c j rest) g x items (rowState units cells (s .rows)) h)
-        (λ comma M close y.
-        keeps-listing j comma M close rest (stepsRows book text inner n c j rest) g y items
-        (rowState units cells (s .rows)) h)
-        (λ y. on-makes Q _ (rowState units cells (s .rows)) _
-        (λ cell units₁ cells₁.
-        keeps-stops j cell none (stepsRows book text inner n c j rest) g y items (rowState units₁ cells₁ (s .rows)) h))
-        (λ close M y. on-makes Q _ (rowState units cells (s .rows)) _
-        (λ cell units₁ cells₁.
-        keeps-name-choice j [] cell close M rest y items (rowState units₁ cells₁ (s .rows)) h))
-        (λ M. on-makes Q _ (rowState units cells (s .rows)) _
-        (λ cell units₁ cells₁. keeps-body none j M cell rest x items (rowState units₁ cells₁ (s .rows)) h)))
-
-    pub keeps-steps : (j : ℕ) (todo : List (Todo ℕ)) →
-        KeepsGo (λ x items s. stepsRows book text inner n c j todo x items s)
-    unfolding stepsRows
-    keeps-steps j [] x items s h = keeps-complete j x items s h
-    keeps-steps j (taking step ∷ rest) x items s h =
-        keeps-step j step rest (λ x items s h. keeps-steps j rest x items s h) x items s h
-    keeps-steps j (elements comma M values close ∷ rest) x items s h =
-        keeps-choice j comma M values close rest (stepsRows book text inner n c j rest)
-        (λ x items s h. keeps-steps j rest x items s h) x items s h
-    keeps-steps j (ending values close ∷ rest) x items s h =
-        keeps-stops j values close (stepsRows book text inner n c j rest)
-        (λ x items s h. keeps-steps j rest x items s h) x items s h
-    keeps-steps j (naming names kinds close M ∷ rest) x items s h =
-        keeps-name-choice j names kinds close M rest x items s h
-    keeps-steps j (closing names kinds close M ∷ rest) x items s h = keeps-opens j names kinds close M rest x items s h
+  pub keeps-steps : (j : ℕ) (todo : List (Todo ℕ)) →
+      KeepsGo n c (λ x items s. stepsRows book text inner n c j todo x items s)
+  unfolding stepsRows
+  keeps-steps j [] x items s h = keeps-complete j x items s h
+  keeps-steps j (taking step ∷ rest) x items s h =
+      keeps-step j step rest (λ x items s h. keeps-steps j rest x items s h) x items s h
+  keeps-steps j (elements comma M values close ∷ rest) x items s h =
+      keeps-choice j comma M values close rest (stepsRows book text inner n c j rest)
+      (λ x items s h. keeps-steps j rest x items s h) x items s h
+  keeps-steps j (ending values close ∷ rest) x items s h =
+      keeps-stops book text n c j values close (stepsRows book text inner n c j rest)
+      (λ x items s h. keeps-steps j rest x items s h) x items s h
+  keeps-steps j (naming names kinds close M ∷ rest) x items s h =
+      keeps-name-choice book text n inner inners room c below within j names kinds close M rest x items s h
+  keeps-steps j (closing names kinds close M ∷ rest) x items s h =
+      keeps-opens book text n inner inners room c below within j names kinds close M rest x items s h
 
 -- ---- Runners
 module _ (book : Book) (text : List ℕ) where

@@ -1,8 +1,8 @@
 -- The names of a binder that is being read stand in the rows above the free one. Scaffolding: no definition of
 -- document 01.
 --
--- Plan: of what is left to do only the first part can have names, and its names are those of the rows (`NamesIn`); a row
--- that is put says what it holds (`entry-declared`), and is one name more (`names-more`).
+-- Plan: of what is left to do only the first part can have names, and its names are those of the rows (`NamesIn`); a
+-- row that is put says what it holds (`entry-declared`), and is one name more (`names-more`).
 use mathlib.Core.Path.{_≡_, refl, sym, ap, _∙_}
 use mathlib.Core.List.{List, [], _∷_, _++_, map}
 use mathlib.Core.Option.{Option, none, some}

@@ -7,8 +7,8 @@
 --
 -- A declared name is read one level deeper than what is before it, and the row of its level holds it. What a call has
 -- to do with openings is one number, its binder: 0 if no opening that was read is around it; 1 if one is; n + 2 if the
--- call is itself the body behind an opening, which declared n names. These stand in the n rows above the body's own, the
--- last declared one nearest. Where the number is 0 no row needs to be searched for a name.
+-- call is itself the body behind an opening, which declared n names. These stand in the n rows above the body's own,
+-- the last declared one nearest. Where the number is 0 no row needs to be searched for a name.
 --
 -- First the rows and what is done to one; then what the live rows above a row say: the path with its openings, the
 -- stored sets and the marks; then governors and claims by rows.
@@ -29,7 +29,8 @@ use Rattle.semantics.specs.Run.{Call, call}
 
 -- a call while it is open (live is 1): its nonterminal, binder and start, the level and associativity (a number) of its
 -- variant, where its current child begins, whether its stored parses were asked for (1); the name that is declared at
--- this level: its kind, and where its spelling stands in the text; the call's stored set, and the set of the run at hand
+-- this level: its kind, and where its spelling stands in the text; the call's stored set, and the set of the run at
+-- hand
 pub record Row : Type 0 where
   pub live : ℕ
   pub nonterminal : ℕ

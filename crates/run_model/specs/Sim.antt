@@ -295,7 +295,8 @@ pub record Alike (book : Book) (text : List ℕ) (m : ℕ) (S : RowRunner) (R : 
 -- with n levels left there are none, or two that are alike
 pub data Kin (book : Book) (text : List ℕ) : ℕ → Option RowRunner → Option Runner → Type 0 where
   last : (n : ℕ) → Kin book text n none none
-  more : (m : ℕ) (S : RowRunner) (R : Runner) → Keeping m S → Alike book text m S R → Kin book text (suc m) (some S) (some R)
+  more : (m : ℕ) (S : RowRunner) (R : Runner) → Keeping m S → Alike book text m S R →
+      Kin book text (suc m) (some S) (some R)
 
 pub kin-inner : (book : Book) (text : List ℕ) (n : ℕ) (inner : Option RowRunner) (innerA : Option Runner) →
     Kin book text n inner innerA → Inner n inner

@@ -29,7 +29,7 @@ use Rattle.run_model.specs.Model.{RowState, rowState, Outcome, outcome, 
 use Rattle.run_model.specs.Model.{takeVariant, variantsRows, oneRunRows, settle, roundsRows, settleFirst}
 use Rattle.run_model.specs.Model.{runCallRows, namedRows, runIdentifierRows, nestedRows, storedRows, enterRows}
 use Rattle.run_model.specs.Keeps.{row-put, keeps-put, run-put, Ran, Keeping}
-use Rattle.run_model.specs.KeepsRun.{keeps-taken, keeps-one-run}
+use Rattle.run_model.specs.KeepsCalls.{keeps-taken, keeps-one-run}
 use Rattle.run_model.specs.Views.{open-put, path-keeps, scope-keeps, Picked, Agree, no-governor, after-start}
 use Rattle.run_model.specs.Views.{at-start, agree-behind, agree, claims-behind, claims-path}
 use Rattle.run_model.specs.Named.{no-names-in, steps-no-names}
@@ -199,7 +199,8 @@ module _ (book : Book) (text : List ℕ) (m : ℕ) (S : RowRunner) (R : Runner) 
       (λ _. rw (add-all-state units cells (askedAt r ∷ marksOf T n) [] (r .set) (r .run))
       (same-see (endAt n) (addAll (stateOf units cells []) (r .set) (r .run)) _ _
       (λ all. rw (state-put n units cells T (withSet all r) l refl) at
-      (f (withMine (callOf text T n) all) units cells (onRow T n (withSet all)) (all-standing (callOf text T n) T all h)))))
+      (f (withMine (callOf text T n) all) units cells (onRow T n (withSet all))
+      (all-standing (callOf text T n) T all h)))))
 
   sim-rounds : (k : ℕ) (C : Call) (units : ℕ) (cells : List Cell) (T : List Row) → Standing text C n T →
       rounds book text k R C least (stateAt n (rowState units cells T))

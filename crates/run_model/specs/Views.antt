@@ -19,7 +19,8 @@ use Rattle.semantics.specs.Tokens.{hasClaimant}
 use Rattle.semantics.specs.Run.{ask}
 use Rattle.run_model.specs.Rows.{Row, wasAsked, rowOf, onRow, keepIf, openFrom, openAbove, useAt, askedAt}
 use Rattle.run_model.specs.Rows.{storedOf, setsOf, isBody, namesAbove, behindNames, withinRow, pathFrom, pathOf}
-use Rattle.run_model.specs.Rows.{pathAt, scopeAt, beginsScope, governs, inScope, newestGovernor, claims, anyClaims}
+use Rattle.run_model.specs.Rows.{pathAt, scopeAt, beginsScope, governs, inScope, newestGovernor, claims}
+use Rattle.run_model.specs.Rows.{anyClaims}
 use Rattle.run_model.specs.Keeps.{Same, row-put, row-else, Keeps}
 
 -- ---- The open calls above a row
@@ -97,7 +98,8 @@ module _ (text : List ℕ) (T U : List Row) where
       let live : rowOf U i .live ≡ rowOf T i .live = ap (λ r. r .live) (h i (omega arith)) in
       rw (live, path-same k (suc i) (λ j l. h j (omega arith))) (by (eqb (rowOf T i .live) 1))
     where
-      by : (b : Bool) → withinRow b text U i (pathFrom text T k (suc i)) ≡ withinRow b text T i (pathFrom text T k (suc i))
+      by : (b : Bool) → withinRow b text U i (pathFrom text T k (suc i))
+          ≡ withinRow b text T i (pathFrom text T k (suc i))
       by true =
           let used : useAt (rowOf U i) ≡ useAt (rowOf T i) = ap useAt (h i (omega arith)) in
           let binder : rowOf U i .binder ≡ rowOf T i .binder = ap (λ r. r .binder) (h i (omega arith)) in

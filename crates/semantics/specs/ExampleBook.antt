@@ -77,15 +77,15 @@ times a b = Tree.variant 2 (no-trees ▸ a ▸ b)
 -- what the rows compute with: every definition that is shut
 unfoldable pub computing : Unit {0}
 unfolding classOf leading spanEnd commentAt commentEnd roundEnd skipRounds skipFrom identifierAt decimal numberOf
-    numberAt same isReserved lookupFrom leastWord checked records spelling entry ofBinder nonterminal variant stepOf step
-    allPass ended entireBook checkBook outwards govern governor isSome characterEnd identifierEnd reservedAt freeEnd
-    scopeOf variableIn variableAt stepAt hasClaimant kindAt nameOfKind declarationAt afterElement closed numbersOf
-    cellsIn identityOf findCell treeIn treesIn meaningOf meanings join beyond joinWith choiceError identifierError
-    declarationError stepError _>>=_ sameParse has allIn kept add addAll ask newest others spend make itemCell
-    declaredNames openScope withCell withToken nested closingCode begin complete counted variants oneRun roundsRun
-    failedCall runCall named runIdentifier reentry enter enterChild either followMore follow followed plainNext
-    listNext chosen stops stepUnit orAbsent choice listing bodyAfter opens declares nameChoice steps runner run
-    cellNumbers parseNumbers written wholeValues allAre firstHigh byValues atEnd onBook answerOf
+    numberAt same isReserved lookupFrom leastWord checked records spelling entry ofBinder nonterminal variant stepOf
+    step allPass ended entireBook checkBook outwards govern governor isSome characterEnd identifierEnd reservedAt
+    freeEnd scopeOf variableIn variableAt stepAt hasClaimant kindAt nameOfKind declarationAt afterElement closed
+    numbersOf cellsIn identityOf findCell treeIn treesIn meaningOf meanings join beyond joinWith choiceError
+    identifierError declarationError stepError _>>=_ sameParse has allIn kept add addAll ask newest others spend make
+    itemCell declaredNames openScope withCell withToken nested closingCode begin complete counted variants oneRun
+    roundsRun failedCall runCall named runIdentifier reentry enter enterChild either followMore follow followed
+    plainNext listNext chosen stops stepUnit orAbsent choice listing bodyAfter opens declares nameChoice steps runner
+    run cellNumbers parseNumbers written wholeValues allAre firstHigh byValues atEnd onBook answerOf
 computing = tt
 
 pub record Rows : Type 0 where

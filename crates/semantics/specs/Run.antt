@@ -414,8 +414,8 @@ module _ (book : Book) (text : List ℕ) (inner : Option Runner) where
       | some y ↦ bodyAfter (some names) c j M (l .cell) rest y items set (l .state)
     ]
 
-  -- a declared name and what follows it, both one level further in: "Reading one counts as a call of a committed variant
-  -- without counted steps (..; its kind's cell is made last)"
+  -- a declared name and what follows it, both one level further in: "Reading one counts as a call of a committed
+  -- variant without counted steps (..; its kind's cell is made last)"
   unfoldable pub declares : Call → ℕ → List Entry → ℕ → ℕ → ℕ → List (Todo ℕ) → Go
   declares c j names kinds close M rest x items set s₀ = do
     s ← spend s₀

@@ -74,7 +74,8 @@ stepAt book text scope (Step.VariableOfKind a) x =
     ]
 stepAt book text scope Step.RejectVariable x =
     elim (variableAt book text scope (skipFrom text x)) [ some v ↦ nothing | none ↦ read x none ]
-stepAt book text scope Step.RejectReserved x = when (reservedAt book text (skipFrom text x)) (λ _. nothing) (λ _. read x none)
+stepAt book text scope Step.RejectReserved x =
+    when (reservedAt book text (skipFrom text x)) (λ _. nothing) (λ _. read x none)
 stepAt book text scope (Step.Nonterminal M) x = child M
 stepAt book text scope (Step.Optional M) x = optional M
 stepAt book text scope (Step.Many M) x = list false M none x

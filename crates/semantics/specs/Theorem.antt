@@ -11,6 +11,7 @@ pub mod BigStep
 pub mod Heights
 pub mod Sound
 pub mod Marks
+pub mod TakenApart
 pub mod Complete
 pub mod Exactly
 -- results taken apart, what tokens read, sets of parses, facts of an accepted book
@@ -25,11 +26,17 @@ pub mod Meanings
 pub mod Table
 -- the run holds only cells of its table, from its start to its end
 pub mod Holding
+pub mod HoldingCells
+pub mod ForwardCalls
+pub mod ForwardBinders
 pub mod Forward
 -- the run does what the relation says of the trees that its cells stand for
 pub mod Made
 pub mod Failures
 pub mod Link
+pub mod LinkTail
+pub mod LinkLists
+pub mod LinkBinders
 pub mod LinkSteps
 -- the answer: its limits, its lists, its refusals, and the theorem
 pub mod Limits

@@ -24,8 +24,8 @@ unfoldable pub isSome : {A : Type 0} → Option A → Bool
 isSome none = false
 isSome (some a) = true
 
--- what a token adds: an identifier by the place and length of its spelling; a number; a variable that is a starting name
--- by its number and kind; one that is declared by its binder's depth outwards and its index within that binder
+-- what a token adds: an identifier by the place and length of its spelling; a number; a variable that is a starting
+-- name by its number and kind; one that is declared by its binder's depth outwards and its index within that binder
 pub data Item : Type 0 where
   name : ℕ → ℕ → Item
   number : ℕ → Item

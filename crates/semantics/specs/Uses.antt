@@ -27,7 +27,8 @@ useOf book N u j x =
 abbrev pub hasMark : Book → ℕ → ℕ → Bool
 hasMark book mark N = eqb (markNumber (nthNonterminal book N .mark)) mark
 
--- what a use stands in: within an enclosing use, or behind an opening that was read, with the names it declared in order
+-- what a use stands in: within an enclosing use, or behind an opening that was read, with the names it declared in
+-- order
 pub data Enclosing : Type 0 where
   within : Use → Enclosing
   behind : List Entry → Enclosing

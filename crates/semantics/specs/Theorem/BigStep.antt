@@ -10,7 +10,8 @@ use Rattle.characters.specs.Skipping.{skipFrom}
 use Rattle.book.specs.Book.{Entry, Book, nthNonterminal, nthVariant}
 use Rattle.book.specs.declared.records.Step.{Step}
 use Rattle.semantics.specs.Values.{Tree, Trees, no-trees, _▸_, number, absent, list, Parse}
-use Rattle.semantics.specs.Uses.{Use, Path, scopeOf, within, behind, useOf, hasMark, minimum, same-start, governor, keeps}
+use Rattle.semantics.specs.Uses.{Use, Path, scopeOf, within, behind, useOf, hasMark, minimum, same-start}
+use Rattle.semantics.specs.Uses.{governor, keeps}
 use Rattle.semantics.specs.Tokens.{Read, characterEnd, freeEnd, claimed, declarationAt}
 use Rattle.semantics.specs.Steps.{Token, Taken, stepAt, After, goes, halts, afterElement, closed, Todo, taking}
 use Rattle.semantics.specs.Steps.{elements, ending, naming, closing, todoOf}
@@ -168,7 +169,8 @@ module _ (book : Book) (text : List ℕ) where
           {B B′ : List Bool} {R : List (Parse Tree)} → closed text close x ≡ some y →
           Steps o j rest y (items ▸ list values) B R B′ → Steps o j (ending values close ∷ rest) x items B R B′
       s-names : {o : Open} {j x close M y : ℕ} {s : Step} {rest : List (Todo Trees)} {items : Trees}
-          {B B′ : List Bool} {R : List (Parse Tree)} → stepAt book text (scopeOf (o .path)) s x ≡ Taken.names close M y →
+          {B B′ : List Bool} {R : List (Parse Tree)} →
+          stepAt book text (scopeOf (o .path)) s x ≡ Taken.names close M y →
           Steps o j (naming [] no-trees close M ∷ rest) y items B R B′ → Steps o j (taking s ∷ rest) x items B R B′
       s-body : {o : Open} {j x M : ℕ} {s : Step} {rest : List (Todo Trees)} {items : Trees} {B B₁ B′ : List Bool}
           {Q R : List (Parse Tree)} → stepAt book text (scopeOf (o .path)) s x ≡ Taken.body M →

@@ -11,8 +11,8 @@ use lib.Dec.{leb, eqb}
 use Rattle.characters.specs.Skipping.{skipFrom}
 use Rattle.book.specs.Book.{Entry, Book, nthNonterminal, nthVariant}
 use Rattle.semantics.specs.Values.{Tree, Trees, no-trees, Parse}
-use Rattle.semantics.specs.Uses.{Use, Path, within, behind, useOf, hasMark, Governor, minimum, same-start, outwards, govern}
-use Rattle.semantics.specs.Uses.{governor, keeps}
+use Rattle.semantics.specs.Uses.{Use, Path, within, behind, useOf, hasMark, Governor, minimum, same-start}
+use Rattle.semantics.specs.Uses.{outwards, govern, governor, keeps}
 use Rattle.semantics.specs.Tokens.{Read, freeEnd, claimed, declarationAt}
 use Rattle.semantics.specs.Steps.{After, goes, halts, afterElement, Todo, elements, naming, todoOf}
 use Rattle.semantics.specs.Derivations.{attempt, Derives, by-variant, by-governor, by-identifier}

@@ -20,8 +20,8 @@ use Rattle.book.specs.declared.names.Found.{Found}
 use Rattle.book.specs.declared.names.KindWord.{KindWord}
 use Rattle.book.specs.declared.records.Step.{Step}
 use Rattle.semantics.specs.Uses.{Scope}
-use Rattle.semantics.specs.Tokens.{Item, Variable, Read, characterEnd, identifierEnd, spelled, reservedAt, freeEnd}
-use Rattle.semantics.specs.Tokens.{variableIn, variableAt, kindAt, nameOfKind, declarationAt}
+use Rattle.semantics.specs.Tokens.{Item, Variable, Read, characterEnd, identifierEnd, spelled, reservedAt}
+use Rattle.semantics.specs.Tokens.{freeEnd, variableIn, variableAt, kindAt, nameOfKind, declarationAt}
 use Rattle.semantics.specs.Steps.{Token, Taken, stepAt}
 use Rattle.semantics.specs.Theorem.Results.{none-some, some-inj, option-cases}
 
@@ -157,7 +157,8 @@ variable-fits book text scope at v q =
     (variable-in-fits text (book .names) 0 scope (spelled text at end) w there)))
 
 module _ (book : Book) (text : List ℕ) (scope : Scope) (x : ℕ) where
-  number-fits : (n : Number) → numberAt text (skipFrom text x) ≡ n → TakenFits text (stepAt book text scope Step.Number x)
+  number-fits : (n : Number) → numberAt text (skipFrom text x) ≡ n →
+      TakenFits text (stepAt book text scope Step.Number x)
   unfolding stepAt
   number-fits (Number.Value value end) e = rw (e, stepAt) (number-bounds text (skipFrom text x) value end e .2)
   number-fits Number.TooLarge e = rw (e, stepAt) tt

@@ -110,7 +110,8 @@ module _ (book extension : Book) (bytes other : List ℕ) (stepsMore : ℕ)
       let count : getD other place′ 0 ≡ getD bytes place 0 + 0 =
       rw (here, add-zero (getD bytes place 0)) (agree .front place inside) in
       let l = lengthened-section bytes other 0 lastAt 0 front-agrees (λ w. 0)
-      (λ i first. entry greatest) (λ i first. entry greatest) (entries-alike bytes other 0 lastAt 0 front-agrees greatest)
+      (λ i first. entry greatest) (λ i first. entry greatest)
+      (entries-alike bytes other 0 lastAt 0 front-agrees greatest)
       f g 0 place place′ xs ys end end′ (omega arith) count (omega arith) (omega (arith, places .nonterminals)) c d in
       let r = nothing-more (λ w. 0) (λ i first. entry greatest) other _ (end + 0) xs ys end′ l in
       (r .0, omega (arith, r .1))
@@ -268,8 +269,8 @@ module _ (book extension : Book) (bytes other : List ℕ) (stepsMore : ℕ)
       lengthened-section bytes other (stepCountAt book + 1) (length bytes) recordSize (agree .steps) (λ s. 0)
       (λ k first. step words nonterminals (stepBinder k)) (λ k first. step words nonterminals (stepBinder′ k))
       (steps-alike bytes other (stepCountAt book + 1) (length bytes) recordSize (agree .steps) words nonterminals
-      stepBinder stepBinder′) _ _ stepsMore (a .stepsAt) (b .stepsAt) (book .steps) (extension .steps) (a .end) (b .end) steps-shifted more
-      (omega arith) (steps-end bytes book a) (a .steps) same-reader
+      stepBinder stepBinder′) _ _ stepsMore (a .stepsAt) (b .stepsAt) (book .steps) (extension .steps)
+      (a .end) (b .end) steps-shifted more (omega arith) (steps-end bytes book a) (a .steps) same-reader
 
   pub book-grown : Grown book extension
   book-grown = record {
