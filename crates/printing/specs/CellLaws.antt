@@ -1,7 +1,7 @@
 -- What is printed of a cell, by its form.
 --
 --   read-none, read-some, older-less     a cell of a list of numbers, and the older ones
---   spelling-, plain-                    the bytes of a name, a number, a variable, absent
+--   spelling-, plain-                    the bytes of a name, a number, a variable, a declared one, absent
 --   gap-                                 what stands before an item
 --   item-, items-                        the bytes of a cell and of a chain
 --
@@ -27,7 +27,7 @@ use Rattle.semantics.specs.Cells.{meanings}
 use Rattle.semantics.specs.Theorem.Meanings.{meaning, Prefix, still, new-meaning}
 use Rattle.cells.specs.Store.{listed}
 use Rattle.cells.specs.declared.numbers.CellNumbers.{CellNumbers}
-use Rattle.printing.specs.Printing.{decimal, printed, spaced}
+use Rattle.printing.specs.Printing.{decimal, declaredBytes, printed, spaced}
 use Rattle.printing.specs.Cells.{cellIn, CellRead, olderThan, stands, spellingOf, plainBytes, itemBytes}
 use Rattle.printing.specs.Cells.{itemsBytes, isChain, gapBytes}
 
@@ -150,6 +150,7 @@ module _ (text : List ℕ) where
     meaningBy n (Cell.variable i kind) = one (Tree.variable i kind)
     meaningBy n Cell.absent = one Tree.absent
     meaningBy n (Cell.list c) = one (Tree.list (treesIn (stands text numbers (olderThan n c))))
+    meaningBy n (Cell.declared depth index) = one (Tree.declared depth index)
 
     by-older : (i : ℕ) → i ≤ length (cellsIn numbers) → (c : Cell) →
         meaningOf text (meanings text [] (take i (cellsIn numbers))) c ≡ meaningBy (suc i) c
@@ -162,6 +163,7 @@ module _ (text : List ℕ) where
     by-older i h (Cell.variable k kind) = refl
     by-older i h Cell.absent = refl
     by-older i h (Cell.list c) = rw (as-then (cellsIn numbers) i c h)
+    by-older i h (Cell.declared depth index) = refl
 
     stands-is : (n : ℕ) → stands text numbers n ≡ meaningBy n (cellIn numbers n)
     unfolding meaningBy
@@ -190,8 +192,9 @@ formOf (Cell.number high low) = 5
 formOf (Cell.variable i kind) = 6
 formOf Cell.absent = 7
 formOf (Cell.list c) = 8
+formOf (Cell.declared depth index) = 9
 
--- any number but 2 to 8 is read as the form of an empty chain
+-- any number but 2 to 9 is read as the form of an empty chain
 form-is : (form a b : ℕ) → (formOf (cellOf form a b) ≡ 1) ⊎ (formOf (cellOf form a b) ≡ form)
 unfolding formOf
 form-is zero a b = inl refl
@@ -203,9 +206,10 @@ form-is (suc (suc (suc (suc (suc zero))))) a b = inr refl
 form-is (suc (suc (suc (suc (suc (suc zero)))))) a b = inr refl
 form-is (suc (suc (suc (suc (suc (suc (suc zero))))))) a b = inr refl
 form-is (suc (suc (suc (suc (suc (suc (suc (suc zero)))))))) a b = inr refl
-form-is (suc (suc (suc (suc (suc (suc (suc (suc (suc k))))))))) a b =
-    let e : suc (suc (suc (suc (suc (suc (suc (suc (suc k)))))))) - 1
-    ≡ suc (suc (suc (suc (suc (suc (suc (suc k))))))) = omega arith in
+form-is (suc (suc (suc (suc (suc (suc (suc (suc (suc zero))))))))) a b = inr refl
+form-is (suc (suc (suc (suc (suc (suc (suc (suc (suc (suc k)))))))))) a b =
+    let e : suc (suc (suc (suc (suc (suc (suc (suc (suc (suc k))))))))) - 1
+    ≡ suc (suc (suc (suc (suc (suc (suc (suc (suc k)))))))) = omega arith in
     inl (rw e)
 
 -- a cell is not of a form that its number isn't
@@ -228,18 +232,20 @@ module _ (names : List Entry) (text : List ℕ) where
   spelling-by (Cell.variable i kind) n4 n6 = absurd (n6 refl)
   spelling-by Cell.absent n4 n6 = refl
   spelling-by (Cell.list c) n4 n6 = refl
+  spelling-by (Cell.declared depth index) n4 n6 = refl
 
-  plain-by : (c : Cell) → (formOf c ≡ 4 → ⊥) → (formOf c ≡ 5 → ⊥) → (formOf c ≡ 6 → ⊥) →
+  plain-by : (c : Cell) → (formOf c ≡ 4 → ⊥) → (formOf c ≡ 5 → ⊥) → (formOf c ≡ 6 → ⊥) → (formOf c ≡ 9 → ⊥) →
       plainBytes names text c ≡ 45 ∷ []
   unfolding plainBytes formOf
-  plain-by Cell.empty n4 n5 n6 = refl
-  plain-by (Cell.chain c item) n4 n5 n6 = refl
-  plain-by (Cell.variant j c) n4 n5 n6 = refl
-  plain-by (Cell.name place size) n4 n5 n6 = absurd (n4 refl)
-  plain-by (Cell.number high low) n4 n5 n6 = absurd (n5 refl)
-  plain-by (Cell.variable i kind) n4 n5 n6 = absurd (n6 refl)
-  plain-by Cell.absent n4 n5 n6 = refl
-  plain-by (Cell.list c) n4 n5 n6 = refl
+  plain-by Cell.empty n4 n5 n6 n9 = refl
+  plain-by (Cell.chain c item) n4 n5 n6 n9 = refl
+  plain-by (Cell.variant j c) n4 n5 n6 n9 = refl
+  plain-by (Cell.name place size) n4 n5 n6 n9 = absurd (n4 refl)
+  plain-by (Cell.number high low) n4 n5 n6 n9 = absurd (n5 refl)
+  plain-by (Cell.variable i kind) n4 n5 n6 n9 = absurd (n6 refl)
+  plain-by Cell.absent n4 n5 n6 n9 = refl
+  plain-by (Cell.list c) n4 n5 n6 n9 = refl
+  plain-by (Cell.declared depth index) n4 n5 n6 n9 = absurd (n9 refl)
 
   module _ (form a b : ℕ) where
     pub spelling-name : form ≡ 4 → spellingOf names text (cellOf form a b) ≡ partOf text a b
@@ -269,13 +275,18 @@ module _ (names : List Entry) (text : List ℕ) where
     unfolding plainBytes spellingOf
     plain-variable e = rw e
 
-    pub plain-absent : (form ≡ 4 → ⊥) → (form ≡ 5 → ⊥) → (form ≡ 6 → ⊥) →
+    pub plain-declared : form ≡ 9 → plainBytes names text (cellOf form a b) ≡ declaredBytes a b
+    unfolding plainBytes
+    plain-declared e = rw e
+
+    pub plain-absent : (form ≡ 4 → ⊥) → (form ≡ 5 → ⊥) → (form ≡ 6 → ⊥) → (form ≡ 9 → ⊥) →
         plainBytes names text (cellOf form a b) ≡ 45 ∷ []
-    plain-absent n4 n5 n6 =
+    plain-absent n4 n5 n6 n9 =
         plain-by (cellOf form a b)
         (form-not form a b 4 n4 (λ z. omega arith) (cellOf form a b) refl)
         (form-not form a b 5 n5 (λ z. omega arith) (cellOf form a b) refl)
         (form-not form a b 6 n6 (λ z. omega arith) (cellOf form a b) refl)
+        (form-not form a b 9 n9 (λ z. omega arith) (cellOf form a b) refl)
 
 -- ---- Whether a cell is a chain
 chain-by : (c : Cell) → (formOf c ≡ 2 → ⊥) → isChain c ≡ false
@@ -288,6 +299,7 @@ chain-by (Cell.number high low) n2 = refl
 chain-by (Cell.variable i kind) n2 = refl
 chain-by Cell.absent n2 = refl
 chain-by (Cell.list c) n2 = refl
+chain-by (Cell.declared depth index) n2 = refl
 
 module _ (numbers : List ℕ) (n form a b : ℕ) (is : cellOf form a b ≡ cellIn numbers n) where
   pub gap-variant : (32 ∷ []) ≡ gapBytes numbers false n
@@ -317,6 +329,7 @@ module _ (names : List Entry) (text numbers : List ℕ) where
   item-by n (Cell.variable i kind) n3 n8 = refl
   item-by n Cell.absent n3 n8 = refl
   item-by n (Cell.list c) n3 n8 = absurd (n8 refl)
+  item-by n (Cell.declared depth index) n3 n8 = refl
 
   trees-by : (n : ℕ) (c : Cell) → (formOf c ≡ 2 → ⊥) → treesIn (meaningBy text numbers n c) ≡ no-trees
   unfolding treesIn meaningBy formOf
@@ -328,6 +341,7 @@ module _ (names : List Entry) (text numbers : List ℕ) where
   trees-by n (Cell.variable i kind) n2 = refl
   trees-by n Cell.absent n2 = refl
   trees-by n (Cell.list c) n2 = refl
+  trees-by n (Cell.declared depth index) n2 = refl
 
   -- a list's items with one more: the first of all has no space before it
   one-more : (n : ℕ) (c : Cell) (p : List ℕ)
@@ -346,6 +360,7 @@ module _ (names : List Entry) (text numbers : List ℕ) where
   one-more n (Cell.variable i kind) p = refl
   one-more n Cell.absent p = refl
   one-more n (Cell.list c) p = refl
+  one-more n (Cell.declared depth index) p = refl
 
   after-items : (n : ℕ) (p : List ℕ)
       → drop 1 (spaced names (treesIn (stands text numbers n)) ++ (32 ∷ p))

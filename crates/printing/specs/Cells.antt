@@ -12,7 +12,7 @@ use Rattle.book.specs.Index.{bookIn}
 use Rattle.semantics.specs.Numbers.{half, absentForm}
 use Rattle.semantics.specs.Cells.{Cell, cellOf, cellsIn, Meaning, treeIn, treesIn, nthMeaning, meanings}
 use Rattle.cells.specs.declared.numbers.CellNumbers.{CellNumbers}
-use Rattle.printing.specs.Printing.{space, dollar, hyphen, decimal, printed, spaced}
+use Rattle.printing.specs.Printing.{space, dollar, hyphen, decimal, declaredBytes, printed, spaced}
 
 -- the names of the book that an index gives
 abbrev pub namesIn : Lent → Lent → List Entry
@@ -48,6 +48,7 @@ spellingOf names text (Cell.number high low) = []
 spellingOf names text (Cell.variable i kind) = nthEntry names i .spelling
 spellingOf names text Cell.absent = []
 spellingOf names text (Cell.list c) = []
+spellingOf names text (Cell.declared depth index) = []
 
 -- an item without items
 unfoldable pub plainBytes : List Entry → List ℕ → Cell → List ℕ
@@ -59,6 +60,7 @@ plainBytes names text (Cell.number high low) = decimal (high * half + low)
 plainBytes names text (Cell.variable i kind) = dollar ∷ nthEntry names i .spelling
 plainBytes names text Cell.absent = hyphen ∷ []
 plainBytes names text (Cell.list c) = hyphen ∷ []
+plainBytes names text (Cell.declared depth index) = declaredBytes depth index
 
 abbrev pub itemBytes : List Entry → List ℕ → List ℕ → ℕ → List ℕ
 itemBytes names text numbers n = printed names (treeIn (stands text numbers n))
@@ -78,6 +80,7 @@ isChain (Cell.number high low) = false
 isChain (Cell.variable i kind) = false
 isChain Cell.absent = false
 isChain (Cell.list c) = false
+isChain (Cell.declared depth index) = false
 
 -- what stands between the items of a chain and the next item
 abbrev pub gapBytes : List ℕ → Bool → ℕ → List ℕ

@@ -1,4 +1,5 @@
--- Document 01, "Printing", with the columns of document 02, a: the line for an answer, as a list of bytes.
+-- Document 01, "Printing", with the columns of document 02, a, and the declared variables of document 02, d: the line
+-- for an answer, as a list of bytes.
 use mathlib.Core.Bool.{Bool, true, false, cond, _||_}
 use mathlib.Core.List.{List, [], _∷_, _++_}
 use Prim.Native.Nat.{ℕ, zero, suc, _+_, _-_, _*_, _/_, _%_}
@@ -32,6 +33,10 @@ closeParenthesis = 41
 abbrev pub hyphen : ℕ
 hyphen = 45
 
+-- `.`
+abbrev pub dot : ℕ
+dot = 46
+
 -- `0`
 abbrev pub zeroDigit : ℕ
 zeroDigit = 48
@@ -55,6 +60,10 @@ abbrev pub decimal : ℕ → List ℕ
 decimal n = digits n n
 
 -- ---- A value
+-- a declared variable: "printed `$depth.index`" (document 02, d)
+abbrev pub declaredBytes : ℕ → ℕ → List ℕ
+declaredBytes depth index = dollar ∷ (decimal depth ++ (dot ∷ decimal index))
+
 unfoldable mutual
   -- "variant as `(number items)`, list `[items]`, one space before each item but a list's first, .. absent `-`,
   -- variable `$` and spelling"
@@ -65,6 +74,7 @@ unfoldable mutual
   printed names (Tree.number n) = decimal n
   printed names (Tree.variable i kind) = dollar ∷ nthEntry names i .spelling
   printed names Tree.absent = hyphen ∷ []
+  printed names (Tree.declared depth index) = declaredBytes depth index
   printed names (Tree.list items) = openBracket ∷ (drop 1 (spaced names items) ++ (closeBracket ∷ []))
 
   -- trees in order, a space before each

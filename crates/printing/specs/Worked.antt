@@ -1,5 +1,5 @@
 -- Lines for answers, worked out: rows 1 and 7 of document 01's table, cases of "Printing" that the table doesn't have,
--- and the columns of document 02, a.
+-- the columns of document 02, a, and a declared variable of document 02, d.
 use mathlib.Core.Path.{_≡_, refl, ap, _∙_}
 use mathlib.Core.List.{List, [], _∷_, _++_}
 use Prim.Native.Nat.{ℕ, zero, suc, _+_, _-_, _*_, _/_, _≤_, _<_}
@@ -134,3 +134,13 @@ cells-printed : lineBytes names (97 ∷ 98 ∷ []) numbers (answer 0 0 0 0 20 1 
     ∷ 55 ∷ 48 ∷ 57 ∷ 53 ∷ 53 ∷ 49 ∷ 54 ∷ 49 ∷ 53 ∷ 93 ∷ 32 ∷ 91 ∷ 93 ∷ 32 ∷ 45 ∷ 32 ∷ 36 ∷ 118 ∷ 41 ∷ 10 ∷ []
 unfolding names numbers lineBytes printed spaced digits cellsIn treeIn treesIn meaningOf meanings
 cells-printed = refl
+
+-- cells: a variant of a declared variable, whose binder is the 13th outwards and which is the fourth there
+declaredNumbers : List ℕ
+declaredNumbers = 1 ∷ 0 ∷ 0 ∷ 9 ∷ 12 ∷ 3 ∷ 2 ∷ 1 ∷ 2 ∷ 3 ∷ 0 ∷ 3 ∷ []
+
+-- "value (0 $12.3)"
+declared-printed : lineBytes [] [] declaredNumbers (answer 0 0 0 0 4 1 4)
+    ≡ 118 ∷ 97 ∷ 108 ∷ 117 ∷ 101 ∷ 32 ∷ 40 ∷ 48 ∷ 32 ∷ 36 ∷ 49 ∷ 50 ∷ 46 ∷ 51 ∷ 41 ∷ 10 ∷ []
+unfolding declaredNumbers lineBytes printed spaced digits cellsIn treeIn treesIn meaningOf meanings
+declared-printed = refl

@@ -36,7 +36,8 @@ pub fn older(n: u32, cell: u32) -> u32
     if cell < n { cell } else { 0 }
 }
 
-// The part of the text, or of the book, that a name or a variable is spelled by; of any other cell, nothing.
+// The part of the text, or of the book, that a name or a variable is spelled by; of any other cell, a declared variable
+// among them, nothing.
 pub fn spelling<'a>(book: &'a [u8], index: &[usize], text: &'a [u8], cell: CellNumbers) -> &'a [u8]
     ensures { λ r. ⌜ now r ≡ spellingOf (namesIn book index) (atEntry text)
         (cellOf (cell .form) (cell .a) (cell .b)) ⌝ }

@@ -1,5 +1,5 @@
 // The line for an answer: `value ` and the value, or `refused N place P kind K argument A line L column C`, and one
-// line feed. Document 01, "Printing", with the columns of document 02, a.
+// line feed. Document 01, "Printing", with the columns of document 02, a, and the declared variables of document 02, d.
 //
 // The line is `lineBytes` of specs/Printing.antt, for every book, index, text, list of cells and answer, also for cells
 // and answers that no run gives: what is no cell counts as absent. A value can be far longer than its cells, since a

@@ -2,6 +2,7 @@
 // turn back at once where the slice is full, so that no cell is looked at for nothing.
 ghost use Rattle.characters.specs.Slices.{atEntry};
 ghost use Rattle.semantics.specs.Cells.{cellOf};
+ghost use Rattle.printing.specs.Printing.{declaredBytes};
 ghost use Rattle.printing.specs.Laying.{Lays};
 ghost use Rattle.printing.specs.Cells.{namesIn, plainBytes, itemBytes, itemsBytes, gapBytes};
 use crate::cell::cell_at;
@@ -14,14 +15,27 @@ use crate::laying::is_full;
 use crate::laying::number;
 use cells::CHAIN_FORM;
 use cells::CellNumbers;
+use cells::DECLARED_FORM;
+use cells::DebruijnIndex;
 use cells::HALF;
 use cells::LIST_FORM;
 use cells::NAME_FORM;
 use cells::NUMBER_FORM;
 use cells::VARIABLE_FORM;
 use cells::VARIANT_FORM;
+use cells::VarIndex;
 
-// An item that has no items itself: a name, a number, a variable, or absent.
+// A declared variable, `$depth.index`.
+fn declared(out: &mut [u8], at: Laid, depth: DebruijnIndex, index: VarIndex) -> Laid
+    ensures { λ r. ⌜ Lays at out (declaredBytes (depth .0) (index .0)) r ⌝ }
+{
+    let marked = byte(out, at, b'$');
+    let outwards = number(out, marked, depth.0 as u64);
+    let dotted = byte(out, outwards, b'.');
+    number(out, dotted, index.0 as u64)
+}
+
+// An item that has no items itself: a name, a number, a variable, a declared one, or absent.
 fn plain<'a>(
     book: &'a [u8],
     index: &[usize],
@@ -42,6 +56,9 @@ fn plain<'a>(
     if cell.form == VARIABLE_FORM {
         let next = byte(out, at, b'$');
         return bytes(out, next, spelling(book, index, text, cell));
+    }
+    if cell.form == DECLARED_FORM {
+        return declared(out, at, DebruijnIndex(cell.a), VarIndex(cell.b));
     }
     byte(out, at, b'-')
 }

@@ -5,7 +5,7 @@ use Prim.Native.Nat.{ℕ}
 use borrow.Author.Needs.{needs}
 use Rattle.book.specs.Index.{bookIn}
 use Rattle.printing.specs.LayingLaws.{lays-then, lays-as}
-use Rattle.printing.specs.CellLaws.{plain-number, plain-name, plain-variable, plain-absent}
+use Rattle.printing.specs.CellLaws.{plain-number, plain-name, plain-variable, plain-declared, plain-absent}
 use Rattle.printing.proofs.value.plain.Statement.{statement}
 use Rattle.printing.proofs.value.plain.Tie as tie
 
@@ -48,16 +48,31 @@ returns-3 c =
 
 returns-4 : tie.Need-returns-4
 returns-4 c =
+    let declared = c .before .before .declared in
+    let if4 = c .before .before .before .before .if4 in
+    let at-if4 = c .before .before .before .before in
+    let args =
+    at-if4 .before .before .before .before .before .before .before .before .before .before .before .before .args in
+    let cell = args .cell in
+    let names = bookIn (args .book .now) (args .index .now) .names in
+    lays-as (declared .ensures)
+    (sym (plain-declared names (args .text .now) (cell .form) (cell .a) (cell .b) (if4 .taken)))
+
+returns-5 : tie.Need-returns-5
+returns-5 c =
     let byte2 = c .before .before .byte2 in
-    let if3 = c .before .before .before .before .if3 in
-    let if2 = c .before .before .before .before .before .before .if2 in
-    let if1 = c .before .before .before .before .before .before .before .before .if1 in
-    let at-if1 = c .before .before .before .before .before .before .before .before in
+    let if4 = c .before .before .before .before .if4 in
+    let if3 = c .before .before .before .before .before .before .if3 in
+    let if2 = c .before .before .before .before .before .before .before .before .if2 in
+    let if1 = c .before .before .before .before .before .before .before .before .before .before .if1 in
+    let at-if1 = c .before .before .before .before .before .before .before .before .before .before in
     let args = at-if1 .before .before .before .before .before .before .args in
     let cell = args .cell in
     let names = bookIn (args .book .now) (args .index .now) .names in
     lays-as (byte2 .ensures)
-    (sym (plain-absent names (args .text .now) (cell .form) (cell .a) (cell .b) (if2 .left) (if1 .left) (if3 .left)))
+    (sym
+    (plain-absent names (args .text .now) (cell .form) (cell .a) (cell .b)
+    (if2 .left) (if1 .left) (if3 .left) (if4 .left)))
 
 pub plain-spec : {M : Type 1} → statement M
 plain-spec =
@@ -66,4 +81,4 @@ plain-spec =
     (λ c. search needs) (λ c. search needs) (λ c. search needs) (λ c. search needs) (λ c κs. search needs)
     (λ c. search needs) returns (λ c κs. search needs) (λ c κs. search needs) (λ c. search needs) returns-2
     (λ c κs. search needs) (λ c κs. search needs) (λ c κs. search needs) (λ c. search needs) returns-3
-    (λ c κs. search needs) (λ c. search needs) returns-4)
+    (λ c κs. search needs) (λ c. search needs) returns-4 (λ c κs. search needs) (λ c. search needs) returns-5)
