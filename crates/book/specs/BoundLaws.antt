@@ -174,7 +174,8 @@ module _ (some bytes : List ℕ) (agree : Agree some bytes) (small : Bytes bytes
   unfolding variant
   variant-alike binder first place m h l =
       then-alike Any (λ (x : ℕ × Variant). x .0 ≤ longest) m m (variant binder first some place)
-      (variant binder first bytes place) _ _ (field-alike _ place (place + 1) m _ _ (omega arith) (omega arith) (λ a p p-low.
+      (variant binder first bytes place) _ _
+      (field-alike _ place (place + 1) m _ _ (omega arith) (omega arith) (λ a p p-low.
       field-alike _ p (place + 2) m _ _ (omega arith) (omega arith) (λ b q q-low.
       field-alike _ q (place + 3) m _ _ (omega arith) (omega arith) (λ c r r-low.
       field-alike _ r m m _ _ (omega arith) (omega arith) (λ d end high. read tt high refl)))))

@@ -1,6 +1,6 @@
 -- Document 01, "The book" and refusals 3 to 8 of "The answer": the check of a book, "byte by byte forward, a bad byte
--- before a missing one"; and what document 02 d asks of the records of a binder. Numbers.antt names the refusals and the
--- limits.
+-- before a missing one"; and what document 02 d asks of the records of a binder. Numbers.antt names the refusals and
+-- the limits.
 use mathlib.Core.Bool.{Bool, false, cond, not, _&&_, _||_}
 use mathlib.Core.List.{List, [], _∷_, map}
 use Prim.Native.Nat.{ℕ, zero, suc, _+_, _%_}
@@ -107,8 +107,8 @@ entry greatest = do
   bytes ← spelling
   give (record { label = label; spelling = bytes })
 
--- ---- Records of a binder. Document 02 d: "A mark-3 nonterminal has one variant, bytes 255, 3, 1, 1, with a step of kind
--- 14: body, opening, closing; anything else there, or kind 14 elsewhere, gives 6"
+-- ---- Records of a binder. Document 02 d: "A mark-3 nonterminal has one variant, bytes 255, 3, 1, 1, with a step of
+-- kind 14: body, opening, closing; anything else there, or kind 14 elsewhere, gives 6"
 -- a binder's byte is n; elsewhere the byte passes a test
 abbrev pub fixed : Bool → ℕ → (ℕ → Bool) → ℕ → Bool
 fixed binder n fits b = cond binder (eqb b n) (fits b)

@@ -155,8 +155,8 @@ module _ (sort : Sort) (book : List ℕ) (place count base : ℕ) (f : List ℕ)
         let v : value ≡ sizeOf sort x = value-of told (sizeOf sort x) (o .valued sum) in
         record {
           reads = rw (one-more, v)
-              (sym (records-on (sizeOf sort) (eachOf sort book f) book (recordsIn sort book g base i) count i sum at less
-              e)
+              (sym (records-on (sizeOf sort) (eachOf sort book f) book (recordsIn sort book g base i) count i sum at
+              less e)
               ∙ b .reads);
           totals = rw (one-more, total-snoc (sizeOf sort) (recordsIn sort book g base i) x, v, b .totals);
           kept = kept-so;
@@ -169,8 +169,8 @@ module _ (sort : Sort) (book : List ℕ) (place count base : ℕ) (f : List ℕ)
         let e = rw own at (stopped (oneOf sort binder sum book at) part (λ v. x) (o .reads sum) told) in
         record {
           reads = handed _ (sym (b .reads)
-              ∙ records-refused (sizeOf sort) (eachOf sort book f) book (recordsIn sort book g base i) count i sum at less
-              e) told;
+              ∙ records-refused (sizeOf sort) (eachOf sort book f) book (recordsIn sort book g base i) count i sum at
+              less e) told;
           valued = no-value told _;
           kept = kept-so;
         }

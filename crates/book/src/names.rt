@@ -1,5 +1,5 @@
-// Words and starting names by their numbers, whether a spelling is reserved, which starting name it is, and which kind's
-// word.
+// Words and starting names by their numbers, whether a spelling is reserved, which starting name it is, and which
+// kind's word.
 ghost use mathlib.Core.Path.{_≡_};
 ghost use mathlib.Core.List.{List};
 ghost use Prim.Native.Nat.{ℕ, _+_, _≤_};

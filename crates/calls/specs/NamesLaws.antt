@@ -25,8 +25,8 @@ use Rattle.book.specs.declared.names.Found.{Found}
 use Rattle.semantics.specs.Uses.{Path, scopeOf}
 use Rattle.semantics.specs.Tokens.{Item, Variable, variableIn, isSome}
 use Rattle.semantics.specs.Run.{declaredNames}
-use Rattle.run_model.specs.Rows.{Row, noRow, rowOf, isBody, entryAt, namesAbove, behindNames, withinRow, pathFrom, pathOf}
-use Rattle.run_model.specs.Rows.{pathAt, scopeAt}
+use Rattle.run_model.specs.Rows.{Row, noRow, rowOf, isBody, entryAt, namesAbove, behindNames, withinRow, pathFrom}
+use Rattle.run_model.specs.Rows.{pathOf, pathAt, scopeAt}
 use Rattle.calls.specs.TableLaws.{row-past}
 use Rattle.calls.specs.Names.{openBinder, nameCount, depthPast, nameIn, ownName}
 
@@ -214,8 +214,8 @@ module _ (text : List ℕ) (T : List Row) (wanted : List ℕ) where
 
 -- ---- How many names there are
 module _ (text : List ℕ) (T : List Row) where
-  -- so many names were counted up to the call of row i, whose binder is b; with those from there on they are the names in
-  -- the scope of the use at row c with binder a
+  -- so many names were counted up to the call of row i, whose binder is b; with those from there on they are the names
+  -- in the scope of the use at row c with binder a
   abbrev pub Counting : ℕ → ℕ → ℕ → ℕ → ℕ → Type 0
   Counting c a i b count =
       count + declaredNames (scopeOf (pathAt text T i b)) ≡ declaredNames (scopeOf (pathAt text T c a))

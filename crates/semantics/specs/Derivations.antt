@@ -14,7 +14,8 @@ use Rattle.book.specs.declared.records.Step.{Step}
 use Rattle.book.specs.Numbers.{defaultLevel}
 use Rattle.semantics.specs.Values.{Tree, Trees, no-trees, _▸_, variant, name, number, variable, declared}
 use Rattle.semantics.specs.Values.{absent, list, Parse}
-use Rattle.semantics.specs.Uses.{Path, scopeOf, within, behind, useOf, hasMark, minimum, same-start, governor, keeps}
+use Rattle.semantics.specs.Uses.{useOf, hasMark, within, behind, Path, scopeOf, minimum, same-start, governor}
+use Rattle.semantics.specs.Uses.{keeps}
 use Rattle.semantics.specs.Tokens.{Item, Read, characterEnd, freeEnd, spelled, claimed, declarationAt}
 use Rattle.semantics.specs.Steps.{Taken, stepAt, goes, halts, afterElement, closed, Todo, taking, elements}
 use Rattle.semantics.specs.Steps.{ending, naming, closing, todoOf}

@@ -65,8 +65,8 @@ module _ (book : Book) (text : List ℕ) where
       (λ _. when (reservedAt book text at) (λ _. error at reservedFound 0)
       (λ _. elim (identifierEnd text at) [ some end ↦ other | none ↦ error at identifierWanted 0 ]))
 
-  -- a declared name was wanted: "a call of a committed variant .. (its error 11 has argument 32 ..)"; behind the word of
-  -- its kind an identifier, as in kind 2, and that error counts, since more than skipped text lies between
+  -- a declared name was wanted: "a call of a committed variant .. (its error 11 has argument 32 ..)"; behind the word
+  -- of its kind an identifier, as in kind 2, and that error counts, since more than skipped text lies between
   unfoldable pub declarationError : ℕ → Error
   declarationError at =
       elim (kindAt book text at) [

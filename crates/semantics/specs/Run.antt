@@ -396,8 +396,8 @@ module _ (book : Book) (text : List ℕ) (inner : Option Runner) where
       make text Cell.empty s >>= (λ e. choice c j comma M (e .cell) close rest go x items set (e .state))
 
   -- ---- Binders
-  -- the item in front of a body, then the body, behind its opening or behind none: 41 "when a body's scope opens, before
-  -- the body's unit"
+  -- the item in front of a body, then the body, behind its opening or behind none: 41 "when a body's scope opens,
+  -- before the body's unit"
   unfoldable pub bodyAfter : Option (List Entry) → Call → ℕ → ℕ → ℕ → List (Todo ℕ) → Go
   bodyAfter opening c j M item rest x items set s₀ = do
     m ← withCell book text j items item s₀

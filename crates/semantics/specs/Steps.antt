@@ -32,8 +32,8 @@ pub data Taken : Type 0 where
   list : Bool → ℕ → Option ℕ → ℕ → Taken
   -- kind 13 without its opening: the empty list, at a place
   unopened : ℕ → Taken
-  -- document 02 d, kind 14: names begin, up to a closing, for a body of a nonterminal, at a place; without the opening, "the body
-  -- alone"
+  -- document 02 d, kind 14: names begin, up to a closing, for a body of a nonterminal, at a place; without the
+  -- opening, "the body alone"
   names : ℕ → ℕ → ℕ → Taken
   body : ℕ → Taken
   -- no such token, or no opening of kind 12

@@ -103,8 +103,8 @@ module _ (book : Book) (text : List ℕ) where
   abbrev pub claimed : Path → ℕ → Bool
   claimed path u = isSome (variableAt (scopeOf path) u) && hasClaimant path u
 
-  -- ---- Declared names. Document 02 d: "A declared name is the word whose number is its kind, 0 to 7 (the least if alike), then an
-  -- identifier"
+  -- ---- Declared names. Document 02 d: "A declared name is the word whose number is its kind, 0 to 7 (the least if
+  -- alike), then an identifier"
   -- the kind's word at a place, reserved or not
   unfoldable pub kindAt : ℕ → Option (Read ℕ)
   kindAt at =

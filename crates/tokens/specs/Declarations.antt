@@ -70,5 +70,5 @@ module _ (book : Book) (text : List ℕ) (at : ℕ) where
         Declares book text at (Declaration.Name kind place after)
     unfolding declarationAt nameOfKind namePlace
     declares-name after f =
-        subst (λ p. freeEnd book text p ≡ some after → Declares book text at (Declaration.Name kind p after)) (sym skips)
-        (λ g. (rw (there, declarationAt, g, nameOfKind), rw (there, namePlace))) f
+        subst (λ p. freeEnd book text p ≡ some after → Declares book text at (Declaration.Name kind p after))
+        (sym skips) (λ g. (rw (there, declarationAt, g, nameOfKind), rw (there, namePlace))) f
