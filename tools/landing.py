@@ -20,7 +20,7 @@ ROOT = os.path.dirname(os.path.dirname(os.path.abspath(__file__)))
 KINDS = ["definitions", "laws", "worked answers", "code", "proofs"]
 FATES = ["changed", "added", "removed", "untouched"]
 LAWS = re.compile(r"Laws\b|Laws/|Theorem|run_model/specs/(Keeps|Sim|Views)")
-WORKED = re.compile(r"specs/(ExampleBook|ExtensionExample|ReservedNameExample|Worked|Cases)\.antt$")
+WORKED = re.compile(r"specs/(ExampleBook|ExtensionExample|ReservedNameExample|DeclaredNameExample|Worked|Cases)\.antt$")
 
 
 def git(*words):

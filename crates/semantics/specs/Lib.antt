@@ -17,6 +17,7 @@ pub mod ExampleBook
 pub mod ReservedNames
 pub mod ReservedNameLaws
 pub mod ReservedNameExample
+pub mod DeclaredNameExample
 pub mod Exact
 pub mod Extension
 pub mod ExtensionExample
