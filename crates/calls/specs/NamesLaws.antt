@@ -122,29 +122,32 @@ module _ (text : List ℕ) (T : List Row) (wanted : List ℕ) where
   abbrev pub Looking : ℕ → ℕ → ℕ → ℕ → Type 0
   Looking c m i n = lookupName (namesAbove text T n i) wanted ≡ lookupName (namesAbove text T m c) wanted
 
-  module _ (c m i n : ℕ) (s : Looking c m i n) (h : 0 < n) (t : Bool)
-      (e : t ≡ same wanted (entryAt text (rowOf T (i + 1)) .spelling)) where
+  -- the nearest of them, in row j
+  module _ (c m i n : ℕ) (s : Looking c m i n) (h : 0 < n) (j : ℕ) (ej : j ≡ i + 1) (t : Bool)
+      (e : t ≡ same wanted (entryAt text (rowOf T j) .spelling)) where
     one-less : lookupName (namesAbove text T n i) wanted
-        ≡ cond t (Found.Name (n - 1) (rowOf T (i + 1) .kind))
-        (lookupName (namesAbove text T (n - 1) (i + 1)) wanted)
+        ≡ cond t (Found.Name (n - 1) (rowOf T j .kind)) (lookupName (namesAbove text T (n - 1) j) wanted)
     one-less =
         let f : n ≡ suc (n - 1) = omega arith in
-        let g : i + 1 ≡ suc i = omega arith in
+        let g : j ≡ suc i = omega arith in
         let z : 0 + (n - 1) ≡ n - 1 = omega arith in
         ap (λ n. lookupName (namesAbove text T n i) wanted) f
         ∙ nearest Found.Nothing 0 (n - 1) i ∙ rw (e, g, z)
 
-    looking-hit : t ≡ true → Found.Name (n - 1) (rowOf T (i + 1) .kind) ≡ lookupName (namesAbove text T m c) wanted
+    looking-hit : t ≡ true → Found.Name (n - 1) (rowOf T j .kind) ≡ lookupName (namesAbove text T m c) wanted
     looking-hit y = sym (one-less ∙ rw y) ∙ s
 
-    pub looking-on : t ≡ false → Looking c m (i + 1) (n - 1)
-    looking-on y = sym (one-less ∙ rw y) ∙ s
-
-    pub looking-name : t ≡ true → (d kind : ℕ) → kind ≡ rowOf T (i + 1) .kind →
+    pub looking-name : t ≡ true → (d kind : ℕ) → kind ≡ rowOf T j .kind →
         some (record { kind = kind; item = Item.declared d (n - 1) })
         ≡ nameIn d (lookupName (namesAbove text T m c) wanted)
     unfolding nameIn
     looking-name y d kind f = rw f (ap (nameIn d) (looking-hit y))
+
+    pub looking-on : t ≡ false → (k : ℕ) → j ≡ k → Looking c m k (n - 1)
+    looking-on y k f =
+        let less : lookupName (namesAbove text T n i) wanted ≡ lookupName (namesAbove text T (n - 1) j) wanted =
+        one-less ∙ rw y in
+        rw f at (sym less ∙ s)
 
   pub looking-none : (c m i n d : ℕ) → Looking c m i n → n ≤ 0 →
       none ≡ nameIn d (lookupName (namesAbove text T m c) wanted)

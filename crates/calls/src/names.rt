@@ -4,7 +4,7 @@
 // the nearest row. So the first equal name that is found is the one.
 ghost use mathlib.Core.Path.{_≡_};
 ghost use mathlib.Core.List.{List, []};
-ghost use Prim.Native.Nat.{ℕ, _≤_};
+ghost use Prim.Native.Nat.{ℕ, _+_, _-_, _≤_};
 ghost use denote.Ref.{now};
 ghost use Rattle.characters.specs.Slices.{atEntry};
 ghost use Rattle.characters.specs.Spelling.{partOf};
@@ -96,7 +96,16 @@ fn depth_past(binder: u32, depth: u32) -> u32
     if binder < BODY { depth } else { depth + 1 }
 }
 
-// Which name of the call's own opening a part of the text is: of equal ones the last, which is nearest.
+// The row of a name of the opening behind which the call of a row is the body: the last is nearest.
+fn name_row(row: usize, count: u32, name: u32) -> usize
+    requires { ⌜ (row ≤ mostNesting) × (name ≤ count) ⌝ }
+    ensures { λ r. ⌜ r ≡ row + (count - name) ⌝ }
+{
+    let behind = count - name;
+    row + behind as usize
+}
+
+// Which name of the call's own opening a part of the text is: of equal ones the last.
 fn own_name(
     text: &[u8],
     rows: &[u32],
@@ -111,18 +120,19 @@ fn own_name(
         (partOf (atEntry text) start size) ⌝ }
 {
     let wanted = part(text, start, size);
-    let mut left = name_count(binder);
-    let mut above = row;
+    let count = name_count(binder);
+    let mut left = count;
     while 0 < left {
-        left -= 1;
-        above += 1;
+        let last = left - 1;
+        let above = name_row(row, count, last);
         if same_bytes(wanted, spelling(text, rows, above)) {
             return Declared::Name {
                 depth: DebruijnIndex(depth),
-                index: VarIndex(left),
+                index: VarIndex(last),
                 kind: number(rows, above, KIND),
             };
         }
+        left -= 1;
     }
     Declared::Nothing
 }
