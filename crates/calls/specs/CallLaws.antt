@@ -193,7 +193,8 @@ governor-above T n b N u g room e = body (isBody b) (sym (ap rowIn e))
         (n < g) × (g ≤ 200)
     by true s f q = absurd (omega (arith, q))
     by false true f q =
-        (omega (arith, newest-above T N u (200 - n) (suc n) (omega arith), q), omega (arith, ltb-false 200 x (sym f), q))
+        let above = newest-above T N u (200 - n) (suc n) (omega arith) in
+        (omega (arith, above, q), omega (arith, ltb-false 200 x (sym f), q))
     by false false f q = absurd (omega (arith, q))
 
     body : (w : Bool) → rowIn (governorAt T u (inScope w x)) ≡ suc g → (n < g) × (g ≤ 200)

@@ -4,7 +4,8 @@
 -- - rows that stay
 -- - the table: table-length, table-below, table-read, table-change
 -- - a row after a change of a part of it: row-field, row-set, row-run
--- - the same on the table: table-field, table-get, row-past, table-past, get-past, read-set, read-run, table-set, table-run
+-- - the same on the table: table-field, table-get, row-past, table-past, get-past, read-set, read-run, table-set,
+--   table-run
 -- - sets that grow: run-added, run-joined, kept-law, set-one
 use mathlib.Core.Path.{_≡_, refl, sym, ap, _∙_}
 use mathlib.Core.Bool.{Bool, true, false, cond}

@@ -2,8 +2,8 @@
 //
 // The slice is a table of 201 rows, one for each level of nesting, of 525 numbers each. A row's number is the levels of
 // nesting left: the outermost call has row 200. A row is eleven numbers (live, nonterminal, binder, start, level,
-// associativity, child, asked, and the kind, place and size of the name that is declared at the level) and two sets: what
-// the call has stored or found, and what the run at hand has found. Every slice of 105,525 numbers gives a table
+// associativity, child, asked, and the kind, place and size of the name that is declared at the level) and two sets:
+// what the call has stored or found, and what the run at hand has found. Every slice of 105,525 numbers gives a table
 // (`table` of specs/Table.antt), so nothing needs to be cleared: a row is written before it is read.
 //
 // A call's binder says what it has to do with openings that were read: 0, none is around it; 1, one is; n + 2, the call

@@ -137,8 +137,8 @@ fn own_name(
     Declared::Nothing
 }
 
-// Which declared name a part of the text is, for a use in a row and with a binder. Where no opening is around it, no row
-// is looked at.
+// Which declared name a part of the text is, for a use in a row and with a binder. Where no opening is around it, no
+// row is looked at.
 pub fn declared_at(
     text: &[u8],
     rows: &[u32],

@@ -90,7 +90,8 @@ module _ (book : Book) (text store₀ store₁ store₂ rows rows′ : List ℕ)
       ap seen (ran .is)
       ∙ ap (λ (cells : List Cell). seen (enterRows book text (runnerRows book text 200) 200 0 start first
       (rowState units cells (table rows)))) (no-cells store₁) ∙ ap
-      (λ (u : ℕ). seen (enterRows book text (runnerRows book text 200) 200 0 start u (rowState units [] (table rows)))) e
+      (λ (u : ℕ).
+      seen (enterRows book text (runnerRows book text 200) 200 0 start u (rowState units [] (table rows)))) e
       ∙ sym (rows-run book text units start (table rows) (table-length rows))
 
   pub run-is : Cleared store₀ store₁ → 17408 ≤ length store₀ → first ≡ skipFrom text 0 →

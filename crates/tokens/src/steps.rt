@@ -104,7 +104,8 @@ fn bare(next: usize) -> Taken
 }
 
 fn character(text: &[u8], a: u32, x: usize) -> Taken
-    ensures { λ r. ⌜ ((book : Book) (scope : Scope) → takenOf r ≡ stepAt book (atEntry text) scope (Step.Character a) x) ⌝ }
+    ensures { λ r. ⌜ ((book : Book) (scope : Scope) →
+        takenOf r ≡ stepAt book (atEntry text) scope (Step.Character a) x) ⌝ }
 {
     let End::At(end) = character_end(text, a, x) else {
         return Taken::Nothing;
@@ -128,7 +129,8 @@ fn word_at(book: &[u8], index: &[usize], text: &[u8], a: u32, x: usize) -> Taken
 }
 
 fn identifier(book: &[u8], index: &[usize], text: &[u8], x: usize) -> Taken
-    ensures { λ r. ⌜ ((scope : Scope) → takenOf r ≡ stepAt (bookAt book index) (atEntry text) scope Step.Identifier x) ⌝ }
+    ensures { λ r. ⌜ ((scope : Scope) →
+        takenOf r ≡ stepAt (bookAt book index) (atEntry text) scope Step.Identifier x) ⌝ }
 {
     let at = skip(text, x);
     let End::At(end) = free_end(book, index, text, at) else {
@@ -264,7 +266,8 @@ fn reject_variable(
 }
 
 fn reject_reserved(book: &[u8], index: &[usize], text: &[u8], x: usize) -> Taken
-    ensures { λ r. ⌜ ((scope : Scope) → takenOf r ≡ stepAt (bookAt book index) (atEntry text) scope Step.RejectReserved x) ⌝ }
+    ensures { λ r. ⌜ ((scope : Scope) →
+        takenOf r ≡ stepAt (bookAt book index) (atEntry text) scope Step.RejectReserved x) ⌝ }
 {
     let at = skip(text, x);
     if reserved_at(book, index, text, at) {
@@ -421,7 +424,8 @@ fn identifier_error(book: &[u8], index: &[usize], text: &[u8], at: u32, other: E
 
 // Digits were wanted, or the number is too large; where a number is, this isn't asked for.
 fn number_error(text: &[u8], at: u32) -> Error
-    ensures { λ r. ⌜ ((book : Book) (scope : Scope) → errorOf r ≡ stepError book (atEntry text) scope Step.Number at) ⌝ }
+    ensures { λ r. ⌜ ((book : Book) (scope : Scope) →
+        errorOf r ≡ stepError book (atEntry text) scope Step.Number at) ⌝ }
 {
     let place = at as usize;
     if place == text.len() {
@@ -436,7 +440,8 @@ fn number_error(text: &[u8], at: u32) -> Error
 
 // No variable: no identifier, a reserved word, or an unknown name.
 fn variable_error(book: &[u8], index: &[usize], text: &[u8], at: u32) -> Error
-    ensures { λ r. ⌜ ((scope : Scope) → errorOf r ≡ stepError (bookAt book index) (atEntry text) scope Step.Variable at) ⌝ }
+    ensures { λ r. ⌜ ((scope : Scope) →
+        errorOf r ≡ stepError (bookAt book index) (atEntry text) scope Step.Variable at) ⌝ }
 {
     identifier_error(book, index, text, at, error_at(at, UNKNOWN_NAME, 0))
 }

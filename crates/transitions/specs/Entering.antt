@@ -63,7 +63,8 @@ pub record Opens (book : Book) (text before after : List ℕ) (T U : List Row) (
   pub does : Held text before (s .cells) → Entering book text after U n b N u e
       (let t = rowState (s .units) (cellsOf before (s .cells)) T in
       nestedRows book text (runnerRows book text n) n t (λ run.
-      when (hasMark book 2 N) (λ _. runIdentifierRows book text n b N u t) (λ _. runCallRows book text run n b N u m t)))
+      when (hasMark book 2 N) (λ _. runIdentifierRows book text n b N u t)
+      (λ _. runCallRows book text run n b N u m t)))
   -- a use that is to be run has a level of nesting left
   pub above : e .runs ≡ true → 0 < n
 

@@ -95,8 +95,8 @@ module _ (book : Book) (text : List ℕ) (T : List Row) (n b u : ℕ) (v : Varia
   claimed-nothing h = rw (← e, sym f ∙ h)
 
 -- ---- A use of mark 2
-module _ (book : Book) (text store : List ℕ) (T T1 T2 : List Row) (n b N u : ℕ) (s : State) (t : Bool) (l : n < length T)
-    (e1 : T1 ≡ onRow T n (withSet [])) (e2 : T2 ≡ onRow T1 n ended) (et : t ≡ claimedRows book text T2 n b u) where
+module _ (book : Book) (text store : List ℕ) (T T1 T2 : List Row) (n b N u : ℕ) (s : State) (t : Bool)
+    (l : n < length T) (e1 : T1 ≡ onRow T n (withSet [])) (e2 : T2 ≡ onRow T1 n ended) (et : t ≡ claimedRows book text T2 n b u) where
   cleared : T2 ≡ onRow T n (λ r. ended (withSet [] r))
   cleared = then-row T T1 T2 n (withSet [] (rowOf T n)) ended l e1 e2
 
@@ -145,7 +145,8 @@ module _ (book : Book) (text store : List ℕ) (T T1 T2 : List Row) (n b N u : �
     named-from cells = identifier-from cells (some end) (rw h (sym (ap endOf en) ∙ ex))
 
     pub identifier-full : (o : outcomes.Outcome) → (m .limit ≡ 0 → ⊥) → o ≡ withoutFailure (m .limit) (m .state) →
-        Runs text store (s .cells) after T2 o (λ cells. runIdentifierRows book text n b N u (rowState (s .units) cells T))
+        Runs text store (s .cells) after T2 o
+        (λ cells. runIdentifierRows book text n b N u (rowState (s .units) cells T))
     unfolding namedRows
     identifier-full o k eo =
         λ held.
@@ -165,7 +166,8 @@ module _ (book : Book) (text store : List ℕ) (T T1 T2 : List Row) (n b N u : �
         U ≡ onRow T2 n
         (withSet (record { rest = end; level = 255; associativity = Associativity.Both; value = m .cell } ∷ [])) →
         o ≡ doneWith Failure.None (m .state) →
-        Runs text store (s .cells) after U o (λ cells. runIdentifierRows book text n b N u (rowState (s .units) cells T))
+        Runs text store (s .cells) after U o
+        (λ cells. runIdentifierRows book text n b N u (rowState (s .units) cells T))
     unfolding namedRows
     identifier-named U o k eu eo =
         λ held.
@@ -237,7 +239,8 @@ module _ (book : Book) (text : List ℕ) (n b N u m : ℕ) (s : State) (e : Ente
 
   pub opens-identifier : (before after : List ℕ) (T U : List Row) (t : Bool) (o : outcomes.Outcome) → (n ≡ 0 → ⊥) →
       t ≡ hasMark book 2 N → t ≡ true →
-      Runs text before (s .cells) after U o (λ cells. runIdentifierRows book text n b N u (rowState (s .units) cells T)) →
+      Runs text before (s .cells) after U o
+      (λ cells. runIdentifierRows book text n b N u (rowState (s .units) cells T)) →
       e ≡ ends o → Opens book text before after T U n b N u m s e
   unfolding nestedRows
   opens-identifier before after T U t o h eb y runs ee =
@@ -301,8 +304,8 @@ module _ (book : Book) (text : List ℕ) (T : List Row) (n b N u : ℕ) (s : Sta
       rw eg (sym (bind-ok _ left))
 
   pub enters-stored : (store : List ℕ) (U : List Row) (r : Governor) (g : ℕ) (o : outcomes.Outcome) → spent .limit ≡ 0 →
-      governorIn r ≡ governorOf T n b N u → r ≡ Governor.SameStart g → Stores T U g n N u (spent .state) o → e ≡ ends o →
-      BeginsUse book text store store T U n b N u s e
+      governorIn r ≡ governorOf T n b N u → r ≡ Governor.SameStart g → Stores T U g n N u (spent .state) o →
+      e ≡ ends o → BeginsUse book text store store T U n b N u s e
   enters-stored store U r g o h er eg stores ee =
       let cells = cellsOf store (s .cells) in
       record {

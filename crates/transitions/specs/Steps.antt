@@ -139,7 +139,8 @@ pub record StagedAt (book : Book) (text store : List ℕ) (T : List Row) (c j : 
 abbrev pub StagedIn : Book → List ℕ → List ℕ → State → List ℕ → List Row → ℕ → ℕ → Stage → ModelPart → Type 0
 StagedIn book text before s after T c j g z =
     Held text before (s .cells) →
-    StagedAt book text after T c j (g .outcome) (g .doing) (g .place) (g .items) (s .units) (cellsOf before (s .cells)) z
+    StagedAt book text after T c j (g .outcome) (g .doing) (g .place) (g .items) (s .units)
+    (cellsOf before (s .cells)) z
 
 abbrev pub ReachedFrom : Book → List ℕ → List ℕ → State → List ℕ → ℕ → Reached → ModelPart → Type 0
 ReachedFrom book text before s after j g z =

@@ -637,7 +637,8 @@ left-recursion·run-call-returns-2 t c =
     c .before .before .before .before .before .before .before .before .before .before .before .before .after-first in
     let if1 = c .before .before .before .before .before .before .before .if1 in
     let rounds = c .before .before .before .before .rounds in
-    run-call-rounds _ _ _ _ _ _ _ _ _ _ _ _ _ _ _ _ _ (open-call .ensures) (one-run .ensures) (after-first .ensures) _ _ _
+    run-call-rounds _ _ _ _ _ _ _ _ _ _ _ _ _ _ _ _ _ (open-call .ensures) (one-run .ensures) (after-first .ensures) _
+    _ _
     (not-false _ (if1 .left)) (rounds .ensures)
 
 parser·choice-first-side-requires : (t : ℕ) →
@@ -745,7 +746,8 @@ parser·descend-begin-child-requires t c κs =
 parser·descend-enter-requires : (t : ℕ) →
     parser·descend-lts.Need-enter-requires (parser·descend-callees t) (parser·descend-at t) parser·descend.Post
 parser·descend-enter-requires t c κs =
-    let start = c .before .before .before .before .before .before .before .before .before .before .before .before .before in
+    let start = c .before .before .before .before .before .before .before .before .before .before .before .before
+    .before in
     let begin-child = c .before .before .before .before .begin-child in (
       omega (arith, start .pre .0),
       (start .pre .1 .0, omega (arith, start .pre .1 .1, begin-child .kept .1 .0), start .pre .1 .2),
@@ -754,7 +756,8 @@ parser·descend-enter-requires t c κs =
 parser·descend-follow-requires : (t : ℕ) →
     parser·descend-lts.Need-follow-requires (parser·descend-callees t) (parser·descend-at t) parser·descend.Post
 parser·descend-follow-requires t c κs =
-    let start = c .before .before .before .before .before .before .before .before .before .before .before .before .before
+    let start = c .before .before .before .before .before .before .before .before .before .before .before .before
+    .before
     .before .before .before .before .before .before .before in
     let begin-child =
     c .before .before .before .before .before .before .before .before .before .before .before .begin-child in
@@ -1282,7 +1285,8 @@ parser·steps-add-step : (t : ℕ) →
     parser·steps-lts.Need-add-step (parser·steps-callees t) (parser·steps-at t) parser·steps.Post
     parser·steps-Inv-loop parser·steps-μ-loop
 parser·steps-add-step t c =
-    let start = c .before .before .before .before .before .before .before .before .before .before .before .before .before
+    let start = c .before .before .before .before .before .before .before .before .before .before .before .before
+    .before
     .before .before .before in
     let loop = c .before .before .before .before .before .before .before .before .before .before .loop in
     let if2 = c .before .before .before .before .before .if2 in
@@ -1591,7 +1595,8 @@ pub +left-recursion·enter+left-recursion·rounds+left-recursion·run-call+parse
     (parser·choice-descend-requires t) (parser·choice-both-sides-requires t) (parser·choice-same-length-3 t)
     (parser·choice-same-length-4 t) (parser·choice-returns-2 t))
     (λ t. parser·descend-lts.spec (parser·descend-callees t) (parser·descend-at t) parser·descend.Post
-    (parser·descend-inherited-binder-requires t) (parser·descend-begin-child-requires t) (parser·descend-enter-requires t) (parser·descend-follow-requires t)
+    (parser·descend-inherited-binder-requires t) (parser·descend-begin-child-requires t)
+    (parser·descend-enter-requires t) (parser·descend-follow-requires t)
     (parser·descend-same-length t) (parser·descend-same-length-2 t) (parser·descend-returns t))
     (λ t. parser·follow-lts.spec (parser·follow-callees t) (parser·follow-at t) parser·follow.Post
     parser·follow-Inv-loop parser·follow-μ-loop (λ c κs. search needs) (parser·follow-returns t)

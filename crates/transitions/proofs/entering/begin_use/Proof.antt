@@ -41,7 +41,8 @@ returns-2 c =
     let governor = c .before .before .before .before .before .before .governor in
     let stored = c .before .before .before .stored in
     enters-stored (bookIn (args .book .now) (args .index .now)) (args .text .now) (table (args .rows .now)) (args .row)
-    (args .binder) (args .nonterminal) (args .at) (args .state) _ _ (spend .ensures) (args .store .now) _ _ _ _ (if1 .left)
+    (args .binder) (args .nonterminal) (args .at) (args .state) _ _ (spend .ensures) (args .store .now) _ _ _ _ (if1
+    .left)
     (governor-of .ensures) (governor .given .1) (stored .ensures) (c .without-runs2 .ensures)
 
 returns-3 : tie.Need-returns-3
@@ -56,7 +57,8 @@ returns-3 c =
     let minimum = c .before .before .before .before .before .before .before .before .minimum in
     let opening = c .before .before .before .before .«open» in
     enters-open (bookIn (args .book .now) (args .index .now)) (args .text .now) (table (args .rows .now)) (args .row)
-    (args .binder) (args .nonterminal) (args .at) (args .state) _ _ (spend .ensures) (args .store .now) _ _ _ _ (if1 .left)
+    (args .binder) (args .nonterminal) (args .at) (args .state) _ _ (spend .ensures) (args .store .now) _ _ _ _ (if1
+    .left)
     (governor-of .ensures) (minimum .given .1) (opening .ensures)
 
 pub begin-use-spec : {M : Type 1} → statement M

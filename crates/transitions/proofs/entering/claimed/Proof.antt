@@ -13,7 +13,8 @@ returns c =
     let is-variable = c .before .before .is-variable in
     let if1 = c .before .if1 in
     claimed-named (bookIn (args .book .now) (args .index .now)) (args .text .now) (table (args .rows .now)) (args .row)
-    (args .binder) (args .at) (variable-at .result) (variable-at .ensures) _ (is-variable .ensures) _ (if1 .taken) (c .claims-use .ensures)
+    (args .binder) (args .at) (variable-at .result) (variable-at .ensures) _ (is-variable .ensures) _ (if1 .taken) (c
+    .claims-use .ensures)
 
 returns-2 : tie.Need-returns-2
 returns-2 c =
@@ -21,7 +22,8 @@ returns-2 c =
     let variable-at = c .before .before .variable-at in
     let is-variable = c .before .is-variable in
     claimed-nothing (bookIn (args .book .now) (args .index .now)) (args .text .now) (table (args .rows .now))
-    (args .row) (args .binder) (args .at) (variable-at .result) (variable-at .ensures) _ (is-variable .ensures) (c .if1 .left)
+    (args .row) (args .binder) (args .at) (variable-at .result) (variable-at .ensures) _ (is-variable .ensures) (c
+    .if1 .left)
 
 pub claimed-spec : {M : Type 1} → statement M
 claimed-spec =

@@ -12,7 +12,8 @@ returns c =
     let args = c .before .before .before .before .before .before .before .before .args in
     let if1 = c .before .before .if1 in
     let without-failure = c .before .without-failure in
-    opens-deep (bookIn (args .book .now) (args .index .now)) (args .text .now) (args .row) (args .binder) (args .nonterminal)
+    opens-deep (bookIn (args .book .now) (args .index .now)) (args .text .now) (args .row) (args .binder) (args
+    .nonterminal)
     (args .at) (args .minimum) (args .state) _
     (args .store .now) (table (args .rows .now)) _ (if1 .taken) (without-failure .ensures) (c .without-runs .ensures)
 
@@ -24,7 +25,8 @@ returns-2 c =
     let is-identifier = c .before .before .before .before .before .before .before .before .before .is-identifier in
     let if2 = c .before .before .before .before .before .before .before .before .if2 in
     let run-identifier = c .before .before .before .before .before .run-identifier in
-    opens-identifier (bookIn (args .book .now) (args .index .now)) (args .text .now) (args .row) (args .binder) (args .nonterminal)
+    opens-identifier (bookIn (args .book .now) (args .index .now)) (args .text .now) (args .row) (args .binder) (args
+    .nonterminal)
     (args .at) (args .minimum) (args .state) _ (args .store .now) _ (table (args .rows .now)) _ _ _ (if1 .left)
     (is-identifier .ensures) (if2 .taken) (run-identifier .ensures) (c .without-runs2 .ensures)
 
@@ -34,7 +36,8 @@ returns-3 c =
     let if1 = c .before .before .before .if1 in
     let is-identifier = c .before .before .is-identifier in
     let if2 = c .before .if2 in
-    opens-runs (bookIn (args .book .now) (args .index .now)) (args .text .now) (args .row) (args .binder) (args .nonterminal)
+    opens-runs (bookIn (args .book .now) (args .index .now)) (args .text .now) (args .row) (args .binder) (args
+    .nonterminal)
     (args .at) (args .minimum) (args .state) _ (args .store .now) (table (args .rows .now)) _ _ (if1 .left)
     (is-identifier .ensures) (if2 .left) (c .done .ensures) refl
 

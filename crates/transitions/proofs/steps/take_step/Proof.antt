@@ -21,18 +21,22 @@ returns c =
     let ended = c .before .ended in
     let args = start .args in
     let here = args .here in
-    at-step _ _ _ _ (table (args .rows .now)) (here .call) (here .variant) (args .state) _ (here .place) (here .items) _ _ (step .ensures)
-    (step-limit _ _ _ (table (args .rows .now)) (here .call) (here .variant) (args .state) (here .place) (here .items) _ _ (step-unit .ensures) _ _
+    at-step _ _ _ _ (table (args .rows .now)) (here .call) (here .variant) (args .state) _ (here .place) (here .items)
+    _ _ (step .ensures)
+    (step-limit _ _ _ (table (args .rows .now)) (here .call) (here .variant) (args .state) (here .place) (here .items)
+    _ _ (step-unit .ensures) _ _
     (if1 .taken) (ended .ensures) (c .then-steps .ensures))
 
 skipped-requires : tie.Need-skipped-requires
 skipped-requires c κs =
-    let start = c .before .before .before .before .before .before .before .before .before .before .before .before .before .before .before in
+    let start = c .before .before .before .before .before .before .before .before .before .before .before .before
+    .before .before .before in
     start .pre .2 .short
 
 step-error-requires : tie.Need-step-error-requires
 step-error-requires c κs =
-    let start = c .before .before .before .before .before .before .before .before .before .before .before .before .before .before .before .before in
+    let start = c .before .before .before .before .before .before .before .before .before .before .before .before
+    .before .before .before .before in
     (start .pre .0, start .pre .1)
 
 cast-take-token : tie.Need-cast-take-token
@@ -73,7 +77,8 @@ cast-unopened c =
 
 unopened-requires : tie.Need-unopened-requires
 unopened-requires c κs =
-    let start = c .before .before .before .before .before .before .before .before .before .before .before .before .before .before .before .before .before in
+    let start = c .before .before .before .before .before .before .before .before .before .before .before .before
+    .before .before .before .before .before in
     start .pre .2
 
 returns-2 : tie.Need-returns-2
@@ -96,8 +101,10 @@ returns-2 c =
     let book = bookIn (args .book .now) (args .index .now) in
     let text = args .text .now in
     let scope = scopeIn text (table (args .rows .now)) (here .call) in
-    at-step _ _ _ _ (table (args .rows .now)) (here .call) (here .variant) (args .state) _ (here .place) (here .items) _ _ (step .ensures)
-    (step-fails _ _ _ (table (args .rows .now)) (here .call) (here .variant) (args .state) (here .place) (here .items) _ _ (step-unit .ensures)
+    at-step _ _ _ _ (table (args .rows .now)) (here .call) (here .variant) (args .state) _ (here .place) (here .items)
+    _ _ (step .ensures)
+    (step-fails _ _ _ (table (args .rows .now)) (here .call) (here .variant) (args .state) (here .place) (here .items)
+    _ _ (step-unit .ensures)
     (if1 .left) _ (step-at .ensures) _ _ _ _ (enum-told .given .1)
     (step-error .ensures ∙ ap (λ x. stepError book text scope (step .result) x) (skipped .ensures))
     (done .ensures) (ended2 .ensures) (c .then-steps2 .ensures))
@@ -116,8 +123,10 @@ returns-3 c =
     let take-token = c .before .before .before .take-token in
     let args = start .args in
     let here = args .here in
-    at-step _ _ _ _ (table (args .rows .now)) (here .call) (here .variant) (args .state) _ (here .place) (here .items) _ _ (step .ensures)
-    (step-reads _ _ _ (table (args .rows .now)) (here .call) (here .variant) (args .state) (here .place) (here .items) _ _ (step-unit .ensures)
+    at-step _ _ _ _ (table (args .rows .now)) (here .call) (here .variant) (args .state) _ (here .place) (here .items)
+    _ _ (step .ensures)
+    (step-reads _ _ _ (table (args .rows .now)) (here .call) (here .variant) (args .state) (here .place) (here .items)
+    _ _ (step-unit .ensures)
     (if1 .left) _ (step-at .ensures) _ _ _ _ _ (next .given .1) (take-token .ensures) (c .then-steps3 .ensures))
 
 returns-4 : tie.Need-returns-4
@@ -131,8 +140,10 @@ returns-4 c =
     let nonterminal = c .before .before .nonterminal in
     let args = start .args in
     let here = args .here in
-    at-step _ _ _ _ (table (args .rows .now)) (here .call) (here .variant) (args .state) _ (here .place) (here .items) _ _ (step .ensures)
-    (step-descends _ _ _ (table (args .rows .now)) (here .call) (here .variant) (args .state) (here .place) (here .items) _ _ (step-unit .ensures)
+    at-step _ _ _ _ (table (args .rows .now)) (here .call) (here .variant) (args .state) _ (here .place) (here .items)
+    _ _ (step .ensures)
+    (step-descends _ _ _ (table (args .rows .now)) (here .call) (here .variant) (args .state) (here .place) (here
+    .items) _ _ (step-unit .ensures)
     (if1 .left) _ (step-at .ensures) _ _ (nonterminal .given .1) (c .then-child .ensures))
 
 returns-5 : tie.Need-returns-5
@@ -146,8 +157,10 @@ returns-5 c =
     let nonterminal2 = c .before .before .nonterminal2 in
     let args = start .args in
     let here = args .here in
-    at-step _ _ _ _ (table (args .rows .now)) (here .call) (here .variant) (args .state) _ (here .place) (here .items) _ _ (step .ensures)
-    (step-chooses _ _ _ (table (args .rows .now)) (here .call) (here .variant) (args .state) (here .place) (here .items) _ _ (step-unit .ensures)
+    at-step _ _ _ _ (table (args .rows .now)) (here .call) (here .variant) (args .state) _ (here .place) (here .items)
+    _ _ (step .ensures)
+    (step-chooses _ _ _ (table (args .rows .now)) (here .call) (here .variant) (args .state) (here .place) (here
+    .items) _ _ (step-unit .ensures)
     (if1 .left) _ (step-at .ensures) _ _ (nonterminal2 .given .1) (c .then-child2 .ensures))
 
 returns-6 : tie.Need-returns-6
@@ -164,8 +177,10 @@ returns-6 c =
     let begin-list = c .before .before .begin-list in
     let args = start .args in
     let here = args .here in
-    at-step _ _ _ _ (table (args .rows .now)) (here .call) (here .variant) (args .state) _ (here .place) (here .items) _ _ (step .ensures)
-    (step-lists _ _ _ (table (args .rows .now)) (here .call) (here .variant) (args .state) (here .place) (here .items) _ _ (step-unit .ensures)
+    at-step _ _ _ _ (table (args .rows .now)) (here .call) (here .variant) (args .state) _ (here .place) (here .items)
+    _ _ (step .ensures)
+    (step-lists _ _ _ (table (args .rows .now)) (here .call) (here .variant) (args .state) (here .place) (here .items)
+    _ _ (step-unit .ensures)
     (if1 .left) _ (step-at .ensures) _ _ _ _ _ _ (comma .given .1) (begin-list .ensures _))
 
 returns-7 : tie.Need-returns-7
@@ -182,8 +197,10 @@ returns-7 c =
     let unopened = c .before .before .before .unopened in
     let args = start .args in
     let here = args .here in
-    at-step _ _ _ _ (table (args .rows .now)) (here .call) (here .variant) (args .state) _ (here .place) (here .items) _ _ (step .ensures)
-    (step-unopens _ _ _ (table (args .rows .now)) (here .call) (here .variant) (args .state) (here .place) (here .items) _ _ (step-unit .ensures)
+    at-step _ _ _ _ (table (args .rows .now)) (here .call) (here .variant) (args .state) _ (here .place) (here .items)
+    _ _ (step .ensures)
+    (step-unopens _ _ _ (table (args .rows .now)) (here .call) (here .variant) (args .state) (here .place) (here
+    .items) _ _ (step-unit .ensures)
     (if1 .left) _ (step-at .ensures) _ _ _ _ (place .given .1) (unopened .ensures) (c .then-steps4 .ensures))
 
 pub take-step-spec : {M : Type 1} → statement M
