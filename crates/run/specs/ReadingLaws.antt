@@ -22,6 +22,7 @@ use Rattle.book.specs.Book.{Book, nthStep}
 use Rattle.book.specs.Check.{checkBook, Outcome}
 use Rattle.book.specs.Index.{verdict, CheckedInto}
 use Rattle.book.specs.declared.checking.Verdict.{Verdict}
+use Rattle.semantics.specs.Numbers.{isLimit}
 use Rattle.semantics.specs.Cells.{Cell, cellsIn}
 use Rattle.semantics.specs.Errors.{Error}
 use Rattle.semantics.specs.Run as definition

@@ -1,5 +1,5 @@
--- The numbers of document 01 and of document 02 d, each by a name: sizes and limits, refusals, kinds of errors, forms of
--- cells. Those of the book, with its refusals 3 to 8 and refusal 1, are the crate book's.
+-- The numbers of document 01 and of document 02 d, each by a name: sizes and limits, refusals, kinds of errors, forms
+-- of cells. Those of the book, with its refusals 3 to 8 and refusal 1, are the crate book's.
 use mathlib.Core.Bool.{Bool, _||_}
 use Prim.Native.Nat.{ℕ, _^_}
 use lib.Dec.{eqb}

@@ -96,7 +96,8 @@ module _ (book : Book) (text : List ℕ) (T : List Row) (n b u : ℕ) (v : Varia
 
 -- ---- A use of mark 2
 module _ (book : Book) (text store : List ℕ) (T T1 T2 : List Row) (n b N u : ℕ) (s : State) (t : Bool)
-    (l : n < length T) (e1 : T1 ≡ onRow T n (withSet [])) (e2 : T2 ≡ onRow T1 n ended) (et : t ≡ claimedRows book text T2 n b u) where
+    (l : n < length T) (e1 : T1 ≡ onRow T n (withSet [])) (e2 : T2 ≡ onRow T1 n ended)
+    (et : t ≡ claimedRows book text T2 n b u) where
   cleared : T2 ≡ onRow T n (λ r. ended (withSet [] r))
   cleared = then-row T T1 T2 n (withSet [] (rowOf T n)) ended l e1 e2
 

@@ -389,7 +389,8 @@ module _ (book : Book) (text store : List ℕ) (T : List Row) (c j : ℕ) (s : S
 
     pub step-fails : (e : code.Error) (o : Outcome) (r : Reached) (g : Stage) → t ≡ Taken.Nothing →
         errorOf e ≡ stepError book text (scopeIn text T c) step (skipFrom text x) →
-        o ≡ doneWith (Failure.At e) (spent .state) → r ≡ endedBy o → g ≡ thenSteps r → StagedIn book text store s store T c j g (stepPart book text j step x items)
+        o ≡ doneWith (Failure.At e) (spent .state) → r ≡ endedBy o → g ≡ thenSteps r → StagedIn book text store s
+        store T c j g (stepPart book text j step x items)
     step-fails e o r g k d eo er eg h =
         rw (eg, er, eo) (record {
           is = λ inner n rest.

@@ -14,7 +14,8 @@ returns c =
     let after1 = after2 .before .before .before .before in
     let start = after1 .before .before .before in
     let args = start .args in
-    declare-law (table (args .rows .now)) (args .row) _ _ _ (table-below (args .rows .now) (args .row) (start .pre .0)) _
+    declare-law (table (args .rows .now)) (args .row) _ _ _ (table-below (args .rows .now) (args .row)
+    (start .pre .0)) _
     _ _ _ (after1 .put .ensures) (after2 .put2 .ensures) (after3 .put3 .ensures) (after4 .put4 .ensures)
 
 pub declare-spec : {M : Type 1} → statement M

@@ -1,5 +1,5 @@
--- `calls::declared_count` meets its contract. The invariant (`Counting` of NamesLaws): the names of the binders that are
--- left are still to be counted. A binder is a number of 32 bits, so that those of all rows together don't overflow.
+-- `calls::declared_count` meets its contract. The invariant (`Counting` of NamesLaws): the names of the binders that
+-- are left are still to be counted. A binder is a number of 32 bits, so that those of all rows together don't overflow.
 use mathlib.Core.Path.{_≡_, sym, ap, _∙_}
 use mathlib.Core.List.{List}
 use Prim.Native.Nat.{ℕ, _+_, _-_, _*_, _<_, _≤_}
