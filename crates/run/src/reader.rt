@@ -1,6 +1,6 @@
 // The call of document 01, "The answer": the refusals before the run, the run by `enter`, and the end.
 //
-// `read` keeps working memory of its own, 498,048 bytes; `read_in` is lent it, whatever it holds. Its contract says
+// `read` keeps working memory of its own, 500,460 bytes; `read_in` is lent it, whatever it holds. Its contract says
 // nothing of that memory at exit: it is no part of the answer, and the next call may find anything in it.
 ghost use mathlib.Core.Path.{_≡_};
 ghost use Prim.Native.Nat.{_-_};
