@@ -104,7 +104,9 @@ enum {
     MIDGEBILLON_NUMBER_FORM = 5,   /* a number: its high 32 bits, its low 32 bits */
     MIDGEBILLON_VARIABLE_FORM = 6, /* a variable: its name's number in the book, the name's kind */
     MIDGEBILLON_ABSENT_FORM = 7,   /* an optional that is absent */
-    MIDGEBILLON_LIST_FORM = 8      /* a list: the chain of its values */
+    MIDGEBILLON_LIST_FORM = 8,     /* a list: the chain of its values */
+    /* a declared variable: its binder's depth outwards, its index within that binder; no accepted book gives one yet */
+    MIDGEBILLON_DECLARED_FORM = 9
 };
 
 /* the four numbers of a parse, by their places in it */

@@ -4,7 +4,7 @@
  * This file is not proved. It is tested (tests/c/tree.c), on the values of readings and on numbers that no reading
  * gives, against the line of midgebillon_print, which is proved.
  *
- * A tree's nodes are variants, lists, identifiers, numbers, variables and absents. A chain, which is how cells hold the
+ * A tree's nodes are variants, lists, identifiers, numbers, variables, declared ones too, and absents. A chain, which is how cells hold the
  * items of a variant or a list, is no node. The root is the cell answer[MIDGEBILLON_VALUE], or a parse's, at
  * MIDGEBILLON_CELL.
  *
@@ -109,11 +109,11 @@ static inline struct midgebillon_part midgebillon_name_spelling(const struct mid
 
 /* ---- The nodes */
 
-/* What a cell is: MIDGEBILLON_VARIANT_FORM, _LIST_FORM, _NAME_FORM, _NUMBER_FORM, _VARIABLE_FORM or _ABSENT_FORM; 0
- * where it is no node: not in the list, not made, or a chain. */
+/* What a cell is: MIDGEBILLON_VARIANT_FORM, _LIST_FORM, _NAME_FORM, _NUMBER_FORM, _VARIABLE_FORM, _DECLARED_FORM or
+ * _ABSENT_FORM; 0 where it is no node: not in the list, not made, or a chain. */
 static inline uint32_t midgebillon_tree_form(const struct midgebillon_tree *tree, uint32_t cell) {
     uint32_t form = midgebillon_cell_at(tree, cell).form;
-    return MIDGEBILLON_VARIANT_FORM <= form && form <= MIDGEBILLON_LIST_FORM ? form : 0;
+    return MIDGEBILLON_VARIANT_FORM <= form && form <= MIDGEBILLON_DECLARED_FORM ? form : 0;
 }
 
 /* a variant's number in the book, from 0 */
@@ -177,6 +177,18 @@ static inline uint32_t midgebillon_tree_name(const struct midgebillon_tree *tree
 static inline uint32_t midgebillon_tree_kind(const struct midgebillon_tree *tree, uint32_t cell) {
     struct midgebillon_cell found = midgebillon_cell_at(tree, cell);
     return found.form == MIDGEBILLON_VARIABLE_FORM ? found.b : 0;
+}
+
+/* of a declared variable, how many openings that were read lie between it and its binder */
+static inline uint32_t midgebillon_tree_depth(const struct midgebillon_tree *tree, uint32_t cell) {
+    struct midgebillon_cell found = midgebillon_cell_at(tree, cell);
+    return found.form == MIDGEBILLON_DECLARED_FORM ? found.a : 0;
+}
+
+/* of a declared variable, its index among its binder's names, from 0 */
+static inline uint32_t midgebillon_tree_index(const struct midgebillon_tree *tree, uint32_t cell) {
+    struct midgebillon_cell found = midgebillon_cell_at(tree, cell);
+    return found.form == MIDGEBILLON_DECLARED_FORM ? found.b : 0;
 }
 
 #ifdef __cplusplus

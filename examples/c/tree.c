@@ -48,6 +48,10 @@ static void print_node(const struct midgebillon_tree *tree, struct node node) {
     case MIDGEBILLON_NAME_FORM: printf("identifier "); break;
     case MIDGEBILLON_NUMBER_FORM: printf("number %" PRIu64, midgebillon_tree_number(tree, node.cell)); break;
     case MIDGEBILLON_VARIABLE_FORM: printf("variable of kind %" PRIu32 " ", kind); break;
+    case MIDGEBILLON_DECLARED_FORM:
+        printf("declared variable %" PRIu32 ".%" PRIu32, midgebillon_tree_depth(tree, node.cell),
+               midgebillon_tree_index(tree, node.cell));
+        break;
     case MIDGEBILLON_ABSENT_FORM: printf("absent"); break;
     }
     fwrite(spelling.at, 1, spelling.length, stdout);

@@ -118,6 +118,12 @@ static void put_node(struct line *line, const struct midgebillon_tree *tree, uin
         put_word(line, "$");
         put_spelling(line, tree, cell);
         break;
+    case MIDGEBILLON_DECLARED_FORM:
+        put_word(line, "$");
+        put_number(line, midgebillon_tree_depth(tree, cell));
+        put_word(line, ".");
+        put_number(line, midgebillon_tree_index(tree, cell));
+        break;
     default: put_word(line, "-");
     }
 }
@@ -150,10 +156,12 @@ static void check_cell(const struct midgebillon_tree *tree, uint32_t cell) {
     size_t count = midgebillon_tree_count(tree, cell);
     int variable = form == MIDGEBILLON_VARIABLE_FORM;
     int items = form == MIDGEBILLON_VARIANT_FORM || form == MIDGEBILLON_LIST_FORM;
-    CHECK(form == 0 || (MIDGEBILLON_VARIANT_FORM <= form && form <= MIDGEBILLON_LIST_FORM));
+    CHECK(form == 0 || (MIDGEBILLON_VARIANT_FORM <= form && form <= MIDGEBILLON_DECLARED_FORM));
     CHECK(form == MIDGEBILLON_VARIANT_FORM || midgebillon_tree_variant(tree, cell) == 0);
     CHECK(form == MIDGEBILLON_NUMBER_FORM || midgebillon_tree_number(tree, cell) == 0);
     CHECK(variable || (midgebillon_tree_name(tree, cell) == 0 && midgebillon_tree_kind(tree, cell) == 0));
+    CHECK(form == MIDGEBILLON_DECLARED_FORM
+          || (midgebillon_tree_depth(tree, cell) == 0 && midgebillon_tree_index(tree, cell) == 0));
     CHECK(items ? count < cell : count == 0);
     CHECK(variable ? within(spelling, tree->book, tree->book_length) : within(spelling, tree->text, tree->text_length));
     CHECK(variable || form == MIDGEBILLON_NAME_FORM || spelling.length == 0);
@@ -206,7 +214,7 @@ static uint32_t some_number(uint32_t cell) {
  * cursor gives none (check_plain). */
 static void fill_by_chance(uint32_t *cells, uint32_t count, size_t text_length) {
     for (uint32_t cell = 1; cell <= count; cell++, cells += MIDGEBILLON_CELL_SIZE) {
-        static const uint32_t forms[] = {0, 1, 2, 2, 2, 2, 3, 3, 4, 5, 6, 7, 8, 8, 9, UINT32_MAX};
+        static const uint32_t forms[] = {0, 1, 2, 2, 2, 2, 3, 3, 4, 5, 6, 7, 8, 8, 9, 10, UINT32_MAX};
         cells[0] = forms[up_to(sizeof forms / sizeof *forms - 1)];
         cells[1] = some_number(cell);
         cells[2] = some_number(cell);
