@@ -10,6 +10,7 @@ pub const IDENTIFIER: u32 = 4;
 pub const NUMBER: u32 = 5;
 pub const VARIABLE: u32 = 6;
 pub const LIST: u32 = 8;
+pub const DECLARED: u32 = 9;
 
 /// The cells of a reading, with the book and the text that have the spellings.
 pub struct Cells<'a> {

@@ -1,6 +1,6 @@
 //! A value as a tree, viewed through its cells.
 
-use crate::cells::{older, Cells, IDENTIFIER, LIST, NUMBER, VARIABLE, VARIANT};
+use crate::cells::{older, Cells, DECLARED, IDENTIFIER, LIST, NUMBER, VARIABLE, VARIANT};
 use std::collections::HashMap;
 use std::iter::FusedIterator;
 use std::{fmt, ptr, vec};
@@ -62,6 +62,13 @@ pub enum Tree<'r> {
         /// The name's spelling in the book.
         spelling: &'r str,
     },
+    /// A declared variable. No accepted book gives one yet.
+    Declared {
+        /// How many openings that were read lie between it and its binder.
+        depth: u32,
+        /// Its index among its binder's names, from 0.
+        index: u32,
+    },
     /// An optional that is absent.
     Absent,
 }
@@ -84,6 +91,7 @@ impl<'r> Tree<'r> {
             IDENTIFIER => Tree::Identifier { place: a, spelling: cells.identifier(a, b) },
             NUMBER => Tree::Number(u64::from(a) << 32 | u64::from(b)),
             VARIABLE => Tree::Variable { name: a, kind: b, spelling: cells.name(a) },
+            DECLARED => Tree::Declared { depth: a, index: b },
             _ => Tree::Absent,
         }
     }
@@ -103,6 +111,7 @@ impl<'r> Tree<'r> {
             (Tree::Identifier { spelling: a, .. }, Tree::Identifier { spelling: b, .. }) => a == b,
             (Tree::Number(a), Tree::Number(b)) => a == b,
             (Tree::Variable { name: a, kind: j, .. }, Tree::Variable { name: b, kind: k, .. }) => (a, j) == (b, k),
+            (Tree::Declared { depth: a, index: i }, Tree::Declared { depth: b, index: j }) => (a, i) == (b, j),
             _ => false,
         }
     }
@@ -260,6 +269,7 @@ fn write(f: &mut fmt::Formatter<'_>, mut parts: Vec<Part<'_>>) -> fmt::Result {
             Part::Tree(Tree::Identifier { spelling, .. }) => f.write_str(spelling)?,
             Part::Tree(Tree::Number(number)) => write!(f, "{number}")?,
             Part::Tree(Tree::Variable { spelling, .. }) => write!(f, "${spelling}")?,
+            Part::Tree(Tree::Declared { depth, index }) => write!(f, "${depth}.{index}")?,
             Part::Tree(Tree::Absent) => f.write_str("-")?,
         }
     }
