@@ -32,7 +32,7 @@ answered a cells parses = record { answer = answerIn a; cells = cells; parses = 
 -- ---- The promise
 -- Of book and text in bytes: an answer and both lists are the expected ones (demands 1 and 2); and demand 3 of that
 -- very answer and those very lists: of every call whose book is accepted, that isn't refused before the run (1 to 11),
--- and that meets no limit (20 to 23)
+-- and that meets no limit (20 to 23, 41)
 pub record Reads (bytes text : List ℕ) (start : ℕ) (expected a : Answered) : Type 0 where
   pub is : a ≡ expected
   pub exact : (book : Book) → checkBook bytes ≡ check.Outcome.book book →
