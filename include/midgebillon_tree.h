@@ -4,9 +4,9 @@
  * This file is not proved. It is tested (tests/c/tree.c), on the values of readings and on numbers that no reading
  * gives, against the line of midgebillon_print, which is proved.
  *
- * A tree's nodes are variants, lists, identifiers, numbers, variables, declared ones too, and absents. A chain, which is how cells hold the
- * items of a variant or a list, is no node. The root is the cell answer[MIDGEBILLON_VALUE], or a parse's, at
- * MIDGEBILLON_CELL.
+ * A tree's nodes are variants, lists, identifiers, numbers, variables, declared ones too, and absents. A chain, which
+ * is how cells hold the items of a variant or a list, is no node. The root is the cell answer[MIDGEBILLON_VALUE], or a
+ * parse's, at MIDGEBILLON_CELL.
  *
  * Equal cells are made once and shared, so that a tree can have far more nodes than there are cells: with two items
  * that are the same cell, level by level, 2^n nodes for n levels. A walk over all nodes therefore needs a limit of its

@@ -202,7 +202,8 @@ module _ (book f g : List ℕ) (head : Part) (s : HeadsRead book f g head) where
       }
 
   module _ (all p : ℕ) (told : head ≡ Part.Read all p) (binders : Bool)
-      (binders-is : binders ≡ hasBinder Sought.Any book g) (h : List ℕ) (body : Part) (s′ : Section (Sort.Variant binders) (variantsFit all) book p 128 323 g h body) where
+      (binders-is : binders ≡ hasBinder Sought.Any book g) (h : List ℕ) (body : Part)
+      (s′ : Section (Sort.Variant binders) (variantsFit all) book p 128 323 g h body) where
     all-is : all ≡ total (λ n. n .count) (nonterminalsIn book g)
     all-is = value-of told _ (s .valued)
 

@@ -26,7 +26,8 @@ returns-3 c =
     let nonterminal = c .before .before .before .before .before .before .nonterminal in
     let is-binder = c .before .before .before .before .before .is-binder in
     sought-variant (args .book .now) (args .index .now) _ _ (nonterminal .ensures) (args .sought) _
-    (is-binder .ensures) (not-false _ (c .before .before .before .before .if1 .left)) _ (c .before .before .sought .given .1)
+    (is-binder .ensures) (not-false _ (c .before .before .before .before .if1 .left)) _
+    (c .before .before .sought .given .1)
 
 returns-4 : tie.Need-returns-4
 returns-4 c =

@@ -18,7 +18,8 @@ variants-requires c κs =
 
 returns-2 : tie.Need-returns-2
 returns-2 c =
-    let heads = c .before .before .before .before .before .before .before .before .before .before .before .before .before .heads in
+    let heads = c .before .before .before .before .before .before .before .before .before .before .before .before
+    .before .heads in
     let head = c .before .before .before .before .before .before .before .before .before .head in
     let has-binder = c .before .before .before .before .before .before .has-binder in
     let variants = c .before .before .before .before .variants in
@@ -27,7 +28,8 @@ returns-2 c =
 
 steps-requires : tie.Need-steps-requires
 steps-requires c κs =
-    let heads = c .before .before .before .before .before .before .before .before .before .before .before .before .before .before .before .heads in
+    let heads = c .before .before .before .before .before .before .before .before .before .before .before .before
+    .before .before .before .heads in
     let head = c .before .before .before .before .before .before .before .before .before .before .before .head in
     let variants = c .before .before .before .before .before .before .variants in
     let body = c .before .before .body in
@@ -37,10 +39,13 @@ steps-requires c κs =
 
 returns-3 : tie.Need-returns-3
 returns-3 c =
-    let heads = c .before .before .before .before .before .before .before .before .before .before .before .before .before .before .before .before .before .before .heads in
+    let heads = c .before .before .before .before .before .before .before .before .before .before .before .before
+    .before .before .before .before .before .before .heads in
     let head =
-    c .before .before .before .before .before .before .before .before .before .before .before .before .before .before .head in
-    let has-binder = c .before .before .before .before .before .before .before .before .before .before .before .has-binder in
+    c .before .before .before .before .before .before .before .before .before .before .before .before .before .before
+    .head in
+    let has-binder = c .before .before .before .before .before .before .before .before .before .before .before
+    .has-binder in
     let variants = c .before .before .before .before .before .before .before .before .before .variants in
     let body = c .before .before .before .before .before .body in
     let steps = c .before .before .steps in

@@ -68,19 +68,24 @@ same-length c =
     let put2 = c .before .before .before .before .before .put2 in
     let put = c .before .before .before .before .before .before .before .before .before .put in
     let loop =
-    c .before .before .before .before .before .before .before .before .before .before .before .before .before .before .loop in
+    c .before .before .before .before .before .before .before .before .before .before .before .before .before .before
+    .loop in
     put2 .kept .0 ∙ put .kept .0 ∙ loop .inv .1
 
 returns : tie.Need-returns Inv-loop μ-loop
 returns c =
     let loop-test =
-    c .before .before .before .before .before .before .before .before .before .before .before .before .before .loop-test in
+    c .before .before .before .before .before .before .before .before .before .before .before .before .before
+    .loop-test in
     let loop =
-    c .before .before .before .before .before .before .before .before .before .before .before .before .before .before .loop in
-    let pre = c .before .before .before .before .before .before .before .before .before .before .before .before .before .before .before .before .before .pre in
+    c .before .before .before .before .before .before .before .before .before .before .before .before .before .before
+    .loop in
+    let pre = c .before .before .before .before .before .before .before .before .before .before .before .before .before
+    .before .before .before .before .pre in
     let put = c .before .before .before .before .before .before .before .before .before .put in
     let put2 = c .before .before .before .before .before .put2 in
-    let of-binder = c .before .before .before .before .before .before .before .before .before .before .before .of-binder in
+    let of-binder = c .before .before .before .before .before .before .before .before .before .before .before
+    .of-binder in
     let one-record = c .before .before .one-record in
     begun-stop _ _ _ _ _ _ _ _ _ _ _ (loop-test .taken) (loop .inv .3)
     (stored-by _ _ _ _ _ _ (omega (arith, pre .0, loop-test .taken, loop .inv .1)) (put .ensures) (put2 .ensures))
@@ -88,11 +93,14 @@ returns c =
 
 add-sum : tie.Need-add-sum Inv-loop μ-loop
 add-sum c =
-    let pre = c .before .before .before .before .before .before .before .before .before .before .before .before .before .before .before .before .before .before .pre in
+    let pre = c .before .before .before .before .before .before .before .before .before .before .before .before .before
+    .before .before .before .before .before .pre in
     let loop-test =
-    c .before .before .before .before .before .before .before .before .before .before .before .before .before .before .loop-test in
+    c .before .before .before .before .before .before .before .before .before .before .before .before .before .before
+    .loop-test in
     let loop =
-    c .before .before .before .before .before .before .before .before .before .before .before .before .before .before .before .loop in
+    c .before .before .before .before .before .before .before .before .before .before .before .before .before .before
+    .before .loop in
     let one-record = c .before .before .before .one-record in
     omega (
       arith,
@@ -104,28 +112,35 @@ add-sum c =
 
 add-i : tie.Need-add-i Inv-loop μ-loop
 add-i c =
-    let pre = c .before .before .before .before .before .before .before .before .before .before .before .before .before .before .before .before .before .before .pre in
+    let pre = c .before .before .before .before .before .before .before .before .before .before .before .before .before
+    .before .before .before .before .before .pre in
     let loop-test =
-    c .before .before .before .before .before .before .before .before .before .before .before .before .before .before .loop-test in
+    c .before .before .before .before .before .before .before .before .before .before .before .before .before .before
+    .loop-test in
     omega (arith, pre .1, loop-test .taken)
 
 loop-less : tie.Need-loop-less Inv-loop μ-loop
 loop-less c =
     let loop-test =
-    c .before .before .before .before .before .before .before .before .before .before .before .before .before .before .loop-test in
+    c .before .before .before .before .before .before .before .before .before .before .before .before .before .before
+    .loop-test in
     omega (arith, loop-test .taken)
 
 loop-again : tie.Need-loop-again Inv-loop μ-loop
 loop-again c =
     let loop-test =
-    c .before .before .before .before .before .before .before .before .before .before .before .before .before .before .loop-test in
+    c .before .before .before .before .before .before .before .before .before .before .before .before .before .before
+    .loop-test in
     let put2 = c .before .before .before .before .before .before .put2 in
     let put = c .before .before .before .before .before .before .before .before .before .before .put in
     let loop =
-    c .before .before .before .before .before .before .before .before .before .before .before .before .before .before .before .loop in
-    let of-binder = c .before .before .before .before .before .before .before .before .before .before .before .before .of-binder in
+    c .before .before .before .before .before .before .before .before .before .before .before .before .before .before
+    .before .loop in
+    let of-binder = c .before .before .before .before .before .before .before .before .before .before .before .before
+    .of-binder in
     let one-record = c .before .before .before .one-record in
-    let pre = c .before .before .before .before .before .before .before .before .before .before .before .before .before .before .before .before .before .before .pre in (
+    let pre = c .before .before .before .before .before .before .before .before .before .before .before .before .before
+    .before .before .before .before .before .pre in (
       omega (arith, loop-test .taken),
       put2 .kept .0 ∙ put .kept .0 ∙ loop .inv .1,
       omega (arith, loop .inv .2, small-of (c .before .part .given .1) (one-record .ensures .small)),
@@ -144,5 +159,6 @@ pub records-spec : {M : Type 1} → statement M
 records-spec =
     tie.close
     (tie.spec
-    Inv-loop μ-loop loop-holds of-binder-requires add-slot mul-slot add-slot-2 put-requires add-put put-requires-2 one-record-requires
+    Inv-loop μ-loop loop-holds of-binder-requires add-slot mul-slot add-slot-2 put-requires add-put put-requires-2
+    one-record-requires
     enum-known-part enum-told same-length returns add-sum add-i loop-less loop-again same-length-2 returns-2)

@@ -24,7 +24,8 @@ returns-2 c binders =
     let step-arguments = c .before .before .step-arguments in
     let kind-read = read _ _ _ (field .ensures) (kind .given .1) in
     one-refused (Sort.Step (args .words) (args .nonterminals) binders) (args .binder) _ _ _ refl
-    (step-unknown _ _ binders _ _ _ _ _ kind-read (allowed-refused (args .words) (args .nonterminals) (args .binder) (kind .given .0 .0)
+    (step-unknown _ _ binders _ _ _ _ _ kind-read (allowed-refused (args .words) (args .nonterminals) (args .binder)
+    (kind .given .0 .0)
     (sym (c .enum-told2 .given .1) ∙ step-arguments .ensures)))
 
 returns-3 : tie.Need-returns-3
@@ -49,7 +50,8 @@ returns-4 c binders =
     let kind =
     c .before .before .before .before .before .before .before .before .before .before .before .before .kind in
     let a = c .before .before .before .before .before .before .before .before .a in
-    let step-arguments = c .before .before .before .before .before .before .before .before .before .before .step-arguments in
+    let step-arguments = c .before .before .before .before .before .before .before .before .before .before
+    .step-arguments in
     let field2 = c .before .before .before .before .before .before .field2 in
     let first = c .before .before .before .before .first in
     let args = c .before .before .before .before .before .before .before .before .before .before .before .before .before
@@ -69,7 +71,8 @@ returns-5 c binders =
     let kind = c .before .before .before .before .before .before .before .before .before .before .before .before .before
     .before .before .before .kind in
     let a = c .before .before .before .before .before .before .before .before .before .before .before .before .a in
-    let step-arguments = c .before .before .before .before .before .before .before .before .before .before .before .before
+    let step-arguments = c .before .before .before .before .before .before .before .before .before .before .before
+    .before
     .before .before .step-arguments in
     let field2 = c .before .before .before .before .before .before .before .before .before .before .field2 in
     let first = c .before .before .before .before .before .before .before .before .first in
@@ -84,7 +87,8 @@ returns-5 c binders =
     let first-read = read _ _ _ (field2 .ensures) (first .given .1) in
     let second-read = read _ _ _ (field3 .ensures) (second .given .1) in
     one-refused (Sort.Step (args .words) (args .nonterminals) binders) (args .binder) _ _ _ told
-    (step-stop-c _ _ binders _ _ _ _ _ kind-read _ _ known _ _ first-read _ _ second-read (stopped _ _ _ (field4 .ensures) told))
+    (step-stop-c _ _ binders _ _ _ _ _ kind-read _ _ known _ _ first-read _ _ second-read
+    (stopped _ _ _ (field4 .ensures) told))
 
 returns-6 : tie.Need-returns-6
 returns-6 c binders =
@@ -94,7 +98,8 @@ returns-6 c binders =
     .before .before .before .before .kind in
     let a =
     c .before .before .before .before .before .before .before .before .before .before .before .before .before .a in
-    let step-arguments = c .before .before .before .before .before .before .before .before .before .before .before .before
+    let step-arguments = c .before .before .before .before .before .before .before .before .before .before .before
+    .before
     .before .before .before .step-arguments in
     let field2 = c .before .before .before .before .before .before .before .before .before .before .before .field2 in
     let first = c .before .before .before .before .before .before .before .before .before .first in

@@ -20,7 +20,8 @@ returns-2 c binders =
     let least-associativity = c .before .before .before .least-associativity in
     let field = c .before .before .field in
     one-refused (Sort.Variant binders) _ _ _ _ (c .enum-told2 .given .1)
-    (variant-stop-associativity binders _ _ _ _ _ _ (read _ _ _ (fixed .ensures) (level .given .1)) (least-associativity .ensures)
+    (variant-stop-associativity binders _ _ _ _ _ _ (read _ _ _ (fixed .ensures) (level .given .1))
+    (least-associativity .ensures)
     (stopped _ _ _ (field .ensures) (c .enum-told2 .given .1)))
 
 returns-3 : tie.Need-returns-3
@@ -32,7 +33,8 @@ returns-3 c binders =
     let associativity = c .before .before .before .before .associativity in
     let fixed2 = c .before .before .fixed2 in
     one-refused (Sort.Variant binders) _ _ _ _ (c .enum-told3 .given .1)
-    (variant-stop-flags binders _ _ _ _ _ _ (read _ _ _ (fixed .ensures) (level .given .1)) (least-associativity .ensures) _ _
+    (variant-stop-flags binders _ _ _ _ _ _ (read _ _ _ (fixed .ensures) (level .given .1))
+    (least-associativity .ensures) _ _
     (read _ _ _ (field .ensures) (associativity .given .1))
     (stopped _ _ _ (fixed2 .ensures) (c .enum-told3 .given .1)))
 
