@@ -9,7 +9,7 @@
 --
 -- Not here: the records themselves (RecordLaws, EntryLaws), and records with their index (SectionLaws).
 use mathlib.Core.Path.{_≡_, refl, sym, ap, _∙_, fun-ext}
-use mathlib.Core.Bool.{Bool, true, false, and-false}
+use mathlib.Core.Bool.{Bool, true, false, cond, and-false}
 use mathlib.Core.List.{List, [], _∷_, _++_, append-nil, append-assoc}
 use Prim.Native.Nat.{ℕ, suc, _+_, _-_, _≤_, _<_}
 use native.Mathlib.Omega.{arith}
@@ -111,13 +111,12 @@ same-test fits wanted h number at book place e =
 
 -- a binder's byte, which is n, and another's, up to `high`
 module _ (n high number at : ℕ) (book : List ℕ) (place : ℕ) {c : Checked ℕ} where
-  pub fixed-binder : {binder : Bool} → binder ≡ true → checked (between n n) number at book place ≡ c →
+  pub fixed-range : (binder : Bool) (low top : ℕ) → low ≡ cond binder n 0 → top ≡ cond binder n high →
+      checked (between low top) number at book place ≡ c →
       checked (fixed binder n (between 0 high)) number at book place ≡ c
-  fixed-binder told e = rw told (same-test (between n n) (λ b. eqb b n) (between-one n) number at book place e)
-
-  pub fixed-other : {binder : Bool} → binder ≡ false → checked (between 0 high) number at book place ≡ c →
-      checked (fixed binder n (between 0 high)) number at book place ≡ c
-  fixed-other told e = rw told e
+  fixed-range true low top low-is top-is e =
+      same-test (between n n) (λ b. eqb b n) (between-one n) number at book place (rw (low-is, top-is) at e)
+  fixed-range false low top low-is top-is e = rw (low-is, top-is) at e
 
 -- it is at most `most`, where both are
 pub fixed-most : (binder : Bool) (n high most b : ℕ) → n ≤ most → high ≤ most →

@@ -118,10 +118,7 @@ module _ (sort : Sort) (book : List ℕ) (place count base : ℕ) (f : List ℕ)
 
   module _ (g g′ : List ℕ) (i at sum : ℕ) (less : i < count) (b : Begun sort book place count base f g i at sum)
       (s : Stored g g′ (base + 1 + 2 * i) at sum)
-      (told-before : Before sort base f) (binder : Bool) (binder-is : binder ≡ binderIn sort book g i) where
-    own : binder ≡ binderIn sort book f i
-    own = binder-is ∙ binder-stays book base f g (λ k l. b .kept .below k (omega arith)) sort told-before i
-
+      (told-before : Before sort base f) where
     -- the records before are where they were
     before : recordsIn sort book g′ base i ≡ recordsIn sort book g base i
     before = upTo-same i _ _ (λ k l.
@@ -146,12 +143,15 @@ module _ (sort : Sort) (book : List ℕ) (place count base : ℕ) (f : List ℕ)
       above = λ k l. s .others k (λ e. omega arith) (λ e. omega arith) ∙ b .kept .above k l;
     }
 
-    pub begun-on : (part : Part) (value next : ℕ) → One sort binder book at part → part ≡ Part.Read value next →
-        Begun sort book place count base f g′ (i + 1) next (sum + value)
+    own : binderIn sort book g′ i ≡ binderIn sort book f i
+    own = binder-stays book base f g′ (λ k l. kept-so .below k (omega arith)) sort told-before i
+
+    pub begun-on : (part : Part) (value next : ℕ) → One sort (binderIn sort book g′ i) book at part →
+        part ≡ Part.Read value next → Begun sort book place count base f g′ (i + 1) next (sum + value)
     begun-on part value next o told =
         let x = recordFrom sort book at sum in
         let e : eachOf sort book f i sum book at ≡ accepted x next =
-        rw (← own) (read (oneOf sort binder sum book at) part (λ v. x) (o .reads sum) told) in
+        rw (← own) (read (eachOf sort book g′ i sum book at) part (λ v. x) (o .reads sum) told) in
         let v : value ≡ sizeOf sort x = value-of told (sizeOf sort x) (o .valued sum) in
         record {
           reads = rw (one-more, v)
@@ -162,11 +162,11 @@ module _ (sort : Sort) (book : List ℕ) (place count base : ℕ) (f : List ℕ)
           kept = kept-so;
         }
 
-    pub begun-stop : (part : Part) {n p : ℕ} → One sort binder book at part → part ≡ Part.Refused n p →
-        RecordsRead sort book place count base f g′ part
+    pub begun-stop : (part : Part) {n p : ℕ} → One sort (binderIn sort book g′ i) book at part →
+        part ≡ Part.Refused n p → RecordsRead sort book place count base f g′ part
     begun-stop part o told =
         let x = recordFrom sort book at sum in
-        let e = rw own at (stopped (oneOf sort binder sum book at) part (λ v. x) (o .reads sum) told) in
+        let e = rw own at (stopped (eachOf sort book g′ i sum book at) part (λ v. x) (o .reads sum) told) in
         record {
           reads = handed _ (sym (b .reads)
               ∙ records-refused (sizeOf sort) (eachOf sort book f) book (recordsIn sort book g base i) count i sum at

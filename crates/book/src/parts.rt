@@ -1,5 +1,6 @@
 // What a part of the book gives, and single bytes.
 ghost use mathlib.Core.Path.{_≡_};
+ghost use mathlib.Core.Bool.{cond};
 ghost use Rattle.characters.specs.Slices.{atEntry};
 ghost use Rattle.characters.specs.Classes.{between};
 ghost use Rattle.book.specs.Check.{checked, fixed as isFixed};
@@ -39,14 +40,22 @@ pub fn field(book: &[u8], place: usize, low: usize, high: usize, number: usize) 
     }
 }
 
+fn chosen(binder: bool, n: usize, other: usize) -> usize
+    ensures { λ r. ⌜ r ≡ cond binder n other ⌝ }
+{
+    if binder { n } else { other }
+}
+
 // A binder's byte, which is n, or another's, up to `high`; else 6 at its place.
 pub fn fixed(book: &[u8], place: usize, binder: bool, n: usize, high: usize) -> Part
     ensures { λ r. ⌜ checked (isFixed binder n (between 0 high)) badField place (atEntry book) place ≡
         readingOf r (λ v. v) ⌝ }
 {
-    if binder {
-        field(book, place, n, n, BAD_FIELD)
-    } else {
-        field(book, place, 0, high, BAD_FIELD)
-    }
+    field(
+        book,
+        place,
+        chosen(binder, n, 0),
+        chosen(binder, n, high),
+        BAD_FIELD,
+    )
 }

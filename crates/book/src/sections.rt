@@ -221,38 +221,30 @@ pub enum Sort {
     Step(usize, usize, bool),
 }
 
-// Whether record i is a binder's. It is looked for only in a book that has binders.
-fn of_binder(book: &[u8], index: &[usize], sort: Sort, i: usize) -> bool
-    ensures { λ r. ⌜ r ≡ binderIn sort (atEntry book) (atEntry index) i ⌝ }
-{
-    match sort {
-        Sort::Entry(_) => false,
-        Sort::Nonterminal => false,
-        Sort::Variant(binders) => {
-            if binders {
-                has_binder(book, index, Sought::OfVariant(i))
-            } else {
-                false
-            }
-        }
-        Sort::Step(_, _, binders) => {
-            if binders {
-                has_binder(book, index, Sought::OfStep(i))
-            } else {
-                false
-            }
-        }
-    }
-}
-
-fn one_record(book: &[u8], place: usize, sort: Sort, binder: bool) -> Part
-    ensures { λ r. ⌜ One sort binder (atEntry book) place r ⌝ }
+// Record i. Whether it is a binder's is looked for only in a book that has binders; the variants and steps of any other
+// are read by calls that say so, since a check of them takes no longer then.
+fn one_record(book: &[u8], place: usize, sort: Sort, index: &[usize], i: usize) -> Part
+    ensures { λ r. ⌜ One sort (binderIn sort (atEntry book) (atEntry index) i) (atEntry book) place r ⌝ }
 {
     match sort {
         Sort::Entry(greatest) => entry(book, place, greatest),
         Sort::Nonterminal => nonterminal(book, place),
-        Sort::Variant(_) => variant(book, place, binder),
-        Sort::Step(words, nonterminals, _) => step(book, place, words, nonterminals, binder),
+        Sort::Variant(binders) => {
+            if binders {
+                let binder = has_binder(book, index, Sought::OfVariant(i));
+                variant(book, place, binder)
+            } else {
+                variant(book, place, false)
+            }
+        }
+        Sort::Step(words, nonterminals, binders) => {
+            if binders {
+                let binder = has_binder(book, index, Sought::OfStep(i));
+                step(book, place, words, nonterminals, binder)
+            } else {
+                step(book, place, words, nonterminals, false)
+            }
+        }
     }
 }
 
@@ -273,11 +265,10 @@ fn records(
     let mut at = place;
     let mut sum = 0;
     while i < count {
-        let binder = of_binder(book, index, sort, i);
         let slot = base + 1 + 2 * i;
         put(index, slot, at);
         put(index, slot + 1, sum);
-        let part = one_record(book, at, sort, binder);
+        let part = one_record(book, at, sort, index, i);
         let Part::Read { value, next } = part else {
             return part;
         };

@@ -52,8 +52,9 @@ appended book variant steps bytes =
     let counted = recounted book variant bytes in
     take (stepCountAt book) counted ++ variant ++ drop (stepCountAt book) counted ++ steps
 
--- "every accepted book whose extension is accepted". Then the last nonterminal is "of mark 0 or 1" (`extended-mark` of
--- Theorem/Extension/Adding). That there are as many steps as the variant says isn't asked: the theorem needs it not
+-- "every accepted book whose extension is accepted". Then the last nonterminal is "of mark 0 or 1" (`extended-mark` and
+-- `extended-binder` of Theorem/Extension/Adding). That there are as many steps as the variant says isn't asked: the
+-- theorem needs it not
 pub record Extends (bytes extended : List ℕ) : Type 0 where
   pub book : Book
   pub accepted : checkBook bytes ≡ Outcome.book book

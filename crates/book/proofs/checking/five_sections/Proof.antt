@@ -18,8 +18,8 @@ variants-requires c κs =
 
 returns-2 : tie.Need-returns-2
 returns-2 c =
-    let heads = c .before .before .before .before .before .before .before .before .before .before .before .before
-    .before .heads in
+    let heads =
+    c .before .before .before .before .before .before .before .before .before .before .before .before .before .heads in
     let head = c .before .before .before .before .before .before .before .before .before .head in
     let has-binder = c .before .before .before .before .before .before .has-binder in
     let variants = c .before .before .before .before .variants in
@@ -44,8 +44,8 @@ returns-3 c =
     let head =
     c .before .before .before .before .before .before .before .before .before .before .before .before .before .before
     .head in
-    let has-binder = c .before .before .before .before .before .before .before .before .before .before .before
-    .has-binder in
+    let has-binder =
+    c .before .before .before .before .before .before .before .before .before .before .before .has-binder in
     let variants = c .before .before .before .before .before .before .before .before .before .variants in
     let body = c .before .before .before .before .before .body in
     let steps = c .before .before .steps in

@@ -21,34 +21,31 @@ abbrev μ-loop : tie.MeasureT-loop
 loop-holds : tie.Need-loop-holds Inv-loop μ-loop
 loop-holds c = (omega arith, refl, omega arith, begun-first _ _ _ _ _ _)
 
-of-binder-requires : tie.Need-of-binder-requires Inv-loop μ-loop
-of-binder-requires c κs = search needs
-
 add-slot : tie.Need-add-slot Inv-loop μ-loop
 add-slot c =
-    let pre = c .before .before .before .before .before .before .pre in
-    let good = c .before .before .before .before .before .before .good in
+    let pre = c .before .before .before .before .pre in
+    let good = c .before .before .before .before .good in
     omega (arith, pre .0, good)
 
 mul-slot : tie.Need-mul-slot Inv-loop μ-loop
 mul-slot c =
-    let pre = c .before .before .before .before .before .before .pre in
-    omega (arith, pre .1, c .before .before .loop-test .taken)
+    let pre = c .before .before .before .before .pre in
+    omega (arith, pre .1, c .loop-test .taken)
 
 add-slot-2 : tie.Need-add-slot-2 Inv-loop μ-loop
 add-slot-2 c =
-    let pre = c .before .before .before .before .before .before .pre in
-    let good = c .before .before .before .before .before .before .good in
-    omega (arith, pre .0, c .before .before .loop-test .taken, good)
+    let pre = c .before .before .before .before .pre in
+    let good = c .before .before .before .before .good in
+    omega (arith, pre .0, c .loop-test .taken, good)
 
 put-requires : tie.Need-put-requires Inv-loop μ-loop
 put-requires c κs = search needs
 
 add-put : tie.Need-add-put Inv-loop μ-loop
 add-put c =
-    let pre = c .before .before .before .before .before .before .before .before .before .before .before .pre in
-    let loop-test = c .before .before .before .before .before .before .before .loop-test in
-    let good = c .before .before .before .before .before .before .before .before .before .before .before .good in
+    let pre = c .before .before .before .before .before .before .before .before .before .pre in
+    let loop-test = c .before .before .before .before .before .loop-test in
+    let good = c .before .before .before .before .before .before .before .before .before .good in
     omega (arith, pre .0, loop-test .taken, good)
 
 put-requires-2 : tie.Need-put-requires-2 Inv-loop μ-loop
@@ -65,42 +62,37 @@ enum-told c = search needs
 
 same-length : tie.Need-same-length Inv-loop μ-loop
 same-length c =
-    let put2 = c .before .before .before .before .before .put2 in
-    let put = c .before .before .before .before .before .before .before .before .before .put in
+    let put2 = c .before .before .before .before .before .before .put2 in
+    let put = c .before .before .before .before .before .before .before .before .before .before .put in
     let loop =
-    c .before .before .before .before .before .before .before .before .before .before .before .before .before .before
-    .loop in
+    c .before .before .before .before .before .before .before .before .before .before .before .before .before .loop in
     put2 .kept .0 ∙ put .kept .0 ∙ loop .inv .1
 
 returns : tie.Need-returns Inv-loop μ-loop
 returns c =
+    let loop-test =
+    c .before .before .before .before .before .before .before .before .before .before .before .before .loop-test in
+    let loop =
+    c .before .before .before .before .before .before .before .before .before .before .before .before .before .loop in
+    let pre = c .before .before .before .before .before .before .before .before .before .before .before .before
+    .before .before .before .before .pre in
+    let put = c .before .before .before .before .before .before .before .before .before .before .put in
+    let put2 = c .before .before .before .before .before .before .put2 in
+    let one-record = c .before .before .one-record in
+    begun-stop _ _ _ _ _ _ _ _ _ _ _ (loop-test .taken) (loop .inv .3)
+    (stored-by _ _ _ _ _ _ (omega (arith, pre .0, loop-test .taken, loop .inv .1)) (put .ensures) (put2 .ensures))
+    (pre .2) _ (one-record .ensures) (c .enum-told .given .1)
+
+add-sum : tie.Need-add-sum Inv-loop μ-loop
+add-sum c =
+    let pre = c .before .before .before .before .before .before .before .before .before .before .before .before
+    .before .before .before .before .before .pre in
     let loop-test =
     c .before .before .before .before .before .before .before .before .before .before .before .before .before
     .loop-test in
     let loop =
     c .before .before .before .before .before .before .before .before .before .before .before .before .before .before
     .loop in
-    let pre = c .before .before .before .before .before .before .before .before .before .before .before .before .before
-    .before .before .before .before .pre in
-    let put = c .before .before .before .before .before .before .before .before .before .put in
-    let put2 = c .before .before .before .before .before .put2 in
-    let of-binder = c .before .before .before .before .before .before .before .before .before .before .before
-    .of-binder in
-    let one-record = c .before .before .one-record in
-    begun-stop _ _ _ _ _ _ _ _ _ _ _ (loop-test .taken) (loop .inv .3)
-    (stored-by _ _ _ _ _ _ (omega (arith, pre .0, loop-test .taken, loop .inv .1)) (put .ensures) (put2 .ensures))
-    (pre .2) _ (of-binder .ensures) _ (one-record .ensures) (c .enum-told .given .1)
-
-add-sum : tie.Need-add-sum Inv-loop μ-loop
-add-sum c =
-    let pre = c .before .before .before .before .before .before .before .before .before .before .before .before .before
-    .before .before .before .before .before .pre in
-    let loop-test =
-    c .before .before .before .before .before .before .before .before .before .before .before .before .before .before
-    .loop-test in
-    let loop =
-    c .before .before .before .before .before .before .before .before .before .before .before .before .before .before
-    .before .loop in
     let one-record = c .before .before .before .one-record in
     omega (
       arith,
@@ -112,41 +104,39 @@ add-sum c =
 
 add-i : tie.Need-add-i Inv-loop μ-loop
 add-i c =
-    let pre = c .before .before .before .before .before .before .before .before .before .before .before .before .before
+    let pre = c .before .before .before .before .before .before .before .before .before .before .before .before
     .before .before .before .before .before .pre in
     let loop-test =
-    c .before .before .before .before .before .before .before .before .before .before .before .before .before .before
+    c .before .before .before .before .before .before .before .before .before .before .before .before .before
     .loop-test in
     omega (arith, pre .1, loop-test .taken)
 
 loop-less : tie.Need-loop-less Inv-loop μ-loop
 loop-less c =
     let loop-test =
-    c .before .before .before .before .before .before .before .before .before .before .before .before .before .before
+    c .before .before .before .before .before .before .before .before .before .before .before .before .before
     .loop-test in
     omega (arith, loop-test .taken)
 
 loop-again : tie.Need-loop-again Inv-loop μ-loop
 loop-again c =
     let loop-test =
-    c .before .before .before .before .before .before .before .before .before .before .before .before .before .before
+    c .before .before .before .before .before .before .before .before .before .before .before .before .before
     .loop-test in
-    let put2 = c .before .before .before .before .before .before .put2 in
-    let put = c .before .before .before .before .before .before .before .before .before .before .put in
+    let put2 = c .before .before .before .before .before .before .before .put2 in
+    let put = c .before .before .before .before .before .before .before .before .before .before .before .put in
     let loop =
     c .before .before .before .before .before .before .before .before .before .before .before .before .before .before
-    .before .loop in
-    let of-binder = c .before .before .before .before .before .before .before .before .before .before .before .before
-    .of-binder in
+    .loop in
     let one-record = c .before .before .before .one-record in
     let pre = c .before .before .before .before .before .before .before .before .before .before .before .before .before
-    .before .before .before .before .before .pre in (
+    .before .before .before .before .pre in (
       omega (arith, loop-test .taken),
       put2 .kept .0 ∙ put .kept .0 ∙ loop .inv .1,
       omega (arith, loop .inv .2, small-of (c .before .part .given .1) (one-record .ensures .small)),
       begun-on _ _ _ _ _ _ _ _ _ _ _ (loop-test .taken) (loop .inv .3)
           (stored-by _ _ _ _ _ _ (omega (arith, pre .0, loop-test .taken, loop .inv .1)) (put .ensures) (put2 .ensures))
-          (pre .2) _ (of-binder .ensures) _ _ _ (one-record .ensures) (c .before .part .given .1),
+          (pre .2) _ _ _ (one-record .ensures) (c .before .part .given .1),
     )
 
 same-length-2 : tie.Need-same-length-2 Inv-loop μ-loop
@@ -159,6 +149,5 @@ pub records-spec : {M : Type 1} → statement M
 records-spec =
     tie.close
     (tie.spec
-    Inv-loop μ-loop loop-holds of-binder-requires add-slot mul-slot add-slot-2 put-requires add-put put-requires-2
-    one-record-requires
+    Inv-loop μ-loop loop-holds add-slot mul-slot add-slot-2 put-requires add-put put-requires-2 one-record-requires
     enum-known-part enum-told same-length returns add-sum add-i loop-less loop-again same-length-2 returns-2)

@@ -32,10 +32,10 @@ returns-2 : tie.Need-returns-2
 returns-2 c =
     let field = c .before .before .before .before .before .before .before .before .before .before .before .field in
     let count = c .before .before .before .before .before .before .before .before .before .count in
-    let args = c .before .before .before .before .before .before .before .before .before .before .before .before .before
-    .before .args in
-    let pre = c .before .before .before .before .before .before .before .before .before .before .before .before .before
-    .before .pre in
+    let args = c .before .before .before .before .before .before .before .before .before .before .before .before
+    .before .before .args in
+    let pre = c .before .before .before .before .before .before .before .before .before .before .before .before
+    .before .before .pre in
     let put = c .before .before .before .before .before .before .put in
     let records = c .before .before .records in
     let count-read = read _ _ _ (field .ensures) (count .given .1) in

@@ -24,8 +24,8 @@ returns-2 c binders =
     let step-arguments = c .before .before .step-arguments in
     let kind-read = read _ _ _ (field .ensures) (kind .given .1) in
     one-refused (Sort.Step (args .words) (args .nonterminals) binders) (args .binder) _ _ _ refl
-    (step-unknown _ _ binders _ _ _ _ _ kind-read (allowed-refused (args .words) (args .nonterminals) (args .binder)
-    (kind .given .0 .0)
+    (step-unknown _ _ binders _ _ _ _ _ kind-read
+    (allowed-refused (args .words) (args .nonterminals) (args .binder) (kind .given .0 .0)
     (sym (c .enum-told2 .given .1) ∙ step-arguments .ensures)))
 
 returns-3 : tie.Need-returns-3
@@ -50,8 +50,8 @@ returns-4 c binders =
     let kind =
     c .before .before .before .before .before .before .before .before .before .before .before .before .kind in
     let a = c .before .before .before .before .before .before .before .before .a in
-    let step-arguments = c .before .before .before .before .before .before .before .before .before .before
-    .step-arguments in
+    let step-arguments =
+    c .before .before .before .before .before .before .before .before .before .before .step-arguments in
     let field2 = c .before .before .before .before .before .before .field2 in
     let first = c .before .before .before .before .first in
     let args = c .before .before .before .before .before .before .before .before .before .before .before .before .before
@@ -72,8 +72,7 @@ returns-5 c binders =
     .before .before .before .kind in
     let a = c .before .before .before .before .before .before .before .before .before .before .before .before .a in
     let step-arguments = c .before .before .before .before .before .before .before .before .before .before .before
-    .before
-    .before .before .step-arguments in
+    .before .before .before .step-arguments in
     let field2 = c .before .before .before .before .before .before .before .before .before .before .field2 in
     let first = c .before .before .before .before .before .before .before .before .first in
     let field3 = c .before .before .before .before .before .before .field3 in
@@ -99,8 +98,7 @@ returns-6 c binders =
     let a =
     c .before .before .before .before .before .before .before .before .before .before .before .before .before .a in
     let step-arguments = c .before .before .before .before .before .before .before .before .before .before .before
-    .before
-    .before .before .before .step-arguments in
+    .before .before .before .before .step-arguments in
     let field2 = c .before .before .before .before .before .before .before .before .before .before .before .field2 in
     let first = c .before .before .before .before .before .before .before .before .before .first in
     let field3 = c .before .before .before .before .before .before .before .field3 in
