@@ -8,6 +8,7 @@
 -- - the binders, the innermost first: Searching, searching-start, searching-hit, searching-on, searching-end,
 --   searching-none, searching-some
 -- - how many names the binders have: Counting, counting-start, counting-on, counting-end, counting-none, counting-some
+-- - room for further names: no-room, room-left
 use mathlib.Core.Path.{_≡_, refl, sym, ap, _∙_}
 use mathlib.Core.Bool.{Bool, true, false, cond}
 use mathlib.Core.List.{List, []}
@@ -15,9 +16,9 @@ use mathlib.Core.Option.{Option, none, some}
 use Prim.Native.Nat.{ℕ, zero, suc, _+_, _-_, _<_, _≤_}
 use native.Mathlib.Nat.{add-zero}
 use native.Mathlib.Omega.{arith}
-use lib.Dec.{eqb, ltb}
+use lib.Dec.{eqb, ltb, leb}
 use lib.ListN.{length}
-use borrow.Author.Tests.{eq-eqb, ne-eqb, ltb-true, ltb-false}
+use borrow.Author.Tests.{eq-eqb, ne-eqb, ltb-true, ltb-false, le-leb, lt-leb, leb-true, leb-false}
 use Rattle.characters.specs.Cases.{by-test, clash}
 use Rattle.characters.specs.Spelling.{same}
 use Rattle.book.specs.Book.{lookupFrom, lookupName}
@@ -26,7 +27,7 @@ use Rattle.semantics.specs.Uses.{Path, scopeOf}
 use Rattle.semantics.specs.Tokens.{Item, Variable, variableIn, isSome}
 use Rattle.semantics.specs.Run.{declaredNames}
 use Rattle.run_model.specs.Rows.{Row, noRow, rowOf, isBody, entryAt, namesAbove, behindNames, withinRow, pathFrom}
-use Rattle.run_model.specs.Rows.{pathOf, pathAt, scopeAt}
+use Rattle.run_model.specs.Rows.{pathOf, pathAt, scopeAt, scopeIn}
 use Rattle.calls.specs.TableLaws.{row-past}
 use Rattle.calls.specs.Names.{openBinder, nameCount, depthPast, nameIn, ownName}
 
@@ -262,3 +263,20 @@ module _ (text : List ℕ) (T : List Row) where
   unfolding scopeAt
   counting-some c zero count h e = absurd (h refl)
   counting-some c (suc a) count h e = e
+
+-- ---- Room for further names
+pub no-room : (names around : ℕ) → 64 < names → false ≡ leb (names + around) 64
+no-room names around h = sym (lt-leb (names + around) 64 (omega arith))
+
+leaves-room : (names around : ℕ) → names ≤ 64 → leb around (64 - names) ≡ leb (names + around) 64
+leaves-room names around h =
+    by-test (leb around (64 - names))
+    (λ t. t ∙ sym (le-leb (names + around) 64 (let l = leb-true around (64 - names) t in omega arith)))
+    (λ t. t ∙ sym (lt-leb (names + around) 64 (let l = leb-false around (64 - names) t in omega arith)))
+
+pub room-left : (text : List ℕ) (T : List Row) (i binder names around : ℕ) → names ≤ 64 → binder ≡ rowOf T i .binder →
+    around ≡ declaredNames (scopeAt text T i binder) →
+    leb around (64 - names) ≡ leb (names + declaredNames (scopeIn text T i)) 64
+room-left text T i binder names around h is count =
+    leaves-room names around h
+    ∙ ap (λ k. leb (names + k) 64) (count ∙ ap (λ b. declaredNames (scopeAt text T i b)) is)

@@ -19,10 +19,10 @@ mod names;
 
 pub use names::Declared;
 pub use names::declared_at;
-pub use names::declared_count;
+pub use names::has_room;
 ghost use mathlib.Core.Path.{_≡_};
 ghost use mathlib.Core.List.{[], _∷_};
-ghost use Prim.Native.Nat.{suc, _-_};
+ghost use Prim.Native.Nat.{suc, _-_, _≤_};
 ghost use lib.ListN.{getD, length};
 ghost use Rattle.book.specs.Book.{associativityNumber};
 ghost use Rattle.book.specs.Index.{bookAt};
@@ -142,6 +142,14 @@ pub fn binder_of(rows: &[u32], row: usize) -> u32
 }
 
 // ---- Openings
+// The binder of a body behind an opening with so many names.
+pub fn body_binder(names: u32) -> u32
+    requires { ⌜ names ≤ mostNesting ⌝ }
+    ensures { λ r. ⌜ r ≡ suc (suc names) ⌝ }
+{
+    names + BODY
+}
+
 // The binder of a child of a row's call.
 pub fn inherited_binder(rows: &[u32], row: usize) -> u32
     requires { ⌜ InTable row rows ⌝ }

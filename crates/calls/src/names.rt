@@ -5,13 +5,14 @@
 ghost use mathlib.Core.Path.{_≡_};
 ghost use mathlib.Core.List.{List, []};
 ghost use Prim.Native.Nat.{ℕ, _+_, _-_, _≤_};
+ghost use lib.Dec.{leb};
 ghost use denote.Ref.{now};
 ghost use Rattle.characters.specs.Slices.{atEntry};
 ghost use Rattle.characters.specs.Spelling.{partOf};
-ghost use Rattle.semantics.specs.Numbers.{mostNesting};
+ghost use Rattle.semantics.specs.Numbers.{mostNesting, mostDeclared};
 ghost use Rattle.semantics.specs.Tokens.{variableIn, isSome};
 ghost use Rattle.semantics.specs.Run.{declaredNames};
-ghost use Rattle.run_model.specs.Rows.{entryAt, scopeAt};
+ghost use Rattle.run_model.specs.Rows.{entryAt, scopeAt, scopeIn};
 ghost use Rattle.calls.specs.Table.{HasTable, InTable, ColumnIn, tableAt, rowIn, fieldOf};
 ghost use Rattle.calls.specs.Names.{declaredOf, openBinder, nameCount, depthPast, ownName};
 use crate::BINDER;
@@ -22,11 +23,15 @@ use crate::MOST_NESTING;
 use crate::OUTSIDE;
 use crate::PLACE;
 use crate::SIZE;
+use crate::binder_of;
 use crate::get;
 use cells::DebruijnIndex;
 use cells::VarIndex;
 use characters::part;
 use characters::same_bytes;
+
+// How many declared names may be open at once.
+const MOST_DECLARED: u32 = 64;
 
 // A declared name: its binder's depth outwards, its index within that binder, and its kind.
 pub enum Declared {
@@ -170,7 +175,7 @@ pub fn declared_at(
 }
 
 // How many names are declared in the scope of a use in a row and with a binder.
-pub fn declared_count(rows: &[u32], row: usize, binder: u32) -> usize
+fn declared_count(rows: &[u32], row: usize, binder: u32) -> usize
     requires { ⌜ InTable row rows ⌝ }
     ensures { λ r. ⌜ ((text : List ℕ) → r ≡ declaredNames (scopeAt text (tableAt rows) row binder)) ⌝ }
 {
@@ -186,4 +191,17 @@ pub fn declared_count(rows: &[u32], row: usize, binder: u32) -> usize
         around = open_binder(rows, above);
     }
     count
+}
+
+// The names declared around a row's call leave room for so many more.
+pub fn has_room(rows: &[u32], row: usize, names: u32) -> bool
+    requires { ⌜ InTable row rows ⌝ }
+    ensures { λ r. ⌜ ((text : List ℕ) →
+        r ≡ leb (names + declaredNames (scopeIn text (tableAt rows) row)) mostDeclared) ⌝ }
+{
+    if MOST_DECLARED < names {
+        return false;
+    }
+    let around = declared_count(rows, row, binder_of(rows, row));
+    around <= (MOST_DECLARED - names) as usize
 }

@@ -11,13 +11,13 @@ use Prim.Native.Nat.{ℕ, suc, _+_, _-_, _<_, _≤_}
 use native.Mathlib.Omega.{arith}
 use lib.ListN.{getD, length}
 use Rattle.characters.specs.Skipping.{skipFrom}
-use Rattle.book.specs.Book.{Book}
+use Rattle.book.specs.Book.{Entry, Book}
 use Rattle.semantics.specs.Values.{Parse, absentParse}
 use Rattle.semantics.specs.Steps.{Todo}
 use Rattle.semantics.specs.Errors.{Error}
 use Rattle.semantics.specs.Cells.{Cell}
 use Rattle.semantics.specs.Run.{Result, met, _>>=_}
-use Rattle.run_model.specs.Rows.{Row, rowOf, onRow, withChild, inherited}
+use Rattle.run_model.specs.Rows.{Row, rowOf, onRow, withChild, binderFor}
 use Rattle.run_model.specs.Model as model
 use Rattle.run_model.specs.Model.{RowState, rowState, outcome, RowRunner, RowNext, together}
 use Rattle.run_model.specs.Model.{enterRows, runnerRows, stepsRows, nestedRows, enterChildRows, followFrom}
@@ -32,19 +32,19 @@ use Rattle.transitions.specs.Steps.{nextRows, descendsRows, resumes, StagedFrom
 use Rattle.transitions.specs.Entering.{innerRunner}
 use Rattle.parser.specs.Cycle.{followsRows}
 use Rattle.transitions.specs.OutcomeLaws.{given-ok}
-use Rattle.parser.specs.ResultLaws.{Going, sub-turn, sub-end, bind-map, limit-ends, goes-to, goes-without-failure}
-use Rattle.parser.specs.ResultLaws.{goes-on, ended}
+use Rattle.transitions.specs.ResumeLaws.{goes-without-failure, goes-on, limit-ends, ended}
+use Rattle.parser.specs.ResultLaws.{Going, sub-turn, sub-end, bind-map, goes-to}
 use Rattle.parser.specs.CallLaws.{runner-some}
 
 -- ---- Children
 module _ (book : Book) (text : List ℕ) (inner : Option RowRunner) (n c j : ℕ) (rest : List (Todo ℕ)) (next : Next)
-    (M x items : ℕ) (s : State) (st0 st1 st2 : List ℕ) (T T1 U U1 : List Row) (b u : ℕ) (o r : Outcome)
-    (binder : b ≡ inherited (rowOf T c .binder)) (child : (u ≡ skipFrom text x) × (T1 ≡ onRow T c (withChild u)))
+    (opening : Option (List Entry)) (M x items : ℕ) (s : State) (st0 st1 st2 : List ℕ) (T T1 U U1 : List Row) (b u : ℕ)
+    (o r : Outcome) (binder : b ≡ binderFor opening (rowOf T c .binder)) (child : (u ≡ skipFrom text x) × (T1 ≡ onRow T c (withChild u)))
     (E : Runs text st0 (s .cells) st1 U o (λ cells. enterRows book text inner n b M u (rowState (s .units) cells T1)))
     (F : Runs text st1 (o .state .cells) st2 U1 r
     (λ cells. followsRows book text inner n c j rest next items (given o cells U))) where
   pub descended : Runs text st0 (s .cells) st2 U1 r
-      (λ cells. descendsRows book text inner n c j rest next M x items (rowState (s .units) cells T))
+      (λ cells. descendsRows book text inner n c j rest opening next M x items (rowState (s .units) cells T))
   unfolding descendsRows enterChildRows followsRows
   descended held =
       let d = E held in

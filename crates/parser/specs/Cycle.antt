@@ -1,10 +1,10 @@
 -- What the cycle's functions ask and equal. Scaffolding: no definition of document 01.
 --
 -- First what the model of the crate run_model has no function of its own for; then what the contracts ask (CanRun,
--- CanTry, OnPath) and which part of the model each function is; then the measure's rank.
+-- CanTry, OnPath, OnNames) and which part of the model each function is; then the measure's rank.
 use mathlib.Core.Path.{_≡_}
 use mathlib.Core.List.{List}
-use mathlib.Core.Option.{Option}
+use mathlib.Core.Option.{Option, none}
 use Prim.Native.Nat.{ℕ, _+_, _≤_, _<_}
 use lib.Dec.{leb}
 use lib.ListN.{length}
@@ -20,15 +20,17 @@ use Rattle.semantics.specs.Errors.{Error, joinWith}
 use Rattle.semantics.specs.Run.{Result, ok, _>>=_, begin, counted}
 use Rattle.run_model.specs.Rows.{rowOf}
 use Rattle.run_model.specs.Model.{RowState, Outcome, outcome, RowRunner, makes, atRow, bareCall, takeVariant}
-use Rattle.run_model.specs.Model.{followedRows, orChild}
+use Rattle.run_model.specs.Model.{followedRows, orChild, opensRows, declaresRows, nameChoiceRows}
 use Rattle.run_model.specs.Model.{oneRunRows, roundsRows, runCallRows, enterRows, runnerRows}
 use Rattle.errors.specs.Maps.{failureOf}
 use Rattle.calls.specs.Table.{rowsSize}
 use Rattle.transitions.specs.declared.outcomes.Outcome as code
 use Rattle.transitions.specs.declared.stages.Doing.{Doing}
+use Rattle.transitions.specs.declared.stages.Names.{Names}
 use Rattle.transitions.specs.declared.stages.Next.{Next}
 use Rattle.transitions.specs.declared.stages.Progress.{Progress}
 use Rattle.transitions.specs.Outcomes.{failureAt}
+use Rattle.transitions.specs.Names.{namesAt}
 use Rattle.transitions.specs.Entering.{innerRunner}
 use Rattle.transitions.specs.Steps.{todoFrom, nextRows, firstSideRows, descendsRows, resumes}
 use Rattle.transitions.specs.Contracts.{Fitting, FromState, FromResult}
@@ -93,7 +95,12 @@ CanTry book index text rows n before =
 abbrev pub OnPath : Slice → Slice → Slice → Slice → ℕ → Progress → Type 0
 OnPath book index text rows n here =
     (n ≤ mostNesting) × (rowsSize ≤ length (now rows)) × Fitting book index text ×
-    InRange (bookIn (now book) (now index)) here
+    InRange (bookIn (now book) (now index)) here × (n < here .call)
+
+-- and with the names of an opening, each of which took a level
+abbrev pub OnNames : Slice → Slice → Slice → Slice → ℕ → Progress → Names → Type 0
+OnNames book index text rows n here names =
+    OnPath book index text rows n here × (names .count + n ≤ mostNesting)
 
 -- ---- Which part of the model each function is
 module _ (n : ℕ) where
@@ -116,9 +123,8 @@ module _ (n : ℕ) where
   module _ (here : Progress) where
     abbrev pub descends : Next → ℕ → FromState
     descends next N book text s =
-        descendsRows book text (runnerRows book text n) n (here .call) (here .variant) (todoAt book here) next N
-        (here .place)
-        (here .items) s
+        descendsRows book text (runnerRows book text n) n (here .call) (here .variant) (todoAt book here) none next N
+        (here .place) (here .items) s
 
     abbrev pub followsEach : Next → FromResult
     followsEach next book text z =
@@ -134,6 +140,26 @@ module _ (n : ℕ) where
     proceeds first book text z =
         resumes book text (runnerRows book text n) n (here .call) (here .variant) (todoAt book here) first (here .place)
         (here .items) z
+
+    -- the names are those of the rows
+    module _ (names : Names) where
+      abbrev pub closesNames : FromState
+      closesNames book text s =
+          opensRows book text (runnerRows book text n) n (here .call) (here .variant)
+          (namesAt text (s .rows) n (names .count)) (names .kinds) (names .closing) (names .body) (todoAt book here)
+          (here .place) (here .items) s
+
+      abbrev pub declaresOne : FromState
+      declaresOne book text s =
+          declaresRows book text (runnerRows book text n) n (here .call) (here .variant)
+          (namesAt text (s .rows) n (names .count)) (names .kinds) (names .closing) (names .body) (todoAt book here)
+          (here .place) (here .items) s
+
+      abbrev pub choosesNames : FromState
+      choosesNames book text s =
+          nameChoiceRows book text (runnerRows book text n) n (here .call) (here .variant)
+          (namesAt text (s .rows) n (names .count)) (names .kinds) (names .closing) (names .body) (todoAt book here)
+          (here .place) (here .items) s
 
 -- ---- The measure
 -- a path that is to do something else before the steps left is further from its end

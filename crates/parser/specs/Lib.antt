@@ -5,3 +5,4 @@ pub mod CallLaws
 pub mod VariantLaws
 pub mod ChildLaws
 pub mod PathLaws
+pub mod NameLaws

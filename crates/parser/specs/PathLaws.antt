@@ -5,9 +5,9 @@
 -- - choices: choice-stopped, choice-both
 -- - what a path does next
 -- - steps: rank-few, rank-child, rank-optional, rank-elements, path-ended, path-child, path-optional, path-elements,
---   path-end, path-step
+--   path-names, path-end, path-step
 use mathlib.Core.Path.{_≡_, refl, sym, ap, subst, _∙_}
-use mathlib.Core.Bool.{true, false}
+use mathlib.Core.Bool.{true, false, cond}
 use mathlib.Core.List.{List, _∷_}
 use mathlib.Core.Option.{Option, none, some}
 use Prim.Native.Nat.{ℕ, zero, suc, _+_, _-_, _≤_}
@@ -20,34 +20,36 @@ use Rattle.book.specs.Book.{Book, nthStep}
 use Rattle.book.specs.declared.records.Step.{Step}
 use Rattle.semantics.specs.Steps.{Todo, taking}
 use Rattle.semantics.specs.Cells.{Cell}
-use Rattle.semantics.specs.Run.{Result, ok, _>>=_, make, withCell}
-use Rattle.run_model.specs.Rows.{Row}
+use Rattle.semantics.specs.Run.{Result, ok, _>>=_, make, withCell, closingCode}
+use Rattle.run_model.specs.Rows.{Row, namesAbove}
 use Rattle.run_model.specs.Model as model
 use Rattle.run_model.specs.Model.{RowState, rowState, outcome, RowRunner, makes, spendRows, stopsRows}
 use Rattle.run_model.specs.Model.{completeRows, stepsRows, enterChildRows, followedRows, orChild, orAbsentRows}
-use Rattle.run_model.specs.Model.{choiceRows, chosenRows}
+use Rattle.run_model.specs.Model.{choiceRows, chosenRows, nameChoiceRows}
 use Rattle.errors.specs.Maps.{failureOf}
 use Rattle.tokens.specs.Maps.{closingIn}
 use Rattle.transitions.specs.declared.outcomes.Outcome.{Outcome}
 use Rattle.transitions.specs.declared.outcomes.State.{State}
 use Rattle.transitions.specs.declared.stages.Doing.{Doing}
 use Rattle.transitions.specs.declared.stages.List as list
+use Rattle.transitions.specs.declared.stages.Names.{Names}
 use Rattle.transitions.specs.declared.stages.Next.{Next}
 use Rattle.transitions.specs.declared.stages.Reached.{Reached}
 use Rattle.transitions.specs.declared.stages.Stage.{Stage}
 use Rattle.transitions.specs.Outcomes.{cellsOf, Held, given, goesOn, Ran, Runs, failureAt}
-use Rattle.transitions.specs.Steps.{todoFrom, nextRows, descendsRows, choosesRows, doesRows, resumes, firstSideRows}
-use Rattle.transitions.specs.Steps.{StagedIn}
-use Rattle.transitions.specs.Steps.{ReachedFrom, Chosen}
+use Rattle.transitions.specs.Steps.{todoFrom, nextRows, omitsRows, descendsRows, choosesRows, namesRows, doesRows}
+use Rattle.transitions.specs.Steps.{resumes, firstSideRows, StagedIn, ReachedFrom, Chosen}
+use Rattle.transitions.specs.Names.{namesAt, noNames}
 use Rattle.parser.specs.Cycle.{bothSidesRows, rankOf}
-use Rattle.parser.specs.ResultLaws.{Going, bind-assoc, bind-assoc-in, limit-ends, goes-to, goes-on, ended}
+use Rattle.transitions.specs.ResumeLaws.{goes-on, limit-ends, goes-nowhere, goes-there}
+use Rattle.parser.specs.ResultLaws.{Going, bind-assoc, bind-assoc-in, goes-to}
 
 -- ---- Choices
 sides-optional : (book : Book) (text : List ℕ) (inner : Option RowRunner) (n c j : ℕ) (rest : List (Todo ℕ))
     (M x items : ℕ) (s : RowState) →
     bothSidesRows book text inner n c j rest Next.Steps M x items s
     ≡ choosesRows book text inner n c j rest Next.Steps M x items s
-unfolding bothSidesRows choosesRows firstSideRows nextRows orAbsentRows
+unfolding bothSidesRows choosesRows firstSideRows omitsRows nextRows orAbsentRows
 sides-optional book text inner n c j rest M x items s =
     bind-assoc-in (makes (make text Cell.absent) s)
     (λ absent. makes (withCell book text j items (absent .cell)) (absent .state))
@@ -92,7 +94,7 @@ module _ (book : Book) (text : List ℕ) (inner : Option RowRunner) (n c j : ℕ
 
   module _ (h : a .limit ≡ 0) (st3 : List ℕ) (U1 : List Row) (b r : Outcome)
       (D : Runs text st2 (a .state .cells) st3 U1 b
-      (λ cells. descendsRows book text inner n c j rest next M x items (rowState (a .state .units) cells U)))
+      (λ cells. descendsRows book text inner n c j rest none next M x items (rowState (a .state .units) cells U)))
       (C : Chosen text U1 c x a b r) where
     pub choice-both : Runs text st0 (s .cells) st3 U1 r
         (λ cells. bothSidesRows book text inner n c j rest next M x items (rowState (s .units) cells T))
@@ -126,24 +128,17 @@ module _ (book : Book) (text : List ℕ) (inner : Option RowRunner) (n c j : ℕ
       (λ cells. resumes book text inner n c j rest doing at items (given o cells T))
   unfolding resumes
   resume-ended h held =
-      record {
-        is = ended o (cellsOf st0 (o .state .cells)) T
-            (λ y. elim (y .failure) [
-              | some e ↦ ok (outcome (some e) (y .state))
-              | none ↦ doesRows book text inner n c j rest doing at items (y .state)
-            ]) (λ e s. refl) h;
-        held = held;
-      }
+      record { is = sym (goes-nowhere _ o (cellsOf st0 (o .state .cells)) T h); held = held }
 
   resume-does : (st1 : List ℕ) (U : List Row) (r : Outcome) → goesOn o ≡ true →
       Runs text st0 (o .state .cells) st1 U r
       (λ cells. doesRows book text inner n c j rest doing at items (rowState (o .state .units) cells T)) →
       Runs text st0 (o .state .cells) st1 U r
       (λ cells. resumes book text inner n c j rest doing at items (given o cells T))
-  unfolding resumes _>>=_
+  unfolding resumes
   resume-does st1 U r h k held =
       let q = k held in
-      record { is = q .is ∙ rw (goes-on o (cellsOf st0 (o .state .cells)) T h); held = q .held }
+      record { is = q .is ∙ sym (goes-there _ o (cellsOf st0 (o .state .cells)) T h); held = q .held }
 
 -- each of them
 module _ (book : Book) (text : List ℕ) (inner : Option RowRunner) (n c j : ℕ) (rest : List (Todo ℕ)) (doing : Doing)
@@ -169,11 +164,11 @@ module _ (book : Book) (text : List ℕ) (inner : Option RowRunner) (n c j : ℕ
 
   resume-child : (M : ℕ) → doing ≡ Doing.Child M →
       Runs text st0 (o .state .cells) st1 U r
-      (λ cells. descendsRows book text inner n c j rest Next.Steps M at items (rowState (o .state .units) cells T)) →
+      (λ cells. descendsRows book text inner n c j rest none Next.Steps M at items (rowState (o .state .units) cells T)) →
       Runs text st0 (o .state .cells) st1 U r
       (λ cells. resumes book text inner n c j rest doing at items (given o cells T))
   unfolding doesRows
-  resume-child M e k = by-part (λ s. descendsRows book text inner n c j rest Next.Steps M at items s) (λ s. rw e) k
+  resume-child M e k = by-part (λ s. descendsRows book text inner n c j rest none Next.Steps M at items s) (λ s. rw e) k
 
   resume-optional : (M : ℕ) → doing ≡ Doing.Optional M →
       Runs text st0 (o .state .cells) st1 U r
@@ -185,16 +180,33 @@ module _ (book : Book) (text : List ℕ) (inner : Option RowRunner) (n c j : ℕ
       by-part (λ s. bothSidesRows book text inner n c j rest Next.Steps M at items s)
       (λ s. rw e (sides-optional book text inner n c j rest M at items s)) k
 
-  resume-elements : (l : list.List) → doing ≡ Doing.Elements l →
+  resume-elements : (l : list.List) → doing ≡ Doing.Elements l → l .names ≡ false →
       Runs text st0 (o .state .cells) st1 U r (λ cells.
       bothSidesRows book text inner n c j rest (Next.Elements l) (l .nonterminal) at items
       (rowState (o .state .units) cells T)) →
       Runs text st0 (o .state .cells) st1 U r
       (λ cells. resumes book text inner n c j rest doing at items (given o cells T))
   unfolding doesRows
-  resume-elements l e k =
+  resume-elements l e other k =
       by-part (λ s. bothSidesRows book text inner n c j rest (Next.Elements l) (l .nonterminal) at items s)
-      (λ s. rw e (sides-elements book text inner n c j rest l at items s)) k
+      (λ s. sides-elements book text inner n c j rest l at items s
+      ∙ sym (ap (λ b. cond b (namesRows book text inner n c j rest (l .values) (l .closing) (l .nonterminal) at items s)
+      (choosesRows book text inner n c j rest (Next.Elements l) (l .nonterminal) at items s)) other)
+      ∙ ap (λ d. doesRows book text inner n c j rest d at items s) (sym e)) k
+
+  -- no name is read yet
+  resume-names : (l : list.List) → doing ≡ Doing.Elements l → l .names ≡ true →
+      Runs text st0 (o .state .cells) st1 U r (λ cells.
+      nameChoiceRows book text inner n c j (namesAt text T n 0) (l .values) (closingCode (closingIn (l .closing)))
+      (l .nonterminal) rest at items (rowState (o .state .units) cells T)) →
+      Runs text st0 (o .state .cells) st1 U r
+      (λ cells. resumes book text inner n c j rest doing at items (given o cells T))
+  unfolding doesRows namesRows namesAbove
+  resume-names l e are k =
+      by-part (λ s. namesRows book text inner n c j rest (l .values) (l .closing) (l .nonterminal) at items s)
+      (λ s. sym (ap (λ b. cond b (namesRows book text inner n c j rest (l .values) (l .closing) (l .nonterminal) at items
+      s) (choosesRows book text inner n c j rest (Next.Elements l) (l .nonterminal) at items s)) are)
+      ∙ ap (λ d. doesRows book text inner n c j rest d at items s) (sym e)) k
 
 -- ---- Steps
 -- one of the steps that are left
@@ -242,7 +254,7 @@ module _ (book : Book) (text : List ℕ) (inner : Option RowRunner) (n c j step 
   module _ (h : goesOn o ≡ true) where
     pub path-child : (st1 : List ℕ) (U : List Row) (r : Outcome) (M : ℕ) → doing ≡ Doing.Child M →
         Runs text st (o .state .cells) st1 U r (λ cells.
-        descendsRows book text inner n c j (todoFrom book step left) Next.Steps M at items
+        descendsRows book text inner n c j (todoFrom book step left) none Next.Steps M at items
         (rowState (o .state .units) cells T)) → Held text st0 c0 → Ran text st1 U r z
     path-child st1 U r M e k =
         then-whole st1 U r
@@ -257,12 +269,23 @@ module _ (book : Book) (text : List ℕ) (inner : Option RowRunner) (n c j step 
         (resume-optional book text inner n c j (todoFrom book step left) doing at items o st T st1 U r h M e k)
 
     pub path-elements : (st1 : List ℕ) (U : List Row) (r : Outcome) (l : list.List) → doing ≡ Doing.Elements l →
-        Runs text st (o .state .cells) st1 U r (λ cells.
+        l .names ≡ false → Runs text st (o .state .cells) st1 U r (λ cells.
         bothSidesRows book text inner n c j (todoFrom book step left) (Next.Elements l) (l .nonterminal) at items
         (rowState (o .state .units) cells T)) → Held text st0 c0 → Ran text st1 U r z
-    path-elements st1 U r l e k =
+    path-elements st1 U r l e other k =
         then-whole st1 U r
-        (resume-elements book text inner n c j (todoFrom book step left) doing at items o st T st1 U r h l e k)
+        (resume-elements book text inner n c j (todoFrom book step left) doing at items o st T st1 U r h l e other k)
+
+    pub path-names : (st1 : List ℕ) (U : List Row) (r : Outcome) (l : list.List) (names : Names) →
+        doing ≡ Doing.Elements l → l .names ≡ true → names ≡ noNames l →
+        Runs text st (o .state .cells) st1 U r (λ cells.
+        nameChoiceRows book text inner n c j (namesAt text T n (names .count)) (names .kinds) (names .closing)
+        (names .body) (todoFrom book step left) at items (rowState (o .state .units) cells T)) →
+        Held text st0 c0 → Ran text st1 U r z
+    path-names st1 U r l names e are en k =
+        then-whole st1 U r
+        (resume-names book text inner n c j (todoFrom book step left) doing at items o st T st1 U r h l e are
+        (rw en at k))
 
     module _ (e : doing ≡ Doing.Steps) where
       pub path-end : (st1 : List ℕ) (U : List Row) (r : Outcome) → left ≡ 0 →
@@ -279,8 +302,8 @@ module _ (book : Book) (text : List ℕ) (inner : Option RowRunner) (n c j step 
       resumes-steps : (cells : List Cell) →
           resumes book text inner n c j (todoFrom book step left) doing at items (given o cells T) ≡
           stepsRows book text inner n c j (todoFrom book step left) at items (rowState (o .state .units) cells T)
-      unfolding resumes doesRows _>>=_
-      resumes-steps cells = rw (goes-on o cells T h, e)
+      unfolding resumes doesRows
+      resumes-steps cells = goes-there _ o cells T h ∙ rw e
 
       pub path-step : (st1 : List ℕ) (g : Stage) → (left ≡ 0 → ⊥) → step + left ≤ length (book .steps) →
           StagedIn book text st (o .state) st1 T c j g (λ inner n c rest s.

@@ -1,10 +1,8 @@
--- Laws of what the parts of a run give, one after another; a limit ends all that would follow, and a failure what
--- follows a path.
+-- Laws of what the parts of a run give, one after another.
 --
 -- Contents:
 -- - Going, sub-turn, sub-end
--- - one part after another: bind-assoc, bind-map, bind-assoc-in, bind-map-in, limit-ends, goes-to
--- - whether a path goes on: goes-without-limit, goes-without-failure, goes-on, ended
+-- - one part after another: bind-assoc, bind-map, bind-assoc-in, bind-map-in, goes-to
 use mathlib.Core.Path.{_≡_, refl, sym, ap, _∙_}
 use mathlib.Core.Bool.{Bool, true, false, _&&_}
 use mathlib.Core.List.{List}
@@ -63,53 +61,8 @@ unfolding _>>=_
 bind-map-in (met number units) r f g = refl
 bind-map-in (ok a) r f g = bind-map (r a) f g
 
-module _ (o : Outcome) (cells : List Cell) (T : List Row) where
-  -- a limit ends all that would follow
-  pub limit-ends : (K : model.Outcome → Result model.Outcome) → (o .limit ≡ 0 → ⊥) →
-      given o cells T ≡ (given o cells T >>= K)
-  unfolding _>>=_
-  limit-ends K h = rw (given-met o cells T h)
-
-  pub goes-to : (K : model.Outcome → Result model.Outcome) → o .limit ≡ 0 →
-      (given o cells T >>= K) ≡ K (outcome (failureOf (failureAt o)) (rowState (o .state .units) cells T))
-  unfolding _>>=_
-  goes-to K e = rw (given-ok o cells T e)
-
--- ---- Whether a path goes on
-and-left : (a b : Bool) → (a && b) ≡ true → a ≡ true
-and-left true b e = refl
-and-left false b e = e
-
-and-right : (a b : Bool) → (a && b) ≡ true → b ≡ true
-and-right true b e = e
-and-right false true e = refl
-and-right false false e = e
-
-module _ (o : Outcome) (e : goesOn o ≡ true) where
-  pub goes-without-limit : o .limit ≡ 0
-  unfolding goesOn
-  goes-without-limit = eqb-true (o .limit) 0 (and-left (eqb (o .limit) 0) (eqb (o .failed) 0) e)
-
-  pub goes-without-failure : failureOf (failureAt o) ≡ none
-  unfolding goesOn
-  goes-without-failure = rw (and-right (eqb (o .limit) 0) (eqb (o .failed) 0) e)
-
-module _ (o : Outcome) (cells : List Cell) (T : List Row) where
-  pub goes-on : goesOn o ≡ true → given o cells T ≡ ok (outcome none (rowState (o .state .units) cells T))
-  goes-on e = given-ok o cells T (goes-without-limit o e) ∙ rw (goes-without-failure o e)
-
-  -- what a failure ends
-  pub ended : (K : model.Outcome → Result model.Outcome) →
-      ((e : Error) (s : RowState) → K (outcome (some e) s) ≡ ok (outcome (some e) s)) →
-      goesOn o ≡ false → given o cells T ≡ (given o cells T >>= K)
-  unfolding goesOn _>>=_
-  ended K k h =
-      by-test (eqb (o .limit) 0)
-      (λ t.
-      let f : failureAt o ≡ Failure.At (o .error) = rw (and-false (eqb (o .failed) 0) (rw t at h)) in
-      rw (given-ok o cells T (eqb-true (o .limit) 0 t)
-      ∙ ap (λ (x : Failure). ok (outcome (failureOf x) (rowState (o .state .units) cells T))) f) (sym (k _ _)))
-      (λ t. limit-ends o cells T K (eqb-false (o .limit) 0 t))
-    where
-      and-false : (b : Bool) → (true && b) ≡ false → b ≡ false
-      and-false b e = e
+pub goes-to : (o : Outcome) (cells : List Cell) (T : List Row) (K : model.Outcome → Result model.Outcome) →
+    o .limit ≡ 0 →
+    (given o cells T >>= K) ≡ K (outcome (failureOf (failureAt o)) (rowState (o .state .units) cells T))
+unfolding _>>=_
+goes-to o cells T K e = rw (given-ok o cells T e)

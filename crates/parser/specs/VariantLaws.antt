@@ -38,7 +38,8 @@ use Rattle.transitions.specs.Steps.{todoFrom, resumes}
 use Rattle.transitions.specs.Entering.{innerRunner, Begins, VariantEnded}
 use Rattle.parser.specs.Cycle.{variantRows}
 use Rattle.transitions.specs.OutcomeLaws.{given-ok}
-use Rattle.parser.specs.ResultLaws.{Going, sub-turn, sub-end, bind-assoc, bind-map-in, limit-ends, goes-to}
+use Rattle.transitions.specs.ResumeLaws.{limit-ends}
+use Rattle.parser.specs.ResultLaws.{Going, sub-turn, sub-end, bind-assoc, bind-map-in, goes-to}
 
 -- ---- Variants, one after the other
 variants-turn : (book : Book) (text : List ℕ) (run : RowRunner) (c m k j : ℕ) (e : Option Error) (s : RowState) →

@@ -108,3 +108,22 @@ names-declared book text T m at d names room size there h =
     names-alike text T U (length names) (suc m)
     (λ j l. ap (entryAt text) (row-else T (suc m) j r (λ e. omega arith))) ∙ h in
     rw (length-more names (d .value), names-more text U (length names) m, here, above) refl
+
+pub names-length : (text : List ℕ) (T : List Row) (k n : ℕ) → length (namesAbove text T k n) ≡ k
+unfolding namesAbove
+names-length text T zero n = refl
+names-length text T (suc k) n = ap suc (names-length text T k n)
+
+-- the names of k rows, and the one that is declared below them
+pub names-with : (book : Book) (text : List ℕ) (T : List Row) (k m at : ℕ) (d : Read Entry) →
+    suc m ≤ 200 → length T ≡ 201 → declarationAt book text at ≡ some d →
+    namesAbove text (onRow T (suc m)
+    (declared (d .value .label) (namePlace book text at) (d .end - namePlace book text at))) (suc k) m
+    ≡ namesAbove text T k (suc m) ++ (d .value ∷ [])
+names-with book text T k m at d room size there =
+    let names = namesAbove text T k (suc m) in
+    let U = onRow T (suc m) (declared (d .value .label) (namePlace book text at) (d .end - namePlace book text at)) in
+    let few = names-length text T k (suc m) in
+    let more : length (names ++ (d .value ∷ [])) ≡ suc k = length-more names (d .value) ∙ ap suc few in
+    ap (λ i. namesAbove text U i m) (sym more)
+    ∙ names-declared book text T m at d names room size there (ap (λ i. namesAbove text T i (suc m)) few)

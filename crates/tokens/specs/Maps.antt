@@ -1,11 +1,12 @@
 -- What each struct and enum of the code stands for among the definitions of `semantics`.
-use mathlib.Core.Bool.{Bool, false}
+use mathlib.Core.Bool.{Bool, false, cond}
 use mathlib.Core.List.{List}
 use mathlib.Core.Option.{Option, none, some}
 use Prim.Native.Nat.{ℕ}
 use lib.Dec.{eqb}
 use Rattle.book.specs.Book.{Book, lookupName}
 use Rattle.book.specs.declared.names.Found.{Found}
+use Rattle.semantics.specs.Run.{closingCode}
 use Rattle.semantics.specs.Steps as steps
 use Rattle.semantics.specs.Tokens as tokens
 use Rattle.tokens.specs.declared.steps.After.{After}
@@ -45,8 +46,11 @@ takenOf Taken.Nothing = steps.Taken.nothing
 takenOf (Taken.Token next item) = steps.read next (itemOf item)
 takenOf (Taken.Child N) = steps.Taken.child N
 takenOf (Taken.Optional N) = steps.Taken.optional N
-takenOf (Taken.List comma N closing place) = steps.Taken.list comma N (closingIn closing) place
+takenOf (Taken.List comma names N closing place) =
+    cond names (steps.Taken.names (closingCode (closingIn closing)) N place)
+    (steps.Taken.list comma N (closingIn closing) place)
 takenOf (Taken.Unopened place) = steps.Taken.unopened place
+takenOf (Taken.Body N) = steps.Taken.body N
 
 abbrev pub afterOf : After → steps.After
 afterOf (After.Goes place) = steps.After.goes place

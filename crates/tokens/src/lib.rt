@@ -11,20 +11,22 @@
 // The crate relies on the promises of `characters`, `book`, `errors` and `calls` and on the definitions of `semantics`
 // and `run_model`, and assumes nothing.
 mod declarations;
+mod step_errors;
 mod steps;
 mod tokens;
 
 pub use declarations::Declaration;
 pub use declarations::declaration_at;
+pub use step_errors::closing_error;
+pub use step_errors::step_error;
 pub use steps::After;
 pub use steps::Closing;
 pub use steps::Item;
 pub use steps::Taken;
 pub use steps::after_element;
 pub use steps::closed;
-pub use steps::closing_error;
+pub use steps::closing_code;
 pub use steps::step_at;
-pub use steps::step_error;
 pub use tokens::End;
 pub use tokens::Variable;
 pub use tokens::free_end;

@@ -3,8 +3,9 @@
 -- of document 01.
 --
 -- What is asked: Short, Fitting, Ready. What is promised: MakesCell of a cell, Does of a part of the run, Continues of
--- one that goes on from an outcome, BeginsUse and Opens of a use, Begins of a variant, Stages, StagesIn, StagesAll and
--- Reaches of a part that calls nothing. Then the parts of the model, from where a path is.
+-- one that goes on from an outcome, BeginsUse and Opens of a use, Begins of a variant, Stages, StagesIn, StagesAll,
+-- Reaches and GoesOn of a part that calls nothing, OpensBody and DeclaresName of the names of an opening. Then the parts
+-- of the model, from where a path is.
 use mathlib.Core.Bool.{Bool}
 use mathlib.Core.List.{List, _∷_}
 use mathlib.Core.Option.{Option}
@@ -21,7 +22,7 @@ use Rattle.semantics.specs.Steps.{taking}
 use Rattle.semantics.specs.Run as run
 use Rattle.semantics.specs.Run.{Result}
 use Rattle.run_model.specs.Model.{RowState, rowState, Outcome, runIdentifierRows, completeRows}
-use Rattle.run_model.specs.Model.{stopsRows, listingRows, stepsRows}
+use Rattle.run_model.specs.Model.{stopsRows, stepsRows}
 use Rattle.calls.specs.Table.{rowsSize, tableAt, tableAfter}
 use Rattle.tokens.specs.Maps.{closingIn}
 use Rattle.tokens.specs.declared.steps.Closing.{Closing}
@@ -29,6 +30,8 @@ use Rattle.transitions.specs.declared.outcomes.Outcome as code
 use Rattle.transitions.specs.declared.outcomes.State.{State}
 use Rattle.transitions.specs.declared.entering.Entered.{Entered}
 use Rattle.transitions.specs.declared.items.CellOutcome.{CellOutcome}
+use Rattle.transitions.specs.declared.names.Named.{Named}
+use Rattle.transitions.specs.declared.stages.Names.{Names}
 use Rattle.transitions.specs.declared.stages.Progress.{Progress}
 use Rattle.transitions.specs.declared.stages.Next.{Next}
 use Rattle.transitions.specs.declared.stages.Reached.{Reached}
@@ -37,7 +40,9 @@ use Rattle.transitions.specs.Outcomes.{Runs, MadeBy, given}
 use Rattle.transitions.specs.Fit.{Fit}
 use Rattle.transitions.specs.Entering as entering
 use Rattle.transitions.specs.Steps as steps
-use Rattle.transitions.specs.Steps.{ModelPart, nextRows, firstSideRows, unopenedRows, tokenRows}
+use Rattle.transitions.specs.Steps.{ModelPart, GoPart, nextRows, firstSideRows, listsRows, omitsRows}
+use Rattle.transitions.specs.Steps.{unopenedRows, tokenRows}
+use Rattle.transitions.specs.Names as opening
 
 -- ---- What is asked
 -- "above 4,096 bytes" is a refusal, so that a text's places fit into 32 bits
@@ -118,6 +123,22 @@ Reaches book index text store here s g part =
     steps.ReachedFrom (bookAt book index) (atEntry text) (atEntry store) s (atExit store) (here .variant) g
     (part (bookAt book index) (atEntry text))
 
+-- the same whatever comes next
+abbrev pub GoesOn : Lent → Lent → Lent → Lent → Progress → State → Reached → (Book → List ℕ → GoPart) → Type 0
+GoesOn book index text store here s g part =
+    steps.GoneFrom (atEntry text) (atEntry store) s (atExit store) g (part (bookAt book index) (atEntry text))
+
+-- the names of an opening stop, and the body's scope opens
+abbrev pub OpensBody : Lent → Lent → Lent → Lent → Lent → Progress → Names → State → Reached → Type 0
+OpensBody book index text store rows here names s r =
+    opening.OpensFrom (bookAt book index) (atEntry text) (atEntry store) (atExit store) (tableAt rows) here names s r
+
+-- a name is declared, and row n keeps it
+abbrev pub DeclaresName : Lent → Lent → Lent → Lent → Lent → ℕ → Progress → Names → State → Named → Type 0
+DeclaresName book index text store rows n here names s r =
+    opening.DeclaresFrom (bookAt book index) (atEntry text) (atEntry store) (atExit store) (tableAt rows)
+    (tableAfter rows) n here names s r
+
 -- ---- Parts of the model
 -- a use of mark 2, in row n and with a binder
 abbrev pub identifies : ℕ → ℕ → ℕ → ℕ → FromState
@@ -140,10 +161,9 @@ reads item next here book text inner n c rest s =
     tokenRows book text inner n c (here .variant) rest item next (here .items) s
 
 -- a list begins at a place
-abbrev pub lists : Bool → ℕ → Closing → ℕ → Progress → Book → List ℕ → ModelPart
-lists comma M closing place here book text inner n c rest s =
-    listingRows book text inner n c (here .variant) comma M (closingIn closing) rest
-    (stepsRows book text inner n c (here .variant) rest) place (here .items) s
+abbrev pub lists : Bool → Bool → ℕ → Closing → ℕ → Progress → Book → List ℕ → ModelPart
+lists comma names M closing place here book text inner n c rest s =
+    listsRows book text inner n c (here .variant) rest comma names M closing place (here .items) s
 
 -- kind 13 without its opening
 abbrev pub unopens : ℕ → Progress → Book → List ℕ → ModelPart
@@ -151,10 +171,13 @@ unopens place here book text inner n c rest s =
     unopenedRows book text inner n c (here .variant) rest place (here .items) s
 
 -- a list stops at a place
-abbrev pub stops : ℕ → Closing → ℕ → Progress → Book → List ℕ → ModelPart
-stops values closing place here book text inner n c rest s =
-    stopsRows book text (here .variant) values (closingIn closing)
-    (stepsRows book text inner n c (here .variant) rest) place (here .items) s
+abbrev pub stops : ℕ → Closing → ℕ → Progress → Book → List ℕ → GoPart
+stops values closing place here book text go s =
+    stopsRows book text (here .variant) values (closingIn closing) go place (here .items) s
+
+-- an item is absent
+abbrev pub omits : Progress → Book → List ℕ → GoPart
+omits here book text go s = omitsRows book text (here .variant) go (here .place) (here .items) s
 
 -- the first side of a choice
 abbrev pub firstSide : Next → Progress → Book → List ℕ → ModelPart

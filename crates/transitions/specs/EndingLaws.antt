@@ -35,7 +35,7 @@ use Rattle.transitions.specs.declared.items.CellOutcome.{CellOutcome}
 use Rattle.transitions.specs.declared.runs.RunEnd.{RunEnd}
 use Rattle.transitions.specs.declared.stages.Reached.{Reached}
 use Rattle.transitions.specs.Outcomes.{cellsOf, given, Runs, MadeBy, withoutFailure, doneWith, failureAt}
-use Rattle.transitions.specs.Steps.{reachedWith, resumes, doesRows}
+use Rattle.transitions.specs.Steps.{reachedWith, goesWith, resumes, doesRows}
 use Rattle.transitions.specs.Entering.{goesAgain, SettledAs, FirstEnded, RoundEnded, Begins, VariantEnded}
 use Rattle.transitions.specs.OutcomeLaws.{given-ok, given-met, cell-ok, cell-met}
 use Rattle.transitions.specs.ResumeLaws.{bind-met, bind-ok}
@@ -139,7 +139,7 @@ module _ (book : Book) (text before after : List ℕ) (T U : List Row) (n j : �
   begun : (start : ℕ) → start ≡ rowOf T n .start →
       U ≡ onRow T n (withVariant (nthVariant book j .level) (associativityNumber (nthVariant book j .associativity))) →
       Begins book text before after T U n j s (reachedWith m start)
-  unfolding resumes doesRows _>>=_
+  unfolding resumes goesWith doesRows _>>=_
   begun start es eu = λ held.
       let q = em held in
       let cells = cellsOf before (s .cells) in

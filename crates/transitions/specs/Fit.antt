@@ -41,5 +41,6 @@ TakenFits Taken.Nothing = Unit {0}
 TakenFits (Taken.Token next item) = Fits next × ItemFits item
 TakenFits (Taken.Child N) = Unit {0}
 TakenFits (Taken.Optional N) = Unit {0}
-TakenFits (Taken.List comma N closing place) = Fits place
+TakenFits (Taken.List comma names N closing place) = Fits place
 TakenFits (Taken.Unopened place) = Fits place
+TakenFits (Taken.Body N) = Unit {0}

@@ -4,9 +4,11 @@ pub mod Fit
 pub mod TakenLaws
 pub mod OutcomeLaws
 pub mod Steps
+pub mod Names
 pub mod ResumeLaws
 pub mod StepsLaws
 pub mod NextLaws
+pub mod NamesLaws
 pub mod Entering
 pub mod GivenLaws
 pub mod EnteringLaws

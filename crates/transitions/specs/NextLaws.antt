@@ -3,8 +3,9 @@
 -- Contents:
 -- - what follows a parse: plain-next, list-next, element-limit, element-on, element-last, joined-limit, joined-first,
 --   joined-both
--- - choices: absent-limit, absent-goes, side-limit, side-stops, first-next, both-limit, both-chosen
+-- - choices: spend-stops, spend-goes, side-absent, side-limit, side-stops, first-next, both-limit, both-chosen
 use mathlib.Core.Path.{_≡_, refl, sym, ap, _∙_}
+use mathlib.Core.Bool.{false}
 use mathlib.Core.List.{List}
 use mathlib.Core.Option.{Option}
 use Prim.Native.Nat.{ℕ, zero, suc, _-_}
@@ -35,12 +36,12 @@ use Rattle.transitions.specs.declared.stages.Stage.{Stage}
 use Rattle.transitions.specs.Outcomes.{cellsOf, Spent, MadeBy, withoutFailure, doneWith, failureAt}
 use Rattle.transitions.specs.OutcomeLaws.{given-ok, given-met, failure-done}
 use Rattle.transitions.specs.Steps.{nextRows, choosesRows, doesRows, firstSideRows, ModelPart, StagedFrom}
-use Rattle.transitions.specs.Steps.{ReachedFrom, Chosen}
+use Rattle.transitions.specs.Steps.{ReachedFrom, GoneFrom, Chosen}
 use Rattle.transitions.specs.Steps.{ParseEnded}
 use Rattle.transitions.specs.Steps.{endedBy, reachedWith, thenSteps}
 use Rattle.transitions.specs.ResumeLaws.{stateIn, bind-met, bind-ok, unit-met, unit-ok, makes-ok, makes-met}
-use Rattle.transitions.specs.ResumeLaws.{resumes-met, resumes-on, made-resumes}
-use Rattle.transitions.specs.StepsLaws.{stopsPart}
+use Rattle.transitions.specs.ResumeLaws.{resumes-met, resumes-on, made-resumes, gone-reached}
+use Rattle.transitions.specs.StepsLaws.{stopsPart, omitsPart}
 
 -- ---- What follows a parse
 abbrev nextPart : Book → List ℕ → ℕ → Next → ℕ → Parse ℕ → ModelPart
@@ -67,6 +68,17 @@ pub list-next : (book : Book) (text before after : List ℕ) (j items : ℕ) (ne
     StagedFrom book text before s after j g (nextPart book text j (Next.Elements l) items q) →
     StagedFrom book text before s after j g (nextPart book text j next items q)
 list-next book text before after j items next l q s g en w = rw en w
+
+-- a list whose chain has another element
+abbrev longer : lists.List → ℕ → lists.List
+longer l values =
+    record {
+      comma = l .comma;
+      names = false;
+      nonterminal = l .nonterminal;
+      values = values;
+      closing = l .closing;
+    }
 
 -- an element was added, in the model
 module _ (book : Book) (text : List ℕ) (inner : Option RowRunner) (n c j : ℕ) (rest : List (Todo ℕ)) (l : lists.List)
@@ -109,8 +121,7 @@ module _ (book : Book) (text before middle : List ℕ) (j items : ℕ) (l : list
           outcome = o;
           place = y;
           items = items;
-          doing = Doing.Elements
-              (record { comma = l .comma; nonterminal = l .nonterminal; values = m .cell; closing = l .closing });
+          doing = Doing.Elements (longer l (m .cell));
         })
         (nextPart book text j (Next.Elements l) items q)
     unfolding doesRows choosesRows
@@ -118,10 +129,7 @@ module _ (book : Book) (text before middle : List ℕ) (j items : ℕ) (l : list
         let v = w h in
         rw eo (record {
           is = λ inner n c rest T.
-              resumes-on book text inner n c j rest
-              (Doing.Elements
-              (record { comma = l .comma; nonterminal = l .nonterminal; values = m .cell; closing = l .closing }))
-              y items 0 (m .state) (cellsOf middle (m .state .cells)) T refl
+              resumes-on book text inner n c j rest (Doing.Elements (longer l (m .cell))) y items 0 (m .state) (cellsOf middle (m .state .cells)) T refl
               ∙ sym (element-goes book text inner n c j rest l items q
               (rowState (s .units) (cellsOf before (s .cells)) T) (rowMade (m .cell) (stateIn (m .state) middle T))
               (makes-ok text middle m (run.make text (Cell.chain (l .values) (q .value))) (s .units)
@@ -130,11 +138,11 @@ module _ (book : Book) (text before middle : List ℕ) (j items : ℕ) (l : list
         })
 
     pub element-last : (after : List ℕ) (y : ℕ) (r : Reached) (g : Stage) → a ≡ After.Halts y →
-        ReachedFrom book text middle (m .state) after j r (stopsPart book text j (m .cell) (l .closing) y items) →
+        GoneFrom text middle (m .state) after r (stopsPart book text j (m .cell) (l .closing) y items) →
         g ≡ thenSteps r → StagedFrom book text before s after j g (nextPart book text j (Next.Elements l) items q)
     element-last after y r g k z eg h =
         let v = w h in
-        let u = z (v .held) in
+        let u = gone-reached book text middle after j (m .state) r _ z (v .held) in
         rw eg (record {
           is = λ inner n c rest T.
               u .is inner n c rest T
@@ -183,47 +191,20 @@ joined-both i before o r a b f l h ea eb e q =
 abbrev sidePart : Book → List ℕ → ℕ → Next → ℕ → ℕ → ModelPart
 sidePart book text j next at items inner n c rest s = firstSideRows book text inner n c j rest next at items s
 
-module _ (book : Book) (text before middle : List ℕ) (j at items : ℕ) (s : State) (m : CellOutcome)
-    (w : MadeBy text before middle s m (run.make text Cell.absent)) where
-  pub absent-limit : (g : Reached) → (m .limit ≡ 0 → ⊥) → g ≡ reachedWith m 0 →
-      ReachedFrom book text before s middle j g (sidePart book text j Next.Steps at items)
-  unfolding firstSideRows
-  absent-limit g l e h =
-      let v = w h in
-      rw e (record {
-        is = λ inner n c rest T.
-            resumes-met book text inner n c j rest Doing.Steps 0 (m .cell) (withoutFailure (m .limit) (m .state))
-            (cellsOf middle (m .state .cells)) T l
-            ∙ sym (bind-met _
-            (makes-met text middle m (run.make text Cell.absent) (s .units) (cellsOf before (s .cells)) v T l));
-        held = v .held;
-      })
-
-  pub absent-goes : (after : List ℕ) (g : Reached) (r : CellOutcome) → m .limit ≡ 0 →
-      MadeBy text middle after (m .state) r (run.withCell book text j items (m .cell)) →
-      g ≡ reachedWith r at → ReachedFrom book text before s after j g (sidePart book text j Next.Steps at items)
-  unfolding firstSideRows doesRows
-  absent-goes after g r l k e h =
-      let v = w h in
-      let u = k (v .held) in
-      rw e (record {
-        is = λ inner n c rest T.
-            made-resumes book text inner n c j rest Doing.Steps at (r .cell) after r
-            (run.withCell book text j items (m .cell)) (m .state .units) (cellsOf middle (m .state .cells)) u T
-            (λ b. stepsRows book text inner n c j rest at (b .cell) (b .state)) refl
-            ∙ sym (bind-ok _
-            (makes-ok text middle m (run.make text Cell.absent) (s .units) (cellsOf before (s .cells)) v T l));
-        held = u .held;
-      })
+pub side-absent : (book : Book) (text before after : List ℕ) (j at items : ℕ) (s : State) (g : Reached) →
+    GoneFrom text before s after g (omitsPart book text j at items) →
+    ReachedFrom book text before s after j g (sidePart book text j Next.Steps at items)
+unfolding firstSideRows
+side-absent book text before after j at items s g w = gone-reached book text before after j s g _ w
 
 module _ (s : State) (spent : Outcome) (p : Spent spent s) (cells : List Cell) (T : List Row) where
-  spend-stops : (spent .limit ≡ 0 → ⊥) →
+  pub spend-stops : (spent .limit ≡ 0 → ⊥) →
       spendRows (rowState (s .units) cells T) ≡ met (spent .limit) (spent .state .units)
   spend-stops l =
       unit-met (spendRows (rowState (s .units) cells T)) (spent .limit) (spent .state .units)
       (sym (given-met spent cells T l) ∙ p .is cells T)
 
-  spend-goes : spent .limit ≡ 0 → spendRows (rowState (s .units) cells T) ≡ ok (rowState (spent .state .units) cells T)
+  pub spend-goes : spent .limit ≡ 0 → spendRows (rowState (s .units) cells T) ≡ ok (rowState (spent .state .units) cells T)
   spend-goes l =
       unit-ok (spendRows (rowState (s .units) cells T)) (failureOf (failureAt spent))
       (rowState (spent .state .units) cells T) (sym (given-ok spent cells T l) ∙ p .is cells T)
@@ -242,11 +223,11 @@ module _ (book : Book) (text before : List ℕ) (j at items : ℕ) (l : lists.Li
       })
 
   pub side-stops : (after : List ℕ) (g : Reached) → spent .limit ≡ 0 →
-      ReachedFrom book text before (spent .state) after j g (stopsPart book text j (l .values) (l .closing) at items) →
+      GoneFrom text before (spent .state) after g (stopsPart book text j (l .values) (l .closing) at items) →
       ReachedFrom book text before s after j g (sidePart book text j (Next.Elements l) at items)
   unfolding firstSideRows
   side-stops after g b k h =
-      let u = k (rw (p .cells) h) in
+      let u = gone-reached book text before after j (spent .state) g _ k (rw (p .cells) h) in
       record {
         is = λ inner n c rest T.
             u .is inner n c rest T

@@ -3,11 +3,13 @@
 --
 -- Contents:
 -- - the end of a variant: level-fits, parse-of-variant, finish-limit, finish-added, finish-full
--- - a list stops: stopsPart, stop-limit, stop-unclosed, stop-closed
+-- - a list stops: stopsPart, stop-limit, stop-unclosed, stop-closed; an item is absent: omitsPart, absent-limit,
+--   absent-goes
 -- - a step's unit: free-many, free-list, paid-unit
 -- - a list begins, or has no opening: list-begun, unopened-limit, unopened-stops
 -- - a token was read: token-taken
--- - a step: step-limit, step-fails, step-reads, step-descends, step-chooses, step-lists, step-unopens, at-step
+-- - a step: step-limit, step-fails, step-reads, step-descends, step-chooses, step-lists, step-unopens, step-omits,
+--   at-step
 use mathlib.Core.Path.{_≡_, refl, sym, ap, _∙_}
 use mathlib.Core.Bool.{Bool, true, false, cond}
 use mathlib.Core.List.{List, _∷_}
@@ -34,7 +36,7 @@ use Rattle.run_model.specs.Rows.{Row, scopeIn}
 use Rattle.run_model.specs.Model as model
 use Rattle.run_model.specs.Model.{RowState, rowState, outcome, RowRunner, RowGo, RowMade, rowMade, makes, valueCell}
 use Rattle.run_model.specs.Model.{addRun, completeRows}
-use Rattle.run_model.specs.Model.{stopsRows, choiceRows, listingRows, stepUnitRows, stepsRows}
+use Rattle.run_model.specs.Model.{stopsRows, choiceRows, listingRows, openRows, bodyRows, stepUnitRows, stepsRows}
 use Rattle.sets.specs.Sets.{parse}
 use Rattle.calls.specs.Table.{RunAdded}
 use Rattle.calls.specs.SettlingLaws.{run-added-model}
@@ -50,17 +52,21 @@ use Rattle.transitions.specs.declared.outcomes.State.{State}
 use Rattle.transitions.specs.declared.outcomes.Outcome.{Outcome}
 use Rattle.transitions.specs.declared.items.CellOutcome.{CellOutcome}
 use Rattle.transitions.specs.declared.stages.Doing.{Doing}
+use Rattle.transitions.specs.declared.stages.List as lists
+use Rattle.transitions.specs.declared.stages.Next.{Next}
 use Rattle.transitions.specs.declared.stages.Reached.{Reached}
 use Rattle.transitions.specs.declared.stages.Stage.{Stage}
 use Rattle.transitions.specs.Fit.{Fit}
 use Rattle.transitions.specs.Outcomes.{cellsOf, Held, bare, given, Runs, Spent, MadeIn, MadeBy, withoutFailure}
 use Rattle.transitions.specs.Outcomes.{doneWith, failureAt}
 use Rattle.transitions.specs.OutcomeLaws.{given-ok, given-met}
-use Rattle.transitions.specs.Steps.{nextRows, descendsRows, choosesRows, doesRows, unopenedRows, tokenRows}
-use Rattle.transitions.specs.Steps.{ModelPart, StagedFrom, StagedIn, ReachedFrom, StepSpent}
-use Rattle.transitions.specs.Steps.{endedBy, reachedWith, thenSteps, thenDoes}
+use Rattle.transitions.specs.Steps.{nextRows, descendsRows, choosesRows, doesRows, namesRows, listsRows}
+use Rattle.transitions.specs.Steps.{omitsRows, bodyAloneRows, unopenedRows, tokenRows}
+use Rattle.transitions.specs.Steps.{ModelPart, GoPart, StagedFrom, StagedIn, ReachedFrom, GoneFrom, StepSpent}
+use Rattle.transitions.specs.Steps.{endedBy, reachedWith, thenSteps, thenChild, thenDoes}
 use Rattle.transitions.specs.ResumeLaws.{stateIn, bind-met, bind-ok, unit-met, unit-ok, makes-ok, makes-met}
-use Rattle.transitions.specs.ResumeLaws.{resumes-met, resumes-on, resumes-failed, made-resumes}
+use Rattle.transitions.specs.ResumeLaws.{goes-met, goes-failed, made-goes, resumes-met, resumes-on}
+use Rattle.transitions.specs.ResumeLaws.{resumes-failed, made-resumes, gone-reached, gone-child}
 
 -- ---- The end of a variant
 pub level-fits : (book : Book) (text : List ℕ) (j : ℕ) (w : Variant) → w ≡ nthVariant book j →
@@ -134,21 +140,20 @@ module _ (book : Book) (text : List ℕ) (j values : ℕ) (close : Option ℕ) (
   stops-closed y n = rw (e, stopsRows, _>>=_) (rw n)
 
 -- the list's part of the model
-abbrev pub stopsPart : Book → List ℕ → ℕ → ℕ → Closing → ℕ → ℕ → ModelPart
-stopsPart book text j values closing at items inner n c rest s =
-    stopsRows book text j values (closingIn closing) (stepsRows book text inner n c j rest) at items s
+abbrev pub stopsPart : Book → List ℕ → ℕ → ℕ → Closing → ℕ → ℕ → GoPart
+stopsPart book text j values closing at items go s =
+    stopsRows book text j values (closingIn closing) go at items s
 
 module _ (book : Book) (text before middle : List ℕ) (j values : ℕ) (closing : Closing) (at items : ℕ) (s : State)
     (m : CellOutcome) (w : MadeBy text before middle s m (run.make text (Cell.list values))) where
   pub stop-limit : (g : Reached) → (m .limit ≡ 0 → ⊥) → g ≡ reachedWith m 0 →
-      ReachedFrom book text before s middle j g (stopsPart book text j values closing at items)
+      GoneFrom text before s middle g (stopsPart book text j values closing at items)
   unfolding stopsRows
   stop-limit g l e h =
       let v = w h in
       rw e (record {
-        is = λ inner n c rest T.
-            resumes-met book text inner n c j rest Doing.Steps 0 (m .cell) (withoutFailure (m .limit) (m .state))
-            (cellsOf middle (m .state .cells)) T l
+        is = λ go T.
+            goes-met (λ s. go 0 (m .cell) s) (withoutFailure (m .limit) (m .state)) (cellsOf middle (m .state .cells)) T l
             ∙ sym (bind-met _
             (makes-met text middle m (run.make text (Cell.list values)) (s .units) (cellsOf before (s .cells)) v T l));
         held = v .held;
@@ -158,15 +163,14 @@ module _ (book : Book) (text before middle : List ℕ) (j values : ℕ) (closing
     pub stop-unclosed : (g : Reached) (e : code.Error) (o : Outcome) → end ≡ End.Nothing →
         errorOf e ≡ error (skipFrom text at) 1 (closingCode (closingIn closing)) →
         o ≡ doneWith (Failure.At e) (m .state) → g ≡ endedBy o →
-        ReachedFrom book text before s middle j g (stopsPart book text j values closing at items)
+        GoneFrom text before s middle g (stopsPart book text j values closing at items)
     stop-unclosed g e o n d eo q h =
         let v = w h in
         rw (q, eo) (record {
-          is = λ inner n₁ c rest T.
-              resumes-failed book text inner n₁ c j rest Doing.Steps 0 0 e (m .state)
-              (cellsOf middle (m .state .cells)) T
+          is = λ go T.
+              goes-failed (λ s. go 0 0 s) e (m .state) (cellsOf middle (m .state .cells)) T
               ∙ ap (λ z. ok (outcome (some z) (stateIn (m .state) middle T))) d
-              ∙ sym (stops-unclosed book text j values (closingIn closing) (stepsRows book text inner n₁ c j rest)
+              ∙ sym (stops-unclosed book text j values (closingIn closing) go
               at items (rowState (s .units) (cellsOf before (s .cells)) T)
               (rowMade (m .cell) (stateIn (m .state) middle T))
               (makes-ok text middle m (run.make text (Cell.list values)) (s .units) (cellsOf before (s .cells)) v T l)
@@ -176,24 +180,56 @@ module _ (book : Book) (text before middle : List ℕ) (j values : ℕ) (closing
 
     pub stop-closed : (after : List ℕ) (g : Reached) (r : CellOutcome) (next : ℕ) → end ≡ End.At next →
         MadeBy text middle after (m .state) r (run.withCell book text j items (m .cell)) →
-        g ≡ reachedWith r next →
-        ReachedFrom book text before s after j g (stopsPart book text j values closing at items)
-    unfolding doesRows
+        g ≡ reachedWith r next → GoneFrom text before s after g (stopsPart book text j values closing at items)
     stop-closed after g r next n k q h =
         let v = w h in
         let u = k (v .held) in
         rw q (record {
-          is = λ inner n₁ c rest T.
-              made-resumes book text inner n₁ c j rest Doing.Steps next (r .cell) after r
-              (run.withCell book text j items (m .cell)) (m .state .units) (cellsOf middle (m .state .cells)) u T
-              (λ b. stepsRows book text inner n₁ c j rest next (b .cell) (b .state)) refl
-              ∙ sym (stops-closed book text j values (closingIn closing) (stepsRows book text inner n₁ c j rest)
+          is = λ go T.
+              made-goes (λ s. go next (r .cell) s) text after r (run.withCell book text j items (m .cell))
+              (m .state .units) (cellsOf middle (m .state .cells)) u T (λ b. go next (b .cell) (b .state)) refl
+              ∙ sym (stops-closed book text j values (closingIn closing) go
               at items (rowState (s .units) (cellsOf before (s .cells)) T)
               (rowMade (m .cell) (stateIn (m .state) middle T))
               (makes-ok text middle m (run.make text (Cell.list values)) (s .units) (cellsOf before (s .cells)) v T l)
               next (sym ee ∙ ap endOf n));
           held = u .held;
         })
+
+-- ---- An item is absent
+abbrev pub omitsPart : Book → List ℕ → ℕ → ℕ → ℕ → GoPart
+omitsPart book text j at items go s = omitsRows book text j go at items s
+
+module _ (book : Book) (text before middle : List ℕ) (j at items : ℕ) (s : State) (m : CellOutcome)
+    (w : MadeBy text before middle s m (run.make text Cell.absent)) where
+  pub absent-limit : (g : Reached) → (m .limit ≡ 0 → ⊥) → g ≡ reachedWith m 0 →
+      GoneFrom text before s middle g (omitsPart book text j at items)
+  unfolding omitsRows
+  absent-limit g l e h =
+      let v = w h in
+      rw e (record {
+        is = λ go T.
+            goes-met (λ s. go 0 (m .cell) s) (withoutFailure (m .limit) (m .state)) (cellsOf middle (m .state .cells)) T l
+            ∙ sym (bind-met _
+            (makes-met text middle m (run.make text Cell.absent) (s .units) (cellsOf before (s .cells)) v T l));
+        held = v .held;
+      })
+
+  pub absent-goes : (after : List ℕ) (g : Reached) (r : CellOutcome) → m .limit ≡ 0 →
+      MadeBy text middle after (m .state) r (run.withCell book text j items (m .cell)) →
+      g ≡ reachedWith r at → GoneFrom text before s after g (omitsPart book text j at items)
+  unfolding omitsRows
+  absent-goes after g r l k e h =
+      let v = w h in
+      let u = k (v .held) in
+      rw e (record {
+        is = λ go T.
+            made-goes (λ s. go at (r .cell) s) text after r (run.withCell book text j items (m .cell))
+            (m .state .units) (cellsOf middle (m .state .cells)) u T (λ b. go at (b .cell) (b .state)) refl
+            ∙ sym (bind-ok _
+            (makes-ok text middle m (run.make text Cell.absent) (s .units) (cellsOf before (s .cells)) v T l));
+        held = u .held;
+      })
 
 -- ---- A step's unit
 module _ (step : Step) (s : State) (r : Outcome) (kind : ℕ) (ek : kind ≡ stepNumber step) where
@@ -243,26 +279,37 @@ module _ (r : Outcome) (step : Step) (s : State) (p : StepSpent r step s) (book 
       (rowState (r .state .units) cells T) (sym (given-ok r cells T l) ∙ p .is book text inner n cells T)
 
 -- ---- A list begins, or has no opening
+abbrev listOf : Bool → Bool → ℕ → Closing → ℕ → lists.List
+listOf comma names M closing values =
+    record { comma = comma; names = names; nonterminal = M; values = values; closing = closing }
+
 module _ (book : Book) (text before after : List ℕ) (j : ℕ) (s : State) (m : CellOutcome)
     (w : MadeBy text before after s m (run.make text Cell.empty)) (place items : ℕ) where
-  pub list-begun : (comma : Bool) (M : ℕ) (closing : Closing) (o : Outcome) → o ≡ withoutFailure (m .limit) (m .state) →
+  pub list-begun : (comma names : Bool) (M : ℕ) (closing : Closing) (o : Outcome) →
+      o ≡ withoutFailure (m .limit) (m .state) →
       StagedFrom book text before s after j
       (record {
         outcome = o;
         place = place;
         items = items;
-        doing = Doing.Elements (record { comma = comma; nonterminal = M; values = m .cell; closing = closing });
+        doing = Doing.Elements (listOf comma names M closing (m .cell));
       })
-      (λ inner n c rest s.
-      listingRows book text inner n c j comma M (closingIn closing) rest
-      (stepsRows book text inner n c j rest) place items s)
-  unfolding listingRows doesRows choosesRows
-  list-begun comma M closing o e h =
+      (λ inner n c rest s. listsRows book text inner n c j rest comma names M closing place items s)
+  unfolding listsRows listingRows doesRows choosesRows
+  list-begun comma true M closing o e h =
       let v = w h in
       rw e (record {
         is = λ inner n c rest T.
-            made-resumes book text inner n c j rest
-            (Doing.Elements (record { comma = comma; nonterminal = M; values = m .cell; closing = closing })) place
+            made-resumes book text inner n c j rest (Doing.Elements (listOf comma true M closing (m .cell))) place
+            items after m (run.make text Cell.empty) (s .units) (cellsOf before (s .cells)) v T
+            (λ b. namesRows book text inner n c j rest (b .cell) closing M place items (b .state)) refl;
+        held = v .held;
+      })
+  list-begun comma false M closing o e h =
+      let v = w h in
+      rw e (record {
+        is = λ inner n c rest T.
+            made-resumes book text inner n c j rest (Doing.Elements (listOf comma false M closing (m .cell))) place
             items after m (run.make text Cell.empty) (s .units) (cellsOf before (s .cells)) v T
             (λ b. choiceRows book text inner n c j comma M (b .cell) (closingIn closing) rest
             (stepsRows book text inner n c j rest) place items (b .state)) refl;
@@ -285,13 +332,13 @@ module _ (book : Book) (text before after : List ℕ) (j : ℕ) (s : State) (m :
       })
 
   pub unopened-stops : (last : List ℕ) (g : Reached) → m .limit ≡ 0 →
-      ReachedFrom book text after (m .state) last j g (stopsPart book text j (m .cell) Closing.Nothing place items) →
+      GoneFrom text after (m .state) last g (stopsPart book text j (m .cell) Closing.Nothing place items) →
       ReachedFrom book text before s last j g
       (λ inner n c rest s. unopenedRows book text inner n c j rest place items s)
   unfolding unopenedRows
   unopened-stops last g l k h =
       let v = w h in
-      let u = k (v .held) in
+      let u = gone-reached book text after last j (m .state) g _ k (v .held) in
       record {
         is = λ inner n c rest T.
             u .is inner n c rest T ∙ sym (bind-ok _
@@ -347,16 +394,30 @@ module _ (book : Book) (text : List ℕ) (inner : Option RowRunner) (n c j : ℕ
   unfolding stepsRows doesRows choosesRows _>>=_
   step-optional M e = rw (u, stepsRows, _>>=_) (rw e)
 
-  step-list : (comma : Bool) (M : ℕ) (close : Option ℕ) (y : ℕ) →
-      takes ≡ steps.Taken.list comma M close y → stepPart book text j step x items inner n c rest s
-      ≡ listingRows book text inner n c j comma M close rest (stepsRows book text inner n c j rest) y items t
-  unfolding stepsRows _>>=_
-  step-list comma M close y e = rw (u, stepsRows, _>>=_) (rw e)
+  step-list : (comma names : Bool) (M : ℕ) (closing : Closing) (y : ℕ) →
+      takes ≡ takenOf (Taken.List comma names M closing y) → stepPart book text j step x items inner n c rest s
+      ≡ listsRows book text inner n c j rest comma names M closing y items t
+  unfolding stepsRows listsRows namesRows _>>=_
+  step-list comma true M closing y e = rw (u, stepsRows, _>>=_) (rw e)
+  step-list comma false M closing y e = rw (u, stepsRows, _>>=_) (rw e)
 
   step-unopened : (y : ℕ) → takes ≡ steps.Taken.unopened y →
       stepPart book text j step x items inner n c rest s ≡ unopenedRows book text inner n c j rest y items t
   unfolding stepsRows unopenedRows _>>=_
   step-unopened y e = rw (u, stepsRows, _>>=_) (rw e)
+
+  step-body : (M : ℕ) → takes ≡ steps.Taken.body M →
+      stepPart book text j step x items inner n c rest s ≡ bodyAloneRows book text inner n c j rest M x items t
+  unfolding stepsRows bodyAloneRows _>>=_
+  step-body M e = rw (u, stepsRows, _>>=_) (rw e)
+
+-- a body behind no opening is a child like any other, behind an absent item
+omits-body : (book : Book) (text : List ℕ) (inner : Option RowRunner) (n c j : ℕ) (rest : List (Todo ℕ)) (M x items : ℕ)
+    (s : RowState) →
+    omitsRows book text j (λ x items s. descendsRows book text inner n c j rest none Next.Steps M x items s) x items s
+    ≡ bodyAloneRows book text inner n c j rest M x items s
+unfolding omitsRows bodyAloneRows bodyRows openRows descendsRows nextRows _>>=_
+omits-body book text inner n c j rest M x items s = refl
 
 module _ (book : Book) (text store : List ℕ) (T : List Row) (c j : ℕ) (s : State) (x items : ℕ) (step : Step)
     (spent : Outcome) (p : StepSpent spent step s) where
@@ -444,19 +505,18 @@ module _ (book : Book) (text store : List ℕ) (T : List Row) (c j : ℕ) (s : S
           held = spent-held h;
         })
 
-    pub step-lists : (after : List ℕ) (comma : Bool) (M : ℕ) (closing : Closing) (y : ℕ) (g : Stage) →
-        t ≡ Taken.List comma M closing y → StagedFrom book text store (spent .state) after j g
-        (λ inner n c rest s. listingRows book text inner n c j comma M (closingIn closing) rest
-        (stepsRows book text inner n c j rest) y items s) →
+    pub step-lists : (after : List ℕ) (comma names : Bool) (M : ℕ) (closing : Closing) (y : ℕ) (g : Stage) →
+        t ≡ Taken.List comma names M closing y → StagedFrom book text store (spent .state) after j g
+        (λ inner n c rest s. listsRows book text inner n c j rest comma names M closing y items s) →
         StagedIn book text store s after T c j g (stepPart book text j step x items)
-    step-lists after comma M closing y g k w h =
+    step-lists after comma names M closing y g k w h =
         let u = w (spent-held h) in
         record {
           is = λ inner n rest.
               u .is inner n c rest T
               ∙ sym (step-list book text inner n c j rest step x items
               (rowState (s .units) (cellsOf store (s .cells)) T) (stateIn (spent .state) store T)
-              (spends inner n) comma M (closingIn closing) y (sym et ∙ ap takenOf k));
+              (spends inner n) comma names M closing y (sym et ∙ ap takenOf k));
           held = u .held;
         }
 
@@ -474,6 +534,23 @@ module _ (book : Book) (text store : List ℕ) (T : List Row) (c j : ℕ) (s : S
               (spends inner n) y (sym et ∙ ap takenOf k));
           held = u .held;
         })
+
+    -- kind 14 without its opening
+    pub step-omits : (after : List ℕ) (M : ℕ) (r : Reached) (g : Stage) → t ≡ Taken.Body M →
+        GoneFrom text store (spent .state) after r (omitsPart book text j x items) → g ≡ thenChild r M →
+        StagedIn book text store s after T c j g (stepPart book text j step x items)
+    step-omits after M r g k w eg h =
+        let u = gone-child book text store after j (spent .state) r (omitsPart book text j x items) w M g eg
+        (spent-held h) in
+        record {
+          is = λ inner n rest.
+              u .is inner n c rest T
+              ∙ omits-body book text inner n c j rest M x items (stateIn (spent .state) store T)
+              ∙ sym (step-body book text inner n c j rest step x items
+              (rowState (s .units) (cellsOf store (s .cells)) T) (stateIn (spent .state) store T)
+              (spends inner n) M (sym et ∙ ap takenOf k));
+          held = u .held;
+        }
 
 -- the step that the code has read
 pub at-step :

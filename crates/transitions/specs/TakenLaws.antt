@@ -294,8 +294,10 @@ taken-in Taken.Nothing f = f
 taken-in (Taken.Token next item) f = (f .0, item-in item (f .1))
 taken-in (Taken.Child N) f = f
 taken-in (Taken.Optional N) f = f
-taken-in (Taken.List comma N closing place) f = f
+taken-in (Taken.List comma true N closing place) f = f
+taken-in (Taken.List comma false N closing place) f = f
 taken-in (Taken.Unopened place) f = f
+taken-in (Taken.Body N) f = f
 
 pub taken-fits : (book : Book) (text : List ℕ) (scope : Scope) → Fit book text → (x : ℕ) → Fits x → (step : Step) →
     (t : Taken) → takenOf t ≡ stepAt book text scope step x → TakenFits t
@@ -306,9 +308,9 @@ module _ (t : Taken) (f : TakenFits t) where
   pub token-fits : (next : ℕ) (item : Item) → t ≡ Taken.Token next item → Fits next × ItemFits item
   token-fits next item e = rw e at f
 
-  pub list-fits : (comma : Bool) (N : ℕ) (closing : Closing) (place : ℕ) →
-      t ≡ Taken.List comma N closing place → Fits place
-  list-fits comma N closing place e = rw e at f
+  pub list-fits : (comma names : Bool) (N : ℕ) (closing : Closing) (place : ℕ) →
+      t ≡ Taken.List comma names N closing place → Fits place
+  list-fits comma names N closing place e = rw e at f
 
   pub unopened-fits : (place : ℕ) → t ≡ Taken.Unopened place → Fits place
   unopened-fits place e = rw e at f

@@ -4,8 +4,6 @@ ghost use Rattle.calls.specs.Table.{InTable, tableAt};
 ghost use Rattle.transitions.specs.Steps.{Chosen};
 ghost use Rattle.transitions.specs.Contracts.{Short, Fitting, Reaches, firstSide};
 ghost use Rattle.transitions.specs.declared.stages.Next.{Next};
-use crate::items::make;
-use crate::items::with_cell;
 use crate::outcomes::Outcome;
 use crate::outcomes::State;
 use crate::outcomes::done;
@@ -17,39 +15,8 @@ use crate::stages::Next;
 use crate::stages::Progress;
 use crate::stages::Reached;
 use crate::stages::ended;
-use crate::stages::reached_with;
+use crate::steps::absent;
 use crate::steps::stop;
-
-// An optional child is absent: the cell, then its chain cell.
-fn absent(
-    book: &[u8],
-    index: &[usize],
-    text: &[u8],
-    store: &mut [u32],
-    here: Progress,
-    state: State,
-) -> Reached
-    ensures { λ r. ⌜ Reaches book index text store here state r (firstSide Next.Steps here) ⌝ }
-{
-    let m = make(text, store, cells::absent(), state);
-    if m.limit != 0 {
-        return reached_with(m, 0);
-    }
-    let s = m.state;
-    reached_with(
-        with_cell(
-            book,
-            index,
-            text,
-            store,
-            here.variant,
-            here.items,
-            m.cell,
-            s,
-        ),
-        here.place,
-    )
-}
 
 // "stop comes before one more"; one unit for both.
 fn first_stop(

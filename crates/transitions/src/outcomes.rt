@@ -13,6 +13,8 @@ pub const TOO_MANY_PARSES: u32 = 22;
 
 pub const TOO_MANY_CELLS: u32 = 23;
 
+pub const TOO_MANY_NAMES: u32 = 41;
+
 // Units left, and cells so far. The cells are in the store, the marks of the open calls in the rows.
 pub struct State {
     pub units: u32,

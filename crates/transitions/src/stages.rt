@@ -24,12 +24,23 @@ pub struct Progress {
 }
 
 // A list that is being read: of a nonterminal, the chain of the elements already read, the closing, and with commas or
-// not. The nonterminal comes first, so that in `Doing` it lies where a child's does.
+// not. Or it is one of declared names, with the body's nonterminal and the chain of their kinds. The nonterminal comes
+// first, so that in `Doing` it lies where a child's does.
 pub struct List {
     pub nonterminal: u32,
     pub values: u32,
     pub closing: Closing,
     pub comma: bool,
+    pub names: bool,
+}
+
+// The names of an opening that is being read: the body behind them, the chain of their kinds, how many there are, and
+// the character that closes them. Each stands in the row of its level, the last one next above the first free row.
+pub struct Names {
+    pub body: u32,
+    pub kinds: u32,
+    pub count: u32,
+    pub closing: u32,
 }
 
 // What a path does next: the steps that are left, a child, perhaps a child, or the elements of a list.
@@ -40,7 +51,7 @@ pub enum Doing {
     Elements(List),
 }
 
-// What follows each parse of a child: the steps that are left, or the list.
+// What follows each parse of a child: the steps that are left, or the list, whose elements are no names.
 pub enum Next {
     Steps,
     Elements(List),

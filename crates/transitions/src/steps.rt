@@ -4,11 +4,9 @@ ghost use Prim.Native.Nat.{_<_};
 ghost use Rattle.sets.specs.Sets.{parse, parseOf};
 ghost use Rattle.tokens.specs.Maps.{itemOf};
 ghost use Rattle.transitions.specs.Fit.{Fits, ItemFits};
-ghost use Rattle.transitions.specs.Steps.{thenDoes, StepSpent, ParseEnded};
-ghost use Rattle.transitions.specs.Contracts.{Fitting, Ready, Does, Stages, StagesIn, StagesAll};
-ghost use Rattle.transitions.specs.Contracts.{Reaches};
-ghost use Rattle.transitions.specs.Contracts.{completes, takes, reads, lists, unopens, stops, follows};
-ghost use Rattle.transitions.specs.declared.stages.Next.{Next};
+ghost use Rattle.transitions.specs.Steps.{thenDoes, thenChild, StepSpent};
+ghost use Rattle.transitions.specs.Contracts.{Fitting, Ready, Does, StagesIn, StagesAll, Reaches, GoesOn};
+ghost use Rattle.transitions.specs.Contracts.{completes, takes, reads, lists, unopens, stops, omits};
 use crate::items::make;
 use crate::items::value;
 use crate::items::with_cell;
@@ -17,13 +15,11 @@ use crate::outcomes::Outcome;
 use crate::outcomes::State;
 use crate::outcomes::TOO_MANY_PARSES;
 use crate::outcomes::done;
-use crate::outcomes::failure_of;
 use crate::outcomes::spend;
 use crate::outcomes::without_failure;
 use crate::places::skipped;
 use crate::stages::Doing;
 use crate::stages::List;
-use crate::stages::Next;
 use crate::stages::Progress;
 use crate::stages::Reached;
 use crate::stages::Stage;
@@ -34,7 +30,6 @@ use book::Step;
 use book::Variant;
 use errors::Failure;
 use sets::Parse;
-use tokens::After;
 use tokens::Closing;
 use tokens::End;
 use tokens::Item;
@@ -94,7 +89,7 @@ pub fn stop(
     state: State,
 ) -> Reached
     requires { ⌜ Fitting book index text ⌝ }
-    ensures { λ r. ⌜ Reaches book index text store here state r (stops values closing place here) ⌝ }
+    ensures { λ r. ⌜ GoesOn book index text store here state r (stops values closing place here) ⌝ }
 {
     let m = make(text, store, cells::list(values), state);
     if m.limit != 0 {
@@ -117,6 +112,38 @@ pub fn stop(
             s,
         ),
         next as u32,
+    )
+}
+
+// ---- An item is absent
+// Its cell, then its chain cell.
+pub fn absent(
+    book: &[u8],
+    index: &[usize],
+    text: &[u8],
+    store: &mut [u32],
+    here: Progress,
+    state: State,
+) -> Reached
+    ensures { λ r. ⌜ GoesOn book index text store here state r (omits here) ⌝ }
+{
+    let m = make(text, store, cells::absent(), state);
+    if m.limit != 0 {
+        return reached_with(m, 0);
+    }
+    let s = m.state;
+    reached_with(
+        with_cell(
+            book,
+            index,
+            text,
+            store,
+            here.variant,
+            here.items,
+            m.cell,
+            s,
+        ),
+        here.place,
     )
 }
 
@@ -148,23 +175,38 @@ fn then_child(here: Progress, doing: Doing, state: State) -> Stage
     }
 }
 
-// A list from its beginning, with the empty chain for its elements.
+// A binder's body, from where the absent opening left the path.
+fn then_body(r: Reached, body: u32) -> Stage
+    ensures { λ g. ⌜ g ≡ thenChild r body ⌝ }
+{
+    let outcome = r.outcome;
+    Stage {
+        outcome,
+        place: r.place,
+        items: r.items,
+        doing: Doing::Child(body),
+    }
+}
+
+// A list from its beginning, with the empty chain for its elements, or for the kinds of its names.
 fn begin_list(
     text: &[u8],
     store: &mut [u32],
     here: Progress,
     comma: bool,
+    names: bool,
     nonterminal: u32,
     closing: Closing,
     place: u32,
     state: State,
 ) -> Stage
-    ensures { λ r. ⌜ StagesAll text store here state r (lists comma nonterminal closing place here) ⌝ }
+    ensures { λ r. ⌜ StagesAll text store here state r (lists comma names nonterminal closing place here) ⌝ }
 {
     let m = make(text, store, cells::empty(), state);
     let outcome = without_failure(m.limit, m.state);
     let list = List {
         comma,
+        names,
         nonterminal,
         values: m.cell,
         closing,
@@ -277,6 +319,7 @@ pub fn take_step(
         Taken::Optional(nonterminal) => then_child(here, Doing::Optional(nonterminal), s),
         Taken::List {
             comma,
+            names,
             nonterminal,
             closing,
             place,
@@ -285,6 +328,7 @@ pub fn take_step(
             store,
             here,
             comma,
+            names,
             nonterminal,
             closing,
             place as u32,
@@ -293,103 +337,6 @@ pub fn take_step(
         Taken::Unopened(place) => {
             then_steps(unopened(book, index, text, store, here, place as u32, s))
         }
+        Taken::Body(body) => then_body(absent(book, index, text, store, here, s), body),
     }
-}
-
-// ---- What follows a parse
-// The element is added, and the list goes on or ends.
-fn next_element(
-    book: &[u8],
-    index: &[usize],
-    text: &[u8],
-    store: &mut [u32],
-    here: Progress,
-    list: List,
-    q: Parse,
-    state: State,
-) -> Stage
-    requires { ⌜ Fitting book index text ⌝ }
-    ensures { λ r. ⌜ Stages book index text store here state r (follows (Next.Elements list) (parseOf q) here) ⌝ }
-{
-    let m = make(text, store, cells::chain(list.values, q.value), state);
-    if m.limit != 0 {
-        return then_steps(reached_with(m, 0));
-    }
-    let s = m.state;
-    let closing = list.closing;
-    match tokens::after_element(text, list.comma, q.rest as usize) {
-        After::Goes(y) => {
-            let outcome = done(Failure::None, s);
-            let longer = List {
-                comma: list.comma,
-                nonterminal: list.nonterminal,
-                values: m.cell,
-                closing,
-            };
-            Stage {
-                outcome,
-                place: y as u32,
-                items: here.items,
-                doing: Doing::Elements(longer),
-            }
-        }
-        After::Halts(y) => then_steps(stop(
-            book,
-            index,
-            text,
-            store,
-            here,
-            m.cell,
-            closing,
-            y as u32,
-            s,
-        )),
-    }
-}
-
-// The item is added, and the steps go on; or the list does.
-pub fn next_of(
-    book: &[u8],
-    index: &[usize],
-    text: &[u8],
-    store: &mut [u32],
-    here: Progress,
-    next: Next,
-    q: Parse,
-    state: State,
-) -> Stage
-    requires { ⌜ Fitting book index text ⌝ }
-    ensures { λ r. ⌜ Stages book index text store here state r (follows next (parseOf q) here) ⌝ }
-{
-    match next {
-        Next::Steps => then_steps(reached_with(
-            with_cell(
-                book,
-                index,
-                text,
-                store,
-                here.variant,
-                here.items,
-                q.value,
-                state,
-            ),
-            q.rest,
-        )),
-        Next::Elements(list) => next_element(book, index, text, store, here, list, q, state),
-    }
-}
-
-// The failures of what follows the parses of a child, up to the i-th; before the first there is none to join.
-pub fn after_parse(i: usize, before: Outcome, o: Outcome) -> Outcome
-    ensures { λ r. ⌜ ParseEnded i before o r ⌝ }
-{
-    if o.limit != 0 {
-        return o;
-    }
-    if i == 0 {
-        return o;
-    }
-    let first = failure_of(before);
-    let second = failure_of(o);
-    done(errors::either(first, second), o.state)
 }

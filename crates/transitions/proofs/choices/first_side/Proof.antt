@@ -1,7 +1,7 @@
 -- `transitions::first_side` meets its contract.
 use borrow.Author.Needs.{needs}
 use Rattle.book.specs.Index.{bookIn}
-use Rattle.transitions.specs.NextLaws.{first-next}
+use Rattle.transitions.specs.NextLaws.{side-absent, first-next}
 use Rattle.transitions.proofs.choices.first_side.Statement.{statement}
 use Rattle.transitions.proofs.choices.first_side.Tie as tie
 
@@ -18,7 +18,8 @@ returns c =
     let enum-told = c .before .before .before .before .enum-told in
     let absent = c .before .before .absent in
     first-next book text store _ (here .variant) (here .place) (here .items) (args .next) _ (args .state) _
-    (enum-told .given .1) (absent .ensures)
+    (enum-told .given .1)
+    (side-absent book text store _ (here .variant) (here .place) (here .items) (args .state) _ (absent .ensures))
 
 returns-2 : tie.Need-returns-2
 returns-2 c =

@@ -14,7 +14,7 @@ returns c =
     let empty = c .before .before .before .before .empty in
     let make = c .before .before .before .make in
     λ book. list-begun book text store _ (here .variant) (args .state) _ (make .ensures Cell.empty (empty .ensures))
-    (args .place) (here .items) (args .comma) (args .nonterminal) (args .closing) _ (c .without-failure .ensures)
+    (args .place) (here .items) (args .comma) (args .names) (args .nonterminal) (args .closing) _ (c .without-failure .ensures)
 
 pub begin-list-spec : {M : Type 1} → statement M
 begin-list-spec =

@@ -7,7 +7,7 @@ use Rattle.run_model.specs.Rows.{scopeIn}
 use Rattle.calls.specs.Table.{table}
 use Rattle.transitions.specs.TakenLaws.{taken-fits, token-fits, list-fits, unopened-fits}
 use Rattle.transitions.specs.StepsLaws.{at-step, step-limit, step-fails, step-reads, step-descends, step-chooses}
-use Rattle.transitions.specs.StepsLaws.{step-lists, step-unopens}
+use Rattle.transitions.specs.StepsLaws.{step-lists, step-unopens, step-omits}
 use borrow.Author.Needs.{needs}
 use Rattle.transitions.proofs.steps.take_step.Statement.{statement}
 use Rattle.transitions.proofs.steps.take_step.Tie as tie
@@ -64,7 +64,7 @@ cast-begin-list c =
     let step-at = c .before .before .before .before .step-at in
     let comma = c .before .before .comma in
     let fits = taken-fits _ _ _ (start .pre .2) _ (omega (arith, start .good)) _ (step-at .result) (step-at .ensures) in
-    omega (arith, list-fits _ fits _ _ _ _ (comma .given .1))
+    omega (arith, list-fits _ fits _ _ _ _ _ (comma .given .1))
 
 cast-unopened : tie.Need-cast-unopened
 cast-unopened c =
@@ -181,7 +181,7 @@ returns-6 c =
     _ _ (step .ensures)
     (step-lists _ _ _ (table (args .rows .now)) (here .call) (here .variant) (args .state) (here .place) (here .items)
     _ _ (step-unit .ensures)
-    (if1 .left) _ (step-at .ensures) _ _ _ _ _ _ (comma .given .1) (begin-list .ensures _))
+    (if1 .left) _ (step-at .ensures) _ _ _ _ _ _ _ (comma .given .1) (begin-list .ensures _))
 
 returns-7 : tie.Need-returns-7
 returns-7 c =
@@ -203,14 +203,29 @@ returns-7 c =
     .items) _ _ (step-unit .ensures)
     (if1 .left) _ (step-at .ensures) _ _ _ _ (place .given .1) (unopened .ensures) (c .then-steps4 .ensures))
 
+returns-8 : tie.Need-returns-8
+returns-8 c =
+    let start = c .before .before .before .before .before .before .before .before .before .before .before .before
+    .before .before .before .before .before .before .before .before .before in
+    let step = c .before .before .before .before .before .before .before .before .before .before .before .before
+    .before .before .step in
+    let step-unit = c .before .before .before .before .before .before .before .before .before .before .before
+    .before .before .step-unit in
+    let if1 = c .before .before .before .before .before .before .before .before .before .before .before .if1 in
+    let step-at = c .before .before .before .before .before .before .before .before .step-at in
+    let body = c .before .before .before .before .before .before .body in
+    let absent = c .before .before .before .absent in
+    let then-body = c .then-body in
+    let args = start .args in
+    let here = args .here in
+    at-step _ _ _ _ (table (args .rows .now)) (here .call) (here .variant) (args .state) _ (here .place) (here .items)
+    _ _ (step .ensures)
+    (step-omits _ _ _ (table (args .rows .now)) (here .call) (here .variant) (args .state) (here .place) (here .items)
+    _ _ (step-unit .ensures)
+    (if1 .left) _ (step-at .ensures) _ _ _ _ (body .given .1) (absent .ensures) (then-body .ensures))
+
 pub take-step-spec : {M : Type 1} → statement M
 take-step-spec =
     tie.close
     (tie.spec
-    (λ c. search needs) (λ c κs. search needs) (λ c κs. search needs) (λ c κs. search needs) (λ c κs. search needs)
-    returns (λ c. search needs) (λ c κs. search needs) (λ c. search needs) skipped-requires step-error-requires
-    (λ c κs. search needs) (λ c κs. search needs) (λ c κs. search needs) (λ c. search needs) cast-take-token
-    take-token-requires (λ c κs. search needs) (λ c. search needs) (λ c κs. search needs) (λ c. search needs)
-    (λ c κs. search needs) (λ c. search needs) cast-begin-list (λ c κs. search needs) (λ c. search needs) cast-unopened
-    unopened-requires (λ c κs. search needs) returns-2 (λ c. search needs) returns-3 returns-4 returns-5
-    (λ c. search needs) returns-6 (λ c. search needs) returns-7)
+    (λ c. search needs) (λ c κs. search needs) (λ c κs. search needs) (λ c κs. search needs) (λ c κs. search needs) returns (λ c. search needs) (λ c κs. search needs) (λ c. search needs) skipped-requires step-error-requires (λ c κs. search needs) (λ c κs. search needs) (λ c κs. search needs) (λ c. search needs) cast-take-token take-token-requires (λ c κs. search needs) (λ c. search needs) (λ c κs. search needs) (λ c. search needs) (λ c κs. search needs) (λ c. search needs) cast-begin-list (λ c κs. search needs) (λ c. search needs) cast-unopened unopened-requires (λ c κs. search needs) (λ c. search needs) (λ c κs. search needs) (λ c κs. search needs) returns-2 (λ c. search needs) returns-3 returns-4 returns-5 (λ c. search needs) returns-6 (λ c. search needs) returns-7 (λ c. search needs) returns-8)

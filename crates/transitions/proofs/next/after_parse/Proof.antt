@@ -1,8 +1,8 @@
 -- `transitions::after_parse` meets its contract.
 use Rattle.transitions.specs.NextLaws.{joined-limit, joined-first, joined-both}
 use borrow.Author.Needs.{needs}
-use Rattle.transitions.proofs.steps.after_parse.Statement.{statement}
-use Rattle.transitions.proofs.steps.after_parse.Tie as tie
+use Rattle.transitions.proofs.next.after_parse.Statement.{statement}
+use Rattle.transitions.proofs.next.after_parse.Tie as tie
 
 returns : tie.Need-returns
 returns c =

@@ -3,8 +3,8 @@ use mathlib.Core.Path.{sym, _∙_}
 use borrow.Author.Tests.{eq-eqb, ne-eqb}
 use borrow.Author.Needs.{needs}
 use Rattle.semantics.specs.Errors.{stepError}
-use Rattle.tokens.proofs.steps.number_error.Statement.{statement}
-use Rattle.tokens.proofs.steps.number_error.Tie as tie
+use Rattle.tokens.proofs.step_errors.number_error.Statement.{statement}
+use Rattle.tokens.proofs.step_errors.number_error.Tie as tie
 
 returns : tie.Need-returns
 unfolding stepError

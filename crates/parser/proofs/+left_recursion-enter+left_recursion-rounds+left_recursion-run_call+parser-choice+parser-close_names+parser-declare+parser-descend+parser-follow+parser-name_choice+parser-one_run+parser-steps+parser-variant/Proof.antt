@@ -1,25 +1,31 @@
 -- The functions of the cycle meet their contracts: `enter`, `rounds`, `run_call` of left_recursion.rt and `choice`,
--- `descend`, `follow`, `one_run`, `steps`, `variant` of parser.rt. Each return and each turn of a loop is one law of
--- specs/CallLaws, VariantLaws, ChildLaws or PathLaws, applied to what was called before it.
+-- `close_names`, `declare`, `descend`, `follow`, `name_choice`, `one_run`, `steps`, `variant` of parser.rt. Each return
+-- and each turn of a loop is one law of specs/CallLaws, VariantLaws, ChildLaws, NameLaws or PathLaws, applied to what
+-- was called before it.
 --
 -- The measures: 2,048 for each level of nesting left, 6 for each step left, and a rank that falls from one function to
 -- the next on one level.
 use Rattle.parser.specs.PathLaws.{choice-stopped, choice-both, path-ended, path-child, path-optional}
-use Rattle.parser.specs.PathLaws.{path-elements, path-end, path-step, rank-few, rank-child, rank-optional}
-use Rattle.parser.specs.PathLaws.{rank-elements}
+use Rattle.parser.specs.PathLaws.{path-elements, path-names, path-end, path-step, rank-few, rank-child}
+use Rattle.parser.specs.PathLaws.{rank-optional, rank-elements}
+use Rattle.parser.specs.NameLaws.{names-binder, close-ended, close-body, declare-unpaid, declare-deep}
+use Rattle.parser.specs.NameLaws.{declare-ended, declare-more, declare-last, names-unpaid, names-stopped}
+use Rattle.parser.specs.NameLaws.{names-both}
 use Rattle.parser.specs.ChildLaws.{descended, follow-ended, follow-whole, follow-end, follow-deep, follow-stop}
 use Rattle.parser.specs.ChildLaws.{follow-again}
 use Rattle.parser.specs.VariantLaws.{variants-end, variants-stop, variants-again, one-run-whole, variant-skipped}
 use Rattle.parser.specs.VariantLaws.{variant-ran, variants-fit, steps-fit}
 use Rattle.parser.specs.CallLaws.{enter-over, enter-runs, run-call-over, run-call-rounds, rounds-none}
 use Rattle.parser.specs.CallLaws.{rounds-over, rounds-again}
-use Rattle.parser.specs.ResultLaws.{Going, goes-without-limit}
+use Rattle.parser.specs.ResultLaws.{Going}
+use Rattle.transitions.specs.ResumeLaws.{goes-without-limit}
 use Rattle.parser.specs.Cycle.{InRange, todoAt, further, proceeds, rankOf}
 use Rattle.transitions.specs.Entering.{innerRunner}
 use Rattle.transitions.specs.Steps.{nextRows, resumes}
 use Rattle.transitions.specs.Outcomes.{cellsOf, Held, given, failureAt}
 use Rattle.run_model.specs.Model.{rowState, roundsRows, variantsRows, followFrom, runnerRows}
 use Rattle.calls.specs.Table.{table}
+use Rattle.calls.specs.TableLaws.{table-length}
 use Rattle.errors.specs.Maps.{failureOf}
 use Rattle.book.specs.Index.{bookIn}
 use lib.ListN.{length}
@@ -34,7 +40,7 @@ use mathlib.Core.List.{List}
 use borrow.Fn.Kind.{PK}
 use borrow.Fn.Kinds.{In}
 use borrow.Fn.PlainCycle.{Measures, is, falls, and}
-use Rattle.parser.proofs.+left_recursion-enter+left_recursion-rounds+left_recursion-run_call+parser-choice+parser-descend+parser-follow+parser-one_run+parser-steps+parser-variant as cycle
+use Rattle.parser.proofs.+left_recursion-enter+left_recursion-rounds+left_recursion-run_call+parser-choice+parser-close_names+parser-declare+parser-descend+parser-follow+parser-name_choice+parser-one_run+parser-steps+parser-variant as cycle
 use Rattle.parser.proofs.left_recursion.enter.Reads as left-recursion·enter
 use Rattle.parser.proofs.left_recursion.enter.Kinds as left-recursion·enter-kinds
 use cycle.Lts-left_recursion-enter as left-recursion·enter-lts
@@ -47,12 +53,21 @@ use cycle.Lts-left_recursion-run_call as left-recursion·run-call-lts
 use Rattle.parser.proofs.parser.choice.Reads as parser·choice
 use Rattle.parser.proofs.parser.choice.Kinds as parser·choice-kinds
 use cycle.Lts-parser-choice as parser·choice-lts
+use Rattle.parser.proofs.parser.close_names.Reads as parser·close-names
+use Rattle.parser.proofs.parser.close_names.Kinds as parser·close-names-kinds
+use cycle.Lts-parser-close_names as parser·close-names-lts
+use Rattle.parser.proofs.parser.declare.Reads as parser·declare
+use Rattle.parser.proofs.parser.declare.Kinds as parser·declare-kinds
+use cycle.Lts-parser-declare as parser·declare-lts
 use Rattle.parser.proofs.parser.descend.Reads as parser·descend
 use Rattle.parser.proofs.parser.descend.Kinds as parser·descend-kinds
 use cycle.Lts-parser-descend as parser·descend-lts
 use Rattle.parser.proofs.parser.follow.Reads as parser·follow
 use Rattle.parser.proofs.parser.follow.Kinds as parser·follow-kinds
 use cycle.Lts-parser-follow as parser·follow-lts
+use Rattle.parser.proofs.parser.name_choice.Reads as parser·name-choice
+use Rattle.parser.proofs.parser.name_choice.Kinds as parser·name-choice-kinds
+use cycle.Lts-parser-name_choice as parser·name-choice-lts
 use Rattle.parser.proofs.parser.one_run.Reads as parser·one-run
 use Rattle.parser.proofs.parser.one_run.Kinds as parser·one-run-kinds
 use cycle.Lts-parser-one_run as parser·one-run-lts
@@ -70,6 +85,7 @@ use Rattle.calls.proofs.nth_parse.Reads as nth-parse-reads
 use Rattle.calls.proofs.nonterminal_of.Reads as nonterminal-of-reads
 use Rattle.calls.proofs.open_call.Reads as open-call-reads
 use Rattle.calls.proofs.inherited_binder.Reads as inherited-binder-reads
+use Rattle.calls.proofs.body_binder.Reads as body-binder-reads
 use Rattle.transitions.proofs.after_first.Reads as after-first-reads
 use Rattle.transitions.proofs.after_round.Reads as after-round-reads
 use Rattle.transitions.proofs.begin_child.Reads as begin-child-reads
@@ -85,6 +101,10 @@ use Rattle.transitions.proofs.first_side.Reads as first-side-reads
 use Rattle.transitions.proofs.after_parse.Reads as after-parse-reads
 use Rattle.transitions.proofs.next_of.Reads as next-of-reads
 use Rattle.transitions.proofs.take_step.Reads as take-step-reads
+use Rattle.transitions.proofs.spend.Reads as spend-reads
+use Rattle.transitions.proofs.no_names.Reads as no-names-reads
+use Rattle.transitions.proofs.open_body.Reads as open-body-reads
+use Rattle.transitions.proofs.declare_name.Reads as declare-name-reads
 use cycle.{
   statement,
 }
@@ -104,11 +124,20 @@ abbrev μ-left-recursion·run-call : Measures 5 left-recursion·run-call-kinds.p
 abbrev μ-parser·choice : Measures 5 parser·choice-kinds.ps ℕ
 μ-parser·choice κs a = 2048 * (a .1 .1 .1 .1 .1 .0) + 6 * (a .1 .1 .1 .1 .1 .1 .0) .remaining + 9
 
+abbrev μ-parser·close-names : Measures 5 parser·close-names-kinds.ps ℕ
+μ-parser·close-names κs a = 2048 * (a .1 .1 .1 .1 .1 .0) + 7
+
+abbrev μ-parser·declare : Measures 5 parser·declare-kinds.ps ℕ
+μ-parser·declare κs a = 2048 * (a .1 .1 .1 .1 .1 .0) + 7
+
 abbrev μ-parser·descend : Measures 5 parser·descend-kinds.ps ℕ
 μ-parser·descend κs a = 2048 * (a .1 .1 .1 .1 .1 .0) + 7
 
 abbrev μ-parser·follow : Measures 5 parser·follow-kinds.ps ℕ
 μ-parser·follow κs a = 2048 * (a .1 .1 .1 .1 .1 .0) + 6
+
+abbrev μ-parser·name-choice : Measures 5 parser·name-choice-kinds.ps ℕ
+μ-parser·name-choice κs a = 2048 * (a .1 .1 .1 .1 .1 .0) + 8
 
 abbrev μ-parser·one-run : Measures 5 parser·one-run-kinds.ps ℕ
 μ-parser·one-run κs a = 2048 * (a .1 .1 .1 .1 .1 .0) + 2
@@ -156,6 +185,18 @@ parser·choice-at t = at-measure parser·choice-kinds.ps μ-parser·choice parse
 abbrev parser·choice-below : ℕ → In 5 parser·choice-kinds.ps
 parser·choice-below t = below-measure parser·choice-kinds.ps μ-parser·choice parser·choice.Pre t
 
+abbrev parser·close-names-at : ℕ → In 5 parser·close-names-kinds.ps
+parser·close-names-at t = at-measure parser·close-names-kinds.ps μ-parser·close-names parser·close-names.Pre t
+
+abbrev parser·close-names-below : ℕ → In 5 parser·close-names-kinds.ps
+parser·close-names-below t = below-measure parser·close-names-kinds.ps μ-parser·close-names parser·close-names.Pre t
+
+abbrev parser·declare-at : ℕ → In 5 parser·declare-kinds.ps
+parser·declare-at t = at-measure parser·declare-kinds.ps μ-parser·declare parser·declare.Pre t
+
+abbrev parser·declare-below : ℕ → In 5 parser·declare-kinds.ps
+parser·declare-below t = below-measure parser·declare-kinds.ps μ-parser·declare parser·declare.Pre t
+
 abbrev parser·descend-at : ℕ → In 5 parser·descend-kinds.ps
 parser·descend-at t = at-measure parser·descend-kinds.ps μ-parser·descend parser·descend.Pre t
 
@@ -167,6 +208,12 @@ parser·follow-at t = at-measure parser·follow-kinds.ps μ-parser·follow parse
 
 abbrev parser·follow-below : ℕ → In 5 parser·follow-kinds.ps
 parser·follow-below t = below-measure parser·follow-kinds.ps μ-parser·follow parser·follow.Pre t
+
+abbrev parser·name-choice-at : ℕ → In 5 parser·name-choice-kinds.ps
+parser·name-choice-at t = at-measure parser·name-choice-kinds.ps μ-parser·name-choice parser·name-choice.Pre t
+
+abbrev parser·name-choice-below : ℕ → In 5 parser·name-choice-kinds.ps
+parser·name-choice-below t = below-measure parser·name-choice-kinds.ps μ-parser·name-choice parser·name-choice.Pre t
 
 abbrev parser·one-run-at : ℕ → In 5 parser·one-run-kinds.ps
 parser·one-run-at t = at-measure parser·one-run-kinds.ps μ-parser·one-run parser·one-run.Pre t
@@ -225,6 +272,38 @@ parser·choice-callees t = (
   both-sides-reads.Learnt,
 )
 
+abbrev parser·close-names-callees : ℕ → parser·close-names-lts.Claims
+parser·close-names-callees t = (
+  open-body-reads.Asked,
+  open-body-reads.Learnt,
+  goes-on-reads.Asked,
+  goes-on-reads.Learnt,
+  body-binder-reads.Asked,
+  body-binder-reads.Learnt,
+  begin-child-reads.Asked,
+  begin-child-reads.Learnt,
+  left-recursion·enter-below t,
+  left-recursion·enter.Post,
+  parser·follow-below t,
+  parser·follow.Post,
+)
+
+abbrev parser·declare-callees : ℕ → parser·declare-lts.Claims
+parser·declare-callees t = (
+  spend-reads.Asked,
+  spend-reads.Learnt,
+  without-failure-reads.Asked,
+  without-failure-reads.Learnt,
+  declare-name-reads.Asked,
+  declare-name-reads.Learnt,
+  goes-on-reads.Asked,
+  goes-on-reads.Learnt,
+  parser·name-choice-below t,
+  parser·name-choice.Post,
+  parser·close-names-below t,
+  parser·close-names.Post,
+)
+
 abbrev parser·descend-callees : ℕ → parser·descend-lts.Claims
 parser·descend-callees t = (
   inherited-binder-reads.Asked,
@@ -255,6 +334,18 @@ parser·follow-callees t = (
   after-parse-reads.Learnt,
 )
 
+abbrev parser·name-choice-callees : ℕ → parser·name-choice-lts.Claims
+parser·name-choice-callees t = (
+  spend-reads.Asked,
+  spend-reads.Learnt,
+  parser·close-names-below t,
+  parser·close-names.Post,
+  parser·declare-below t,
+  parser·declare.Post,
+  both-sides-reads.Asked,
+  both-sides-reads.Learnt,
+)
+
 abbrev parser·one-run-callees : ℕ → parser·one-run-lts.Claims
 parser·one-run-callees t = (
   nonterminal-of-reads.Asked,
@@ -281,6 +372,10 @@ parser·steps-callees t = (
   parser·descend.Post,
   parser·choice-below t,
   parser·choice.Post,
+  no-names-reads.Asked,
+  no-names-reads.Learnt,
+  parser·name-choice-below t,
+  parser·name-choice.Post,
 )
 
 abbrev parser·variant-callees : ℕ → parser·variant-lts.Claims
@@ -648,8 +743,10 @@ parser·choice-first-side-requires t c κs = (c .before .before .before .before 
 parser·choice-steps-requires : (t : ℕ) →
     parser·choice-lts.Need-steps-requires (parser·choice-callees t) (parser·choice-at t) parser·choice.Post
 parser·choice-steps-requires t c κs =
-    let start = c .before .before .before .before .before .before .before .before .before .before .before in
-    (omega (arith, start .pre .0), (start .pre .1 .0, start .pre .1 .1, start .pre .1 .2, start .pre .1 .3))
+    let start = c .before .before .before .before .before .before .before .before .before .before .before in (
+      omega (arith, start .pre .0),
+      (start .pre .1 .0, start .pre .1 .1, start .pre .1 .2, start .pre .1 .3, start .pre .1 .4),
+    )
 
 parser·choice-same-length : (t : ℕ) →
     parser·choice-lts.Need-same-length (parser·choice-callees t) (parser·choice-at t) parser·choice.Post
@@ -684,6 +781,7 @@ parser·choice-descend-requires t c κs =
         omega (arith, start .pre .1 .1, steps .kept .1 .1 .1 .1 .0),
         start .pre .1 .2,
         start .pre .1 .3,
+        start .pre .1 .4,
       ),
     )
 
@@ -730,6 +828,315 @@ parser·choice-returns-2 t c =
     choice-both _ _ _ _ _ _ _ _ _ _ _ _ _ _ _ _ _ _ _ (first-side .ensures) (steps .ensures) (if1 .left) _ _ _ _
     (descend .ensures) (both-sides .ensures)
 
+parser·close-names-open-body-requires : (t : ℕ) →
+    parser·close-names-lts.Need-open-body-requires (parser·close-names-callees t) (parser·close-names-at t)
+    parser·close-names.Post
+parser·close-names-open-body-requires t c κs =
+    let start = c .before .before .before .before .before .before .before in
+    (start .pre .1 .0 .3 .0, start .pre .1 .0 .1, start .pre .1 .0 .2)
+
+parser·close-names-same-length : (t : ℕ) →
+    parser·close-names-lts.Need-same-length (parser·close-names-callees t) (parser·close-names-at t)
+    parser·close-names.Post
+parser·close-names-same-length t c =
+    let open-body = c .before .before .before .before .before .open-body in
+    open-body .kept .1 .1 .1 .0
+
+parser·close-names-returns : (t : ℕ) →
+    parser·close-names-lts.Need-returns (parser·close-names-callees t) (parser·close-names-at t)
+    parser·close-names.Post
+parser·close-names-returns t c =
+    let open-body = c .before .before .before .before .before .open-body in
+    let goes-on = c .before .goes-on in
+    let if1 = c .if1 in
+    close-ended _ _ _ _ _ _ _ _ _ _ _ (open-body .ensures) (sym (goes-on .ensures) ∙ not-true _ (if1 .taken))
+
+parser·close-names-body-binder-requires : (t : ℕ) →
+    parser·close-names-lts.Need-body-binder-requires (parser·close-names-callees t) (parser·close-names-at t)
+    parser·close-names.Post
+parser·close-names-body-binder-requires t c κs =
+    let start = c .before .before .before .before .before .before .before .before .before .before .before .before
+    .before in
+    omega (arith, start .pre .1 .1)
+
+parser·close-names-begin-child-requires : (t : ℕ) →
+    parser·close-names-lts.Need-begin-child-requires (parser·close-names-callees t) (parser·close-names-at t)
+    parser·close-names.Post
+parser·close-names-begin-child-requires t c κs =
+    let start = c .before .before .before .before .before .before .before .before .before .before .before .before
+    .before .before .before in
+    ((start .pre .1 .0 .3 .0, start .pre .1 .0 .1), start .pre .1 .0 .2 .short)
+
+parser·close-names-enter-requires : (t : ℕ) →
+    parser·close-names-lts.Need-enter-requires (parser·close-names-callees t) (parser·close-names-at t)
+    parser·close-names.Post
+parser·close-names-enter-requires t c κs =
+    let start = c .before .before .before .before .before .before .before .before .before .before .before .before
+    .before .before .before .before .before .before .before .before in
+    let begin-child = c .before .before .before .before .begin-child in (
+      omega (arith, start .pre .0),
+      (
+        start .pre .1 .0 .0,
+        omega (arith, start .pre .1 .0 .1, begin-child .kept .1 .0),
+        start .pre .1 .0 .2,
+      ),
+    )
+
+parser·close-names-follow-requires : (t : ℕ) →
+    parser·close-names-lts.Need-follow-requires (parser·close-names-callees t) (parser·close-names-at t)
+    parser·close-names.Post
+parser·close-names-follow-requires t c κs =
+    let start = c .before .before .before .before .before .before .before .before .before .before .before .before
+    .before .before .before .before .before .before .before .before .before .before .before .before .before .before
+    .before in
+    let begin-child = c .before .before .before .before .before .before .before .before .before .before .before
+    .begin-child in
+    let enter = c .before .before .before .before .before .before .enter in (
+      omega (arith, start .pre .0),
+      (
+        start .pre .1 .0 .0,
+        omega (arith, start .pre .1 .0 .1, begin-child .kept .1 .0, enter .kept .1 .1 .1 .1 .0),
+        start .pre .1 .0 .2,
+        start .pre .1 .0 .3,
+        start .pre .1 .0 .4,
+      ),
+    )
+
+parser·close-names-same-length-3 : (t : ℕ) →
+    parser·close-names-lts.Need-same-length-3 (parser·close-names-callees t) (parser·close-names-at t)
+    parser·close-names.Post
+parser·close-names-same-length-3 t c =
+    let open-body = c .before .before .before .before .before .before .before .before .before .before .before
+    .before .before .before .before .before .before .before .before .before .before .before .before .before
+    .open-body in
+    let enter = c .before .before .before .before .before .before .before .before .before .before .before .enter in
+    let follow = c .before .before .before .before .follow in
+    follow .kept .1 .1 .1 .0 ∙ enter .kept .1 .1 .1 .0 ∙ open-body .kept .1 .1 .1 .0
+
+parser·close-names-same-length-4 : (t : ℕ) →
+    parser·close-names-lts.Need-same-length-4 (parser·close-names-callees t) (parser·close-names-at t)
+    parser·close-names.Post
+parser·close-names-same-length-4 t c =
+    let begin-child = c .before .before .before .before .before .before .before .before .before .before .before
+    .before .before .before .before .before .begin-child in
+    let enter = c .before .before .before .before .before .before .before .before .before .before .before .enter in
+    let follow = c .before .before .before .before .follow in
+    follow .kept .1 .1 .1 .1 .0 ∙ enter .kept .1 .1 .1 .1 .0 ∙ begin-child .kept .1 .0
+
+parser·close-names-returns-2 : (t : ℕ) →
+    parser·close-names-lts.Need-returns-2 (parser·close-names-callees t) (parser·close-names-at t)
+    parser·close-names.Post
+parser·close-names-returns-2 t c =
+    let start = c .before .before .before .before .before .before .before .before .before .before .before .before
+    .before .before .before .before .before .before .before .before .before .before .before .before .before .before
+    .before .before .before .before .before .before in
+    let open-body = c .before .before .before .before .before .before .before .before .before .before .before
+    .before .before .before .before .before .before .before .before .before .before .before .before .before
+    .open-body in
+    let goes-on = c .before .before .before .before .before .before .before .before .before .before .before .before
+    .before .before .before .before .before .before .before .before .goes-on in
+    let if1 = c .before .before .before .before .before .before .before .before .before .before .before .before
+    .before .before .before .before .before .before .before .if1 in
+    let body-binder = c .before .before .before .before .before .before .before .before .before .before .before
+    .before .before .before .before .before .before .before .body-binder in
+    let begin-child = c .before .before .before .before .before .before .before .before .before .before .before
+    .before .before .before .before .before .begin-child in
+    let enter = c .before .before .before .before .before .before .before .before .before .before .before .enter in
+    let follow = c .before .before .before .before .follow in
+    let args = start .args in
+    close-body _ _ _ _ _ _ _ _ _ _ _ (open-body .ensures) (sym (goes-on .ensures) ∙ not-false _ (if1 .left)) _ _ _
+    (descended _ _ _ _ _ _ _ _ _ _ _ _ _ _ _ _ _ _ _ _ _ _ _ _
+    (names-binder (args .text .now) (table (args .rows .now)) (args .free) (args .names .count) _ (args .here .call)
+    (body-binder .ensures)) (begin-child .ensures) (enter .ensures) (follow .ensures))
+
+parser·declare-returns : (t : ℕ) →
+    parser·declare-lts.Need-returns (parser·declare-callees t) (parser·declare-at t) parser·declare.Post
+parser·declare-returns t c =
+    let start = c .before .before .before .before .before .before .before .before in
+    let spend = c .before .before .spend in
+    let if1 = c .if1 in
+    declare-unpaid _ _ _ (start .args .here) _ _ _ _ _ _ (spend .ensures) (if1 .taken)
+
+parser·declare-returns-2 : (t : ℕ) →
+    parser·declare-lts.Need-returns-2 (parser·declare-callees t) (parser·declare-at t) parser·declare.Post
+parser·declare-returns-2 t c =
+    let start = c .before .before .before .before .before .before .before .before .before .before .before in
+    let spend = c .before .before .before .before .before .spend in
+    let if1 = c .before .before .before .if1 in
+    let if2 = c .before .if2 in
+    let without-failure = c .without-failure in
+    declare-deep _ _ _ (start .args .here) _ _ _ _ _ _ (spend .ensures) (if1 .left) _ (if2 .taken) (without-failure .ensures)
+
+parser·declare-declare-name-requires : (t : ℕ) →
+    parser·declare-lts.Need-declare-name-requires (parser·declare-callees t) (parser·declare-at t)
+    parser·declare.Post
+parser·declare-declare-name-requires t c κs =
+    let start = c .before .before .before .before .before .before .before .before .before .before .before .before in
+    let if2 = c .before .before .if2 in (
+      (start .pre .1 .0 .0, start .pre .1 .0 .1, start .pre .1 .0 .2),
+      omega (arith, if2 .left),
+    )
+
+parser·declare-same-length : (t : ℕ) →
+    parser·declare-lts.Need-same-length (parser·declare-callees t) (parser·declare-at t) parser·declare.Post
+parser·declare-same-length t c =
+    let declare-name = c .before .before .before .before .before .before .before .declare-name in
+    declare-name .kept .1 .1 .1 .0
+
+parser·declare-same-length-2 : (t : ℕ) →
+    parser·declare-lts.Need-same-length-2 (parser·declare-callees t) (parser·declare-at t) parser·declare.Post
+parser·declare-same-length-2 t c =
+    let declare-name = c .before .before .before .before .before .before .before .declare-name in
+    declare-name .kept .1 .1 .1 .1 .0
+
+parser·declare-returns-3 : (t : ℕ) →
+    parser·declare-lts.Need-returns-3 (parser·declare-callees t) (parser·declare-at t) parser·declare.Post
+parser·declare-returns-3 t c =
+    let start = c .before .before .before .before .before .before .before .before .before .before .before .before
+    .before .before .before .before .before .before .before .before in
+    let spend = c .before .before .before .before .before .before .before .before .before .before .before .before
+    .before .before .spend in
+    let if1 = c .before .before .before .before .before .before .before .before .before .before .before .before .if1 in
+    let if2 = c .before .before .before .before .before .before .before .before .before .before .if2 in
+    let declare-name = c .before .before .before .before .before .before .before .declare-name in
+    let goes-on = c .before .goes-on in
+    let if3 = c .if3 in
+    declare-ended _ _ _ (start .args .here) _ _ _ _ _ _ (spend .ensures) (if1 .left) (if2 .left) _ _ _ (declare-name .ensures)
+    (sym (goes-on .ensures) ∙ not-true _ (if3 .taken))
+
+parser·declare-add-t23 : (t : ℕ) →
+    parser·declare-lts.Need-add-t23 (parser·declare-callees t) (parser·declare-at t) parser·declare.Post
+parser·declare-add-t23 t c =
+    let start = c .before .before .before .before .before .before .before .before .before .before .before .before
+    .before .before .before .before .before .before .before .before .before in
+    omega (arith, start .pre .1 .1)
+
+parser·declare-sub-inner : (t : ℕ) →
+    parser·declare-lts.Need-sub-inner (parser·declare-callees t) (parser·declare-at t) parser·declare.Post
+parser·declare-sub-inner t c =
+    let if2 = c .before .before .before .before .before .before .before .before .before .before .before .if2 in
+    omega (arith, if2 .left)
+
+parser·declare-name-choice-requires : (t : ℕ) →
+    parser·declare-lts.Need-name-choice-requires (parser·declare-callees t) (parser·declare-at t)
+    parser·declare.Post
+parser·declare-name-choice-requires t c κs =
+    let start = c .before .before .before .before .before .before .before .before .before .before .before .before
+    .before .before .before .before .before .before .before .before .before .before .before .before in
+    let if2 = c .before .before .before .before .before .before .before .before .before .before .before .before
+    .before .before .if2 in
+    let declare-name = c .before .before .before .before .before .before .before .before .before .before .before
+    .declare-name in (
+      omega (arith, start .pre .0, if2 .left),
+      (
+        (
+          omega (arith, start .pre .1 .0 .0),
+          omega (arith, start .pre .1 .0 .1, declare-name .kept .1 .1 .1 .1 .0),
+          start .pre .1 .0 .2,
+          start .pre .1 .0 .3,
+          omega (arith, start .pre .1 .0 .4),
+        ),
+        omega (arith, start .pre .1 .1, if2 .left),
+      ),
+    )
+
+parser·declare-close-names-requires : (t : ℕ) →
+    parser·declare-lts.Need-close-names-requires (parser·declare-callees t) (parser·declare-at t)
+    parser·declare.Post
+parser·declare-close-names-requires t c κs =
+    let start = c .before .before .before .before .before .before .before .before .before .before .before .before
+    .before .before .before .before .before .before .before .before .before .before .before .before in
+    let if2 = c .before .before .before .before .before .before .before .before .before .before .before .before
+    .before .before .if2 in
+    let declare-name = c .before .before .before .before .before .before .before .before .before .before .before
+    .declare-name in (
+      omega (arith, start .pre .0, if2 .left),
+      (
+        (
+          omega (arith, start .pre .1 .0 .0),
+          omega (arith, start .pre .1 .0 .1, declare-name .kept .1 .1 .1 .1 .0),
+          start .pre .1 .0 .2,
+          start .pre .1 .0 .3,
+          omega (arith, start .pre .1 .0 .4),
+        ),
+        omega (arith, start .pre .1 .1, if2 .left),
+      ),
+    )
+
+parser·declare-same-length-3 : (t : ℕ) →
+    parser·declare-lts.Need-same-length-3 (parser·declare-callees t) (parser·declare-at t) parser·declare.Post
+parser·declare-same-length-3 t c =
+    let declare-name = c .before .before .before .before .before .before .before .before .before .before .before
+    .before .before .before .before .before .declare-name in
+    let name-choice = c .before .before .before .before .name-choice in
+    name-choice .kept .1 .1 .1 .0 ∙ declare-name .kept .1 .1 .1 .0
+
+parser·declare-same-length-4 : (t : ℕ) →
+    parser·declare-lts.Need-same-length-4 (parser·declare-callees t) (parser·declare-at t) parser·declare.Post
+parser·declare-same-length-4 t c =
+    let declare-name = c .before .before .before .before .before .before .before .before .before .before .before
+    .before .before .before .before .before .declare-name in
+    let name-choice = c .before .before .before .before .name-choice in
+    name-choice .kept .1 .1 .1 .1 .0 ∙ declare-name .kept .1 .1 .1 .1 .0
+
+parser·declare-returns-4 : (t : ℕ) →
+    parser·declare-lts.Need-returns-4 (parser·declare-callees t) (parser·declare-at t) parser·declare.Post
+parser·declare-returns-4 t c =
+    let start = c .before .before .before .before .before .before .before .before .before .before .before .before
+    .before .before .before .before .before .before .before .before .before .before .before .before .before .before
+    .before .before .before in
+    let spend = c .before .before .before .before .before .before .before .before .before .before .before .before
+    .before .before .before .before .before .before .before .before .before .before .before .spend in
+    let if1 = c .before .before .before .before .before .before .before .before .before .before .before .before
+    .before .before .before .before .before .before .before .before .before .if1 in
+    let if2 = c .before .before .before .before .before .before .before .before .before .before .before .before
+    .before .before .before .before .before .before .before .if2 in
+    let declare-name = c .before .before .before .before .before .before .before .before .before .before .before
+    .before .before .before .before .before .declare-name in
+    let goes-on = c .before .before .before .before .before .before .before .before .before .before .goes-on in
+    let if3 = c .before .before .before .before .before .before .before .before .before .if3 in
+    let if4 = c .before .before .before .before .before .before .before .if4 in
+    let name-choice = c .before .before .before .before .name-choice in
+    declare-more _ _ _ (start .args .here) _ _ _ _ _ _ (spend .ensures) (if1 .left) (if2 .left) _ _ _ (declare-name .ensures)
+    (sym (goes-on .ensures) ∙ not-false _ (if3 .left)) _ _ _ (if4 .taken) (name-choice .ensures)
+
+parser·declare-same-length-5 : (t : ℕ) →
+    parser·declare-lts.Need-same-length-5 (parser·declare-callees t) (parser·declare-at t) parser·declare.Post
+parser·declare-same-length-5 t c =
+    let declare-name = c .before .before .before .before .before .before .before .before .before .before .before
+    .before .before .before .before .before .declare-name in
+    let close-names = c .before .before .before .before .close-names in
+    close-names .kept .1 .1 .1 .0 ∙ declare-name .kept .1 .1 .1 .0
+
+parser·declare-same-length-6 : (t : ℕ) →
+    parser·declare-lts.Need-same-length-6 (parser·declare-callees t) (parser·declare-at t) parser·declare.Post
+parser·declare-same-length-6 t c =
+    let declare-name = c .before .before .before .before .before .before .before .before .before .before .before
+    .before .before .before .before .before .declare-name in
+    let close-names = c .before .before .before .before .close-names in
+    close-names .kept .1 .1 .1 .1 .0 ∙ declare-name .kept .1 .1 .1 .1 .0
+
+parser·declare-returns-5 : (t : ℕ) →
+    parser·declare-lts.Need-returns-5 (parser·declare-callees t) (parser·declare-at t) parser·declare.Post
+parser·declare-returns-5 t c =
+    let start = c .before .before .before .before .before .before .before .before .before .before .before .before
+    .before .before .before .before .before .before .before .before .before .before .before .before .before .before
+    .before .before .before in
+    let spend = c .before .before .before .before .before .before .before .before .before .before .before .before
+    .before .before .before .before .before .before .before .before .before .before .before .spend in
+    let if1 = c .before .before .before .before .before .before .before .before .before .before .before .before
+    .before .before .before .before .before .before .before .before .before .if1 in
+    let if2 = c .before .before .before .before .before .before .before .before .before .before .before .before
+    .before .before .before .before .before .before .before .if2 in
+    let declare-name = c .before .before .before .before .before .before .before .before .before .before .before
+    .before .before .before .before .before .declare-name in
+    let goes-on = c .before .before .before .before .before .before .before .before .before .before .goes-on in
+    let if3 = c .before .before .before .before .before .before .before .before .before .if3 in
+    let if4 = c .before .before .before .before .before .before .before .if4 in
+    let close-names = c .before .before .before .before .close-names in
+    declare-last _ _ _ (start .args .here) _ _ _ _ _ _ (spend .ensures) (if1 .left) (if2 .left) _ _ _ (declare-name .ensures)
+    (sym (goes-on .ensures) ∙ not-false _ (if3 .left)) _ _ _ (if4 .left) (close-names .ensures)
+
 parser·descend-inherited-binder-requires : (t : ℕ) →
     parser·descend-lts.Need-inherited-binder-requires (parser·descend-callees t) (parser·descend-at t)
     parser·descend.Post
@@ -768,6 +1175,7 @@ parser·descend-follow-requires t c κs =
         omega (arith, start .pre .1 .1, begin-child .kept .1 .0, enter .kept .1 .1 .1 .1 .0),
         start .pre .1 .2,
         start .pre .1 .3,
+        start .pre .1 .4,
       ),
     )
 
@@ -797,7 +1205,7 @@ parser·descend-returns t c =
     .before .before .before .before .begin-child in
     let enter = c .before .before .before .before .before .before .before .before .before .before .before .enter in
     let follow = c .before .before .before .before .follow in
-    descended _ _ _ _ _ _ _ _ _ _ _ _ _ _ _ _ _ _ _ _ _ _ _ (inherited-binder .ensures) (begin-child .ensures)
+    descended _ _ _ _ _ _ _ _ _ _ _ _ _ _ _ _ _ _ _ _ _ _ _ _ (inherited-binder .ensures) (begin-child .ensures)
     (enter .ensures) (follow .ensures)
 
 abbrev parser·follow-Inv-loop : parser·follow-lts.InvT-loop
@@ -905,6 +1313,7 @@ parser·follow-steps-requires t c κs =
         omega (arith, start .pre .1 .1, loop .inv .2),
         start .pre .1 .2,
         start .pre .1 .3,
+        omega (arith, start .pre .1 .4),
       ),
     )
 
@@ -1024,6 +1433,122 @@ parser·follow-returns-4 t c =
     (sym (goes-on .ensures) ∙ not-false _ (if1 .left)) (parse-count .ensures)
     (follow-end _ _ _ _ _ _ _ _ _ _ _ _ _ _ (table (loop .rows)) (loop .all) (loop .inv .4)
     (loop-test .left) (loop .inv .3))
+
+parser·name-choice-returns : (t : ℕ) →
+    parser·name-choice-lts.Need-returns (parser·name-choice-callees t) (parser·name-choice-at t)
+    parser·name-choice.Post
+parser·name-choice-returns t c =
+    let start = c .before .before .before .before .before .before .before .before in
+    let spend = c .before .before .spend in
+    let if1 = c .if1 in
+    names-unpaid _ _ _ (start .args .here) _ _ _ _ _ _ (spend .ensures) (if1 .taken)
+
+parser·name-choice-close-names-requires : (t : ℕ) →
+    parser·name-choice-lts.Need-close-names-requires (parser·name-choice-callees t) (parser·name-choice-at t)
+    parser·name-choice.Post
+parser·name-choice-close-names-requires t c κs =
+    let start = c .before .before .before .before .before .before .before .before .before .before .before in
+    (omega (arith, start .pre .0), start .pre .1)
+
+parser·name-choice-same-length : (t : ℕ) →
+    parser·name-choice-lts.Need-same-length (parser·name-choice-callees t) (parser·name-choice-at t)
+    parser·name-choice.Post
+parser·name-choice-same-length t c =
+    let close-names = c .before .before .before .before .before .before .close-names in
+    close-names .kept .1 .1 .1 .0
+
+parser·name-choice-same-length-2 : (t : ℕ) →
+    parser·name-choice-lts.Need-same-length-2 (parser·name-choice-callees t) (parser·name-choice-at t)
+    parser·name-choice.Post
+parser·name-choice-same-length-2 t c =
+    let close-names = c .before .before .before .before .before .before .close-names in
+    close-names .kept .1 .1 .1 .1 .0
+
+parser·name-choice-returns-2 : (t : ℕ) →
+    parser·name-choice-lts.Need-returns-2 (parser·name-choice-callees t) (parser·name-choice-at t)
+    parser·name-choice.Post
+parser·name-choice-returns-2 t c =
+    let start = c .before .before .before .before .before .before .before .before .before .before .before .before
+    .before .before .before .before .before .before in
+    let spend = c .before .before .before .before .before .before .before .before .before .before .before .before
+    .spend in
+    let if1 = c .before .before .before .before .before .before .before .before .before .before .if1 in
+    let close-names = c .before .before .before .before .before .before .close-names in
+    let if2 = c .if2 in
+    names-stopped _ _ _ (start .args .here) _ _ _ _ _ _ (spend .ensures) (if1 .left) _ _ _ (close-names .ensures) (if2 .taken)
+
+parser·name-choice-declare-requires : (t : ℕ) →
+    parser·name-choice-lts.Need-declare-requires (parser·name-choice-callees t) (parser·name-choice-at t)
+    parser·name-choice.Post
+parser·name-choice-declare-requires t c κs =
+    let start = c .before .before .before .before .before .before .before .before .before .before .before .before
+    .before .before .before .before .before .before .before .before in
+    let close-names = c .before .before .before .before .before .before .before .before .close-names in (
+      omega (arith, start .pre .0),
+      (
+        (
+          start .pre .1 .0 .0,
+          omega (arith, start .pre .1 .0 .1, close-names .kept .1 .1 .1 .1 .0),
+          start .pre .1 .0 .2,
+          start .pre .1 .0 .3,
+          start .pre .1 .0 .4,
+        ),
+        start .pre .1 .1,
+      ),
+    )
+
+parser·name-choice-both-sides-requires : (t : ℕ) →
+    parser·name-choice-lts.Need-both-sides-requires (parser·name-choice-callees t) (parser·name-choice-at t)
+    parser·name-choice.Post
+parser·name-choice-both-sides-requires t c κs =
+    let start = c .before .before .before .before .before .before .before .before .before .before .before .before
+    .before .before .before .before .before .before .before .before .before .before .before .before .before .before in
+    let close-names = c .before .before .before .before .before .before .before .before .before .before .before
+    .before .before .before .close-names in
+    let declare = c .before .before .before .before .before .declare in (
+      (
+        start .pre .1 .0 .3 .0,
+        omega (arith, start .pre .1 .0 .1, close-names .kept .1 .1 .1 .1 .0, declare .kept .1 .1 .1 .1 .0),
+      ),
+      start .pre .1 .0 .2 .short,
+    )
+
+parser·name-choice-same-length-3 : (t : ℕ) →
+    parser·name-choice-lts.Need-same-length-3 (parser·name-choice-callees t) (parser·name-choice-at t)
+    parser·name-choice.Post
+parser·name-choice-same-length-3 t c =
+    let close-names = c .before .before .before .before .before .before .before .before .before .before .before
+    .before .before .before .before .close-names in
+    let declare = c .before .before .before .before .before .before .declare in
+    declare .kept .1 .1 .1 .0 ∙ close-names .kept .1 .1 .1 .0
+
+parser·name-choice-same-length-4 : (t : ℕ) →
+    parser·name-choice-lts.Need-same-length-4 (parser·name-choice-callees t) (parser·name-choice-at t)
+    parser·name-choice.Post
+parser·name-choice-same-length-4 t c =
+    let close-names = c .before .before .before .before .before .before .before .before .before .before .before
+    .before .before .before .before .close-names in
+    let declare = c .before .before .before .before .before .before .declare in
+    declare .kept .1 .1 .1 .1 .0 ∙ close-names .kept .1 .1 .1 .1 .0
+
+parser·name-choice-returns-3 : (t : ℕ) →
+    parser·name-choice-lts.Need-returns-3 (parser·name-choice-callees t) (parser·name-choice-at t)
+    parser·name-choice.Post
+parser·name-choice-returns-3 t c =
+    let start = c .before .before .before .before .before .before .before .before .before .before .before .before
+    .before .before .before .before .before .before .before .before .before .before .before .before .before .before
+    .before in
+    let spend = c .before .before .before .before .before .before .before .before .before .before .before .before
+    .before .before .before .before .before .before .before .before .before .spend in
+    let if1 = c .before .before .before .before .before .before .before .before .before .before .before .before
+    .before .before .before .before .before .before .before .if1 in
+    let close-names = c .before .before .before .before .before .before .before .before .before .before .before
+    .before .before .before .before .close-names in
+    let if2 = c .before .before .before .before .before .before .before .before .before .if2 in
+    let declare = c .before .before .before .before .before .before .declare in
+    let both-sides = c .both-sides in
+    names-both _ _ _ (start .args .here) _ _ _ _ _ _ (spend .ensures) (if1 .left) _ _ _ (close-names .ensures) (if2 .left)
+    (start .pre .1 .0 .4) (start .pre .1 .0 .3 .0) (table-length _) _ _ _ _ (declare .ensures) (both-sides .ensures)
 
 abbrev parser·one-run-Inv-loop : parser·one-run-lts.InvT-loop
 parser·one-run-Inv-loop book index text store₀ rows₀ left minimum nonterminal called o₀ k₀ store rows o k =
@@ -1329,7 +1854,13 @@ parser·steps-descend-requires t c κs =
     c .before .before .before .before .before .before .before .before .before .before .before .before .before in
     let loop = c .before .before .before .before .before .before .before .loop in (
       omega (arith, start .pre .0, loop .inv .3),
-      (start .pre .1 .0, omega (arith, start .pre .1 .1, loop .inv .1), start .pre .1 .2, loop .inv .2),
+      (
+        start .pre .1 .0,
+        omega (arith, start .pre .1 .1, loop .inv .1),
+        start .pre .1 .2,
+        loop .inv .2,
+        start .pre .1 .4,
+      ),
     )
 
 parser·steps-same-length-3 : (t : ℕ) →
@@ -1372,7 +1903,13 @@ parser·steps-choice-requires t c κs =
     let loop = c .before .before .before .before .before .before .before .loop in
     let doing2 = c .before .before .before .doing2 in (
       omega (arith, start .pre .0, loop .inv .3, rank-optional _ _ (doing2 .given .1)),
-      (start .pre .1 .0, omega (arith, start .pre .1 .1, loop .inv .1), start .pre .1 .2, loop .inv .2),
+      (
+        start .pre .1 .0,
+        omega (arith, start .pre .1 .1, loop .inv .1),
+        start .pre .1 .2,
+        loop .inv .2,
+        start .pre .1 .4,
+      ),
     )
 
 parser·steps-same-length-5 : (t : ℕ) →
@@ -1406,63 +1943,132 @@ parser·steps-returns-3 t c =
     path-optional _ _ _ _ _ _ (loop .step) (loop .remaining) _ _ _ (loop .o) _ _ _ _ (table (loop .rows)) (loop .inv .4)
     (sym (goes-on .ensures) ∙ if1 .taken) _ _ _ _ (doing2 .given .1) (choice .ensures)
 
-parser·steps-choice-requires-2 : (t : ℕ) →
-    parser·steps-lts.Need-choice-requires-2 (parser·steps-callees t) (parser·steps-at t) parser·steps.Post
+parser·steps-name-choice-requires : (t : ℕ) →
+    parser·steps-lts.Need-name-choice-requires (parser·steps-callees t) (parser·steps-at t) parser·steps.Post
     parser·steps-Inv-loop parser·steps-μ-loop
-parser·steps-choice-requires-2 t c κs =
-    let start =
-    c .before .before .before .before .before .before .before .before .before .before .before .before .before in
-    let loop = c .before .before .before .before .before .before .before .loop in
-    let doing3 = c .before .before .before .doing3 in (
+parser·steps-name-choice-requires t c κs =
+    let start = c .before .before .before .before .before .before .before .before .before .before .before .before
+    .before .before .before in
+    let loop = c .before .before .before .before .before .before .before .before .before .loop in
+    let doing3 = c .before .before .before .before .before .doing3 in
+    let no-names = c .before .before .no-names in (
       omega (arith, start .pre .0, loop .inv .3, rank-elements _ _ (doing3 .given .1)),
-      (start .pre .1 .0, omega (arith, start .pre .1 .1, loop .inv .1), start .pre .1 .2, loop .inv .2),
+      (
+        (
+          start .pre .1 .0,
+          omega (arith, start .pre .1 .1, loop .inv .1),
+          start .pre .1 .2,
+          loop .inv .2,
+          start .pre .1 .4,
+        ),
+        rw (no-names .ensures) (omega (arith, start .pre .1 .0)),
+      ),
     )
 
 parser·steps-same-length-7 : (t : ℕ) →
     parser·steps-lts.Need-same-length-7 (parser·steps-callees t) (parser·steps-at t) parser·steps.Post
     parser·steps-Inv-loop parser·steps-μ-loop
 parser·steps-same-length-7 t c =
-    let loop =
-    c .before .before .before .before .before .before .before .before .before .before .before .before .loop in
-    let choice2 = c .before .before .before .before .choice2 in
-    choice2 .kept .1 .1 .1 .0 ∙ loop .inv .0
+    let loop = c .before .before .before .before .before .before .before .before .before .before .before .before
+    .before .before .loop in
+    let name-choice = c .before .before .before .before .name-choice in
+    name-choice .kept .1 .1 .1 .0 ∙ loop .inv .0
 
 parser·steps-same-length-8 : (t : ℕ) →
     parser·steps-lts.Need-same-length-8 (parser·steps-callees t) (parser·steps-at t) parser·steps.Post
     parser·steps-Inv-loop parser·steps-μ-loop
 parser·steps-same-length-8 t c =
-    let loop =
-    c .before .before .before .before .before .before .before .before .before .before .before .before .loop in
-    let choice2 = c .before .before .before .before .choice2 in
-    choice2 .kept .1 .1 .1 .1 .0 ∙ loop .inv .1
+    let loop = c .before .before .before .before .before .before .before .before .before .before .before .before
+    .before .before .loop in
+    let name-choice = c .before .before .before .before .name-choice in
+    name-choice .kept .1 .1 .1 .1 .0 ∙ loop .inv .1
 
 parser·steps-returns-4 : (t : ℕ) →
     parser·steps-lts.Need-returns-4 (parser·steps-callees t) (parser·steps-at t) parser·steps.Post
     parser·steps-Inv-loop parser·steps-μ-loop
 parser·steps-returns-4 t c =
-    let loop =
-    c .before .before .before .before .before .before .before .before .before .before .before .before .loop in
-    let goes-on = c .before .before .before .before .before .before .before .before .before .before .before .goes-on in
-    let if1 = c .before .before .before .before .before .before .before .before .before .before .if1 in
-    let doing3 = c .before .before .before .before .before .before .before .before .doing3 in
-    let choice2 = c .before .before .before .before .choice2 in
-    path-elements _ _ _ _ _ _ (loop .step) (loop .remaining) _ _ _ (loop .o) _ _ _ _ (table (loop .rows)) (loop .inv .4)
-    (sym (goes-on .ensures) ∙ if1 .taken) _ _ _ _ (doing3 .given .1) (choice2 .ensures)
+    let loop = c .before .before .before .before .before .before .before .before .before .before .before .before
+    .before .before .loop in
+    let goes-on = c .before .before .before .before .before .before .before .before .before .before .before .before
+    .before .goes-on in
+    let if1 = c .before .before .before .before .before .before .before .before .before .before .before .before .if1 in
+    let doing3 = c .before .before .before .before .before .before .before .before .before .before .doing3 in
+    let if3 = c .before .before .before .before .before .before .before .before .if3 in
+    let no-names = c .before .before .before .before .before .before .before .no-names in
+    let name-choice = c .before .before .before .before .name-choice in
+    path-names _ _ _ _ _ _ (loop .step) (loop .remaining) _ _ _ (loop .o) _ _ _ _ (table (loop .rows)) (loop .inv .4)
+    (sym (goes-on .ensures) ∙ if1 .taken) _ _ _ _ _ (doing3 .given .1) (if3 .taken) (no-names .ensures)
+    (name-choice .ensures)
+
+parser·steps-choice-requires-2 : (t : ℕ) →
+    parser·steps-lts.Need-choice-requires-2 (parser·steps-callees t) (parser·steps-at t) parser·steps.Post
+    parser·steps-Inv-loop parser·steps-μ-loop
+parser·steps-choice-requires-2 t c κs =
+    let start = c .before .before .before .before .before .before .before .before .before .before .before .before
+    .before .before in
+    let loop = c .before .before .before .before .before .before .before .before .loop in
+    let doing3 = c .before .before .before .before .doing3 in (
+      omega (arith, start .pre .0, loop .inv .3, rank-elements _ _ (doing3 .given .1)),
+      (
+        start .pre .1 .0,
+        omega (arith, start .pre .1 .1, loop .inv .1),
+        start .pre .1 .2,
+        loop .inv .2,
+        start .pre .1 .4,
+      ),
+    )
 
 parser·steps-same-length-9 : (t : ℕ) →
     parser·steps-lts.Need-same-length-9 (parser·steps-callees t) (parser·steps-at t) parser·steps.Post
     parser·steps-Inv-loop parser·steps-μ-loop
-parser·steps-same-length-9 t c = (c .before .before .loop) .inv .0
+parser·steps-same-length-9 t c =
+    let loop = c .before .before .before .before .before .before .before .before .before .before .before .before
+    .before .loop in
+    let choice2 = c .before .before .before .before .choice2 in
+    choice2 .kept .1 .1 .1 .0 ∙ loop .inv .0
 
 parser·steps-same-length-10 : (t : ℕ) →
     parser·steps-lts.Need-same-length-10 (parser·steps-callees t) (parser·steps-at t) parser·steps.Post
     parser·steps-Inv-loop parser·steps-μ-loop
-parser·steps-same-length-10 t c = (c .before .before .loop) .inv .1
+parser·steps-same-length-10 t c =
+    let loop = c .before .before .before .before .before .before .before .before .before .before .before .before
+    .before .loop in
+    let choice2 = c .before .before .before .before .choice2 in
+    choice2 .kept .1 .1 .1 .1 .0 ∙ loop .inv .1
 
 parser·steps-returns-5 : (t : ℕ) →
     parser·steps-lts.Need-returns-5 (parser·steps-callees t) (parser·steps-at t) parser·steps.Post
     parser·steps-Inv-loop parser·steps-μ-loop
 parser·steps-returns-5 t c =
+    let loop = c .before .before .before .before .before .before .before .before .before .before .before .before
+    .before .loop in
+    let goes-on = c .before .before .before .before .before .before .before .before .before .before .before .before
+    .goes-on in
+    let if1 = c .before .before .before .before .before .before .before .before .before .before .before .if1 in
+    let doing3 = c .before .before .before .before .before .before .before .before .before .doing3 in
+    let if3 = c .before .before .before .before .before .before .before .if3 in
+    let choice2 = c .before .before .before .before .choice2 in
+    path-elements _ _ _ _ _ _ (loop .step) (loop .remaining) _ _ _ (loop .o) _ _ _ _ (table (loop .rows)) (loop .inv .4)
+    (sym (goes-on .ensures) ∙ if1 .taken) _ _ _ _ (doing3 .given .1) (if3 .left) (choice2 .ensures)
+
+parser·steps-same-length-11 : (t : ℕ) →
+    parser·steps-lts.Need-same-length-11 (parser·steps-callees t) (parser·steps-at t) parser·steps.Post
+    parser·steps-Inv-loop parser·steps-μ-loop
+parser·steps-same-length-11 t c =
+    let loop = c .before .before .loop in
+    loop .inv .0
+
+parser·steps-same-length-12 : (t : ℕ) →
+    parser·steps-lts.Need-same-length-12 (parser·steps-callees t) (parser·steps-at t) parser·steps.Post
+    parser·steps-Inv-loop parser·steps-μ-loop
+parser·steps-same-length-12 t c =
+    let loop = c .before .before .loop in
+    loop .inv .1
+
+parser·steps-returns-6 : (t : ℕ) →
+    parser·steps-lts.Need-returns-6 (parser·steps-callees t) (parser·steps-at t) parser·steps.Post
+    parser·steps-Inv-loop parser·steps-μ-loop
+parser·steps-returns-6 t c =
     let loop = c .before .before .loop in
     let goes-on = c .before .goes-on in
     let if1 = c .if1 in
@@ -1524,6 +2130,7 @@ parser·variant-steps-requires t c κs =
           omega (arith, steps-fit _ _ _ _ (start .pre .1 .2) (variant .ensures)),
           omega (arith, steps-fit _ _ _ _ (start .pre .1 .2) (variant .ensures)),
         ),
+        omega (arith, start .pre .1 .3),
       ),
     )
 
@@ -1557,16 +2164,19 @@ parser·variant-returns-2 t c =
     variant-ran _ _ _ _ _ _ _ (variant .ensures) _ _ (if1 .left) _ _ _ _ _ _ _ (begin-variant .ensures)
     (steps .ensures) (after-variant .ensures)
 
-pub +left-recursion·enter+left-recursion·rounds+left-recursion·run-call+parser·choice+parser·descend+parser·follow+parser·one-run+parser·steps+parser·variant-spec :
+pub +left-recursion·enter+left-recursion·rounds+left-recursion·run-call+parser·choice+parser·close-names+parser·declare+parser·descend+parser·follow+parser·name-choice+parser·one-run+parser·steps+parser·variant-spec :
     {M : Type 1} → statement M
-+left-recursion·enter+left-recursion·rounds+left-recursion·run-call+parser·choice+parser·descend+parser·follow+parser·one-run+parser·steps+parser·variant-spec =
++left-recursion·enter+left-recursion·rounds+left-recursion·run-call+parser·choice+parser·close-names+parser·declare+parser·descend+parser·follow+parser·name-choice+parser·one-run+parser·steps+parser·variant-spec =
     close
     μ-left-recursion·enter
     μ-left-recursion·rounds
     μ-left-recursion·run-call
     μ-parser·choice
+    μ-parser·close-names
+    μ-parser·declare
     μ-parser·descend
     μ-parser·follow
+    μ-parser·name-choice
     μ-parser·one-run
     μ-parser·steps
     μ-parser·variant
@@ -1594,6 +2204,19 @@ pub +left-recursion·enter+left-recursion·rounds+left-recursion·run-call+parse
     (parser·choice-same-length t) (parser·choice-same-length-2 t) (parser·choice-returns t)
     (parser·choice-descend-requires t) (parser·choice-both-sides-requires t) (parser·choice-same-length-3 t)
     (parser·choice-same-length-4 t) (parser·choice-returns-2 t))
+    (λ t. parser·close-names-lts.spec (parser·close-names-callees t) (parser·close-names-at t)
+    parser·close-names.Post (parser·close-names-open-body-requires t) (λ c κs. search needs)
+    (parser·close-names-same-length t) (λ c. search needs) (parser·close-names-returns t)
+    (parser·close-names-body-binder-requires t) (parser·close-names-begin-child-requires t)
+    (parser·close-names-enter-requires t) (parser·close-names-follow-requires t) (parser·close-names-same-length-3
+    t) (parser·close-names-same-length-4 t) (parser·close-names-returns-2 t))
+    (λ t. parser·declare-lts.spec (parser·declare-callees t) (parser·declare-at t) parser·declare.Post (λ c κs.
+    search needs) (parser·declare-returns t) (λ c κs. search needs) (parser·declare-returns-2 t)
+    (parser·declare-declare-name-requires t) (λ c κs. search needs) (parser·declare-same-length t)
+    (parser·declare-same-length-2 t) (parser·declare-returns-3 t) (parser·declare-add-t23 t)
+    (parser·declare-sub-inner t) (parser·declare-name-choice-requires t) (parser·declare-close-names-requires t)
+    (parser·declare-same-length-3 t) (parser·declare-same-length-4 t) (parser·declare-returns-4 t)
+    (parser·declare-same-length-5 t) (parser·declare-same-length-6 t) (parser·declare-returns-5 t))
     (λ t. parser·descend-lts.spec (parser·descend-callees t) (parser·descend-at t) parser·descend.Post
     (parser·descend-inherited-binder-requires t) (parser·descend-begin-child-requires t)
     (parser·descend-enter-requires t) (parser·descend-follow-requires t)
@@ -1606,22 +2229,30 @@ pub +left-recursion·enter+left-recursion·rounds+left-recursion·run-call+parse
     (parser·follow-steps-requires t) (λ c κs. search needs) (parser·follow-same-length-3 t)
     (parser·follow-same-length-4 t) (parser·follow-returns-3 t) (parser·follow-add-i t) (parser·follow-loop-less t)
     (parser·follow-loop-again t) (parser·follow-same-length-5 t) (parser·follow-same-length-6 t)
-    (parser·follow-returns-4 t)) (λ t. parser·one-run-lts.spec (parser·one-run-callees t) (parser·one-run-at t)
+    (parser·follow-returns-4 t)) (λ t. parser·name-choice-lts.spec (parser·name-choice-callees t) (parser·name-choice-at t)
+    parser·name-choice.Post (λ c κs. search needs) (parser·name-choice-returns t)
+    (parser·name-choice-close-names-requires t) (parser·name-choice-same-length t) (parser·name-choice-same-length-2
+    t) (parser·name-choice-returns-2 t) (parser·name-choice-declare-requires t)
+    (parser·name-choice-both-sides-requires t) (parser·name-choice-same-length-3 t)
+    (parser·name-choice-same-length-4 t) (parser·name-choice-returns-3 t))
+    (λ t. parser·one-run-lts.spec (parser·one-run-callees t) (parser·one-run-at t)
     parser·one-run.Post parser·one-run-Inv-loop parser·one-run-μ-loop (parser·one-run-nonterminal-of-requires t)
     (parser·one-run-clear-run-requires t) (λ c. search needs) (λ c κs. search needs) (λ c κs. search needs)
     (parser·one-run-loop-holds t) (parser·one-run-add-j t) (parser·one-run-cast-j t) (parser·one-run-variant-requires t)
     (parser·one-run-same-length t) (parser·one-run-same-length-2 t) (parser·one-run-returns t) (parser·one-run-add-k t)
     (parser·one-run-loop-less t) (parser·one-run-loop-again t) (parser·one-run-same-length-3 t)
-    (parser·one-run-same-length-4 t) (parser·one-run-returns-2 t)) (λ t. parser·steps-lts.spec (parser·steps-callees t)
-    (parser·steps-at t) parser·steps.Post parser·steps-Inv-loop parser·steps-μ-loop (parser·steps-loop-holds t)
-    (λ c κs. search needs) (λ c. search needs) (parser·steps-finish-requires t) (parser·steps-same-length t)
-    (parser·steps-same-length-2 t) (parser·steps-returns t) (parser·steps-take-step-requires t)
-    (parser·steps-add-step t) (parser·steps-sub-remaining t) (parser·steps-loop-less t) (parser·steps-loop-again t)
-    (λ c. search needs) (parser·steps-descend-requires t) (parser·steps-same-length-3 t) (parser·steps-same-length-4 t)
+    (parser·one-run-same-length-4 t) (parser·one-run-returns-2 t)) (λ t. parser·steps-lts.spec (parser·steps-callees t) (parser·steps-at t) parser·steps.Post parser·steps-Inv-loop
+    parser·steps-μ-loop (parser·steps-loop-holds t) (λ c κs. search needs) (λ c. search needs)
+    (parser·steps-finish-requires t) (parser·steps-same-length t) (parser·steps-same-length-2 t)
+    (parser·steps-returns t) (parser·steps-take-step-requires t) (parser·steps-add-step t)
+    (parser·steps-sub-remaining t) (parser·steps-loop-less t) (parser·steps-loop-again t) (λ c. search needs)
+    (parser·steps-descend-requires t) (parser·steps-same-length-3 t) (parser·steps-same-length-4 t)
     (parser·steps-returns-2 t) (λ c. search needs) (parser·steps-choice-requires t) (parser·steps-same-length-5 t)
-    (parser·steps-same-length-6 t) (parser·steps-returns-3 t) (λ c. search needs) (parser·steps-choice-requires-2 t)
-    (parser·steps-same-length-7 t) (parser·steps-same-length-8 t) (parser·steps-returns-4 t)
-    (parser·steps-same-length-9 t) (parser·steps-same-length-10 t) (parser·steps-returns-5 t))
+    (parser·steps-same-length-6 t) (parser·steps-returns-3 t) (λ c. search needs) (λ c κs. search needs)
+    (parser·steps-name-choice-requires t) (parser·steps-same-length-7 t) (parser·steps-same-length-8 t)
+    (parser·steps-returns-4 t) (parser·steps-choice-requires-2 t) (parser·steps-same-length-9 t)
+    (parser·steps-same-length-10 t) (parser·steps-returns-5 t) (parser·steps-same-length-11 t)
+    (parser·steps-same-length-12 t) (parser·steps-returns-6 t))
     λ t. parser·variant-lts.spec (parser·variant-callees t) (parser·variant-at t) parser·variant.Post
     (λ c κs. search needs) (parser·variant-returns t) (parser·variant-begin-variant-requires t)
     (parser·variant-cast-first t) (parser·variant-cast-count t) (parser·variant-sub-steps t)

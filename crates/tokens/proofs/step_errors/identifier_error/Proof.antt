@@ -4,8 +4,8 @@ use borrow.Author.Tests.{eq-eqb, ne-eqb}
 use borrow.Author.Needs.{needs}
 use Rattle.semantics.specs.Errors.{identifierError}
 use Rattle.tokens.specs.Maps.{endOf}
-use Rattle.tokens.proofs.steps.identifier_error.Statement.{statement}
-use Rattle.tokens.proofs.steps.identifier_error.Tie as tie
+use Rattle.tokens.proofs.step_errors.identifier_error.Statement.{statement}
+use Rattle.tokens.proofs.step_errors.identifier_error.Tie as tie
 
 returns : tie.Need-returns
 unfolding identifierError

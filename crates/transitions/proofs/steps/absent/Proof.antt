@@ -2,9 +2,9 @@
 use borrow.Author.Needs.{needs}
 use Rattle.book.specs.Index.{bookIn}
 use Rattle.semantics.specs.Cells.{Cell}
-use Rattle.transitions.specs.NextLaws.{absent-limit, absent-goes}
-use Rattle.transitions.proofs.choices.absent.Statement.{statement}
-use Rattle.transitions.proofs.choices.absent.Tie as tie
+use Rattle.transitions.specs.StepsLaws.{absent-limit, absent-goes}
+use Rattle.transitions.proofs.steps.absent.Statement.{statement}
+use Rattle.transitions.proofs.steps.absent.Tie as tie
 
 returns : tie.Need-returns
 returns c =

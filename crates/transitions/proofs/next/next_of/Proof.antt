@@ -3,8 +3,8 @@ use borrow.Author.Needs.{needs}
 use Rattle.book.specs.Index.{bookIn}
 use Rattle.sets.specs.Sets.{parseOf}
 use Rattle.transitions.specs.NextLaws.{plain-next, list-next}
-use Rattle.transitions.proofs.steps.next_of.Statement.{statement}
-use Rattle.transitions.proofs.steps.next_of.Tie as tie
+use Rattle.transitions.proofs.next.next_of.Statement.{statement}
+use Rattle.transitions.proofs.next.next_of.Tie as tie
 
 next-element-requires : tie.Need-next-element-requires
 next-element-requires c κs = c .before .before .before .before .before .before .before .before .pre

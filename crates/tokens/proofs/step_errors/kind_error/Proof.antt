@@ -2,8 +2,8 @@
 use mathlib.Core.Path.{_∙_}
 use borrow.Author.Needs.{needs}
 use Rattle.tokens.specs.VariableLaws.{kind-found, kind-missing}
-use Rattle.tokens.proofs.steps.kind_error.Statement.{statement}
-use Rattle.tokens.proofs.steps.kind_error.Tie as tie
+use Rattle.tokens.proofs.step_errors.kind_error.Statement.{statement}
+use Rattle.tokens.proofs.step_errors.kind_error.Tie as tie
 
 returns : tie.Need-returns
 returns c =

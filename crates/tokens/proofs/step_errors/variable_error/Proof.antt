@@ -2,8 +2,8 @@
 use mathlib.Core.Path.{ap, _∙_}
 use borrow.Author.Needs.{needs}
 use Rattle.semantics.specs.Errors.{identifierError, stepError}
-use Rattle.tokens.proofs.steps.variable_error.Statement.{statement}
-use Rattle.tokens.proofs.steps.variable_error.Tie as tie
+use Rattle.tokens.proofs.step_errors.variable_error.Statement.{statement}
+use Rattle.tokens.proofs.step_errors.variable_error.Tie as tie
 
 returns : tie.Need-returns
 unfolding stepError

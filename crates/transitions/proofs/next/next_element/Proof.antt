@@ -8,8 +8,8 @@ use Rattle.sets.specs.Sets.{parseOf}
 use Rattle.tokens.specs.Maps.{afterOf}
 use Rattle.transitions.specs.TakenLaws.{goes-fits, halts-fits}
 use Rattle.transitions.specs.NextLaws.{element-limit, element-on, element-last}
-use Rattle.transitions.proofs.steps.next_element.Statement.{statement}
-use Rattle.transitions.proofs.steps.next_element.Tie as tie
+use Rattle.transitions.proofs.next.next_element.Statement.{statement}
+use Rattle.transitions.proofs.next.next_element.Tie as tie
 
 returns : tie.Need-returns
 returns c =
