@@ -106,3 +106,4 @@ stepNumber (Step.Many a) = 10
 stepNumber (Step.CommaList a) = 11
 stepNumber (Step.Delimited a b c) = 12
 stepNumber (Step.OptionalDelimited a b c) = 13
+stepNumber (Step.Binder a b c) = 14

@@ -188,7 +188,8 @@ stepOf kind a b c =
     (cond (eqb kind 11) (Step.CommaList a)
     (cond (eqb kind 12) (Step.Delimited a b c)
     (cond (eqb kind 13) (Step.OptionalDelimited a b c)
-    (Step.Character 0))))))))))))))
+    (cond (eqb kind 14) (Step.Binder a b c)
+    (Step.Character 0)))))))))))))))
 
 unfoldable pub step : ℕ → ℕ → Bool → Reader Step
 step words nonterminals binder = do

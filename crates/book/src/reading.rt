@@ -42,8 +42,8 @@ fn associativity_of(number: u8) -> Associativity
     }
 }
 
-// The step of a kind. The check refuses a kind that document 01 doesn't name; here it reads as the character 0, which
-// no book asks for.
+// The step of a kind. The check refuses a kind that is none of these; here it reads as the character 0, which no book
+// asks for.
 fn step_of(kind: u8, a: u32, b: u32, c: u32) -> Step
     ensures { λ r. ⌜ r ≡ stepOf kind a b c ⌝ }
 {
@@ -67,6 +67,11 @@ fn step_of(kind: u8, a: u32, b: u32, c: u32) -> Step
         },
         13 => Step::OptionalDelimited {
             nonterminal: a,
+            opening: b,
+            closing: c,
+        },
+        14 => Step::Binder {
+            body: a,
             opening: b,
             closing: c,
         },
@@ -109,6 +114,11 @@ pub fn step_number(step: Step) -> usize
             opening: _,
             closing: _,
         } => 13,
+        Step::Binder {
+            body: _,
+            opening: _,
+            closing: _,
+        } => 14,
     }
 }
 

@@ -57,4 +57,9 @@ pub enum Step {
         opening: u32,
         closing: u32,
     },
+    Binder {
+        body: u32,
+        opening: u32,
+        closing: u32,
+    },
 }

@@ -108,6 +108,11 @@ fn step(file: &[u8], start: Cursor, s: Step) -> Cursor {
             opening,
             closing,
         } => t.is_step(file, nonterminal, opening, closing),
+        Step::Binder {
+            body,
+            opening,
+            closing,
+        } => t.is_step(file, body, opening, closing),
         _ => t.is_step(file, 0, 0, 0),
     }
 }

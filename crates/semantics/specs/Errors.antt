@@ -75,7 +75,7 @@ module _ (book : Book) (text : List ℕ) where
         | none ↦ error at nonterminalWanted declaredName
       ]
 
-  -- at a skipped place. Kinds 8 to 11 and 13 always take something and are never asked for
+  -- at a skipped place. Kinds 8 to 11, 13 and 14 always take something and are never asked for
   unfoldable pub stepError : Scope → Step → ℕ → Error
   stepError scope (Step.Character a) at = error at characterWanted a
   stepError scope (Step.Word a) at = error at wordWanted a
@@ -100,3 +100,4 @@ module _ (book : Book) (text : List ℕ) where
   stepError scope (Step.CommaList a) at = error at nonterminalWanted a
   stepError scope (Step.Delimited a b c) at = error at characterWanted b
   stepError scope (Step.OptionalDelimited a b c) at = error at nonterminalWanted a
+  stepError scope (Step.Binder a b c) at = error at nonterminalWanted a

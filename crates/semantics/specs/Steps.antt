@@ -86,6 +86,10 @@ stepAt book text scope (Step.Delimited M b c) x =
 -- opening in vain, still leaves the place skipped"
 stepAt book text scope (Step.OptionalDelimited M b c) x =
     elim (characterEnd text b x) [ some y ↦ list true M (some c) y | none ↦ unopened (skipFrom text x) ]
+-- document 02 d, "an opening character, a comma list of names, a closing character, and a body; without the opening,
+-- the body alone"
+stepAt book text scope (Step.Binder M b c) x =
+    elim (characterEnd text b x) [ some y ↦ names c M y | none ↦ body M ]
 
 -- ---- Lists
 -- after an element the list goes on at a place, or halts there

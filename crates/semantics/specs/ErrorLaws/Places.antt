@@ -248,6 +248,9 @@ module _ (book : Book) (text : List ℕ) where
     step-on (Step.OptionalDelimited M b c) =
         option-cases (characterEnd text b x) (λ e. rw (e, stepAt) skip-on)
         (λ y e. rw (e, stepAt) (character-forward text b x y e))
+    step-on (Step.Binder M b c) =
+        option-cases (characterEnd text b x) (λ e. rw (e, stepAt) tt)
+        (λ y e. rw (e, stepAt) (character-forward text b x y e))
 
     pub step-forward : (step : Step) {k : Taken} → stepAt book text scope step x ≡ k → TakenOn x k
     step-forward step e = subst (TakenOn x) e (step-on step)
@@ -303,6 +306,7 @@ module _ (book : Book) (text : List ℕ) where
   step-error-place scope (Step.CommaList M) at = refl
   step-error-place scope (Step.Delimited M b c) at = refl
   step-error-place scope (Step.OptionalDelimited M b c) at = refl
+  step-error-place scope (Step.Binder M b c) at = refl
 
   -- a name is claimed by a use that begins there
   pub claimant : (P : Path) (u : ℕ) → hasClaimant book text P u ≡ true → Claimant P u

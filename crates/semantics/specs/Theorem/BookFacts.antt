@@ -96,6 +96,7 @@ kind-8 (Step.Many a) e = absurd (omega arith)
 kind-8 (Step.CommaList a) e = absurd (omega arith)
 kind-8 (Step.Delimited a b c) e = absurd (omega arith)
 kind-8 (Step.OptionalDelimited a b c) e = absurd (omega arith)
+kind-8 (Step.Binder a b c) e = absurd (omega arith)
 
 -- a step that the list doesn't have reads as a character, so that one of kind 8 is there
 step-there : (steps : List Step) (k : ℕ) → stepNumber (nthStep steps k) ≡ 8 →

@@ -200,6 +200,8 @@ module _ (book : Book) (text : List ℕ) (scope : Scope) (x : ℕ) where
       option-cases (characterEnd text b x) (λ e. rw (e, stepAt) tt) (λ y e. rw (e, stepAt) tt)
   step-fits (Step.OptionalDelimited M b c) =
       option-cases (characterEnd text b x) (λ e. rw (e, stepAt) tt) (λ y e. rw (e, stepAt) tt)
+  step-fits (Step.Binder M b c) =
+      option-cases (characterEnd text b x) (λ e. rw (e, stepAt) tt) (λ y e. rw (e, stepAt) tt)
 
   pub token-fits : (step : Step) (t : Token) → stepAt book text scope step x ≡ Taken.token t → AddsFit text (t .item)
   token-fits step t e = subst (TakenFits text) e (step-fits step)

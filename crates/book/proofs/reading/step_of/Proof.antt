@@ -62,24 +62,29 @@ returns-14 c = rw (c .match .keys14)
 
 returns-15 : tie.Need-returns-15
 unfolding stepOf
-returns-15 c =
+returns-15 c = rw (c .match .keys15)
+
+returns-16 : tie.Need-returns-16
+unfolding stepOf
+returns-16 c =
     let not-one-of = c .match .rest in
     let kind = c .before .args .kind in
     rw (
-      ne-eqb kind 0 (not-one-of .0 .0 .0 .0 .0 .0 .0 .0 .0 .0 .0 .0 .0 .1),
-      ne-eqb kind 1 (not-one-of .0 .0 .0 .0 .0 .0 .0 .0 .0 .0 .0 .0 .1),
-      ne-eqb kind 2 (not-one-of .0 .0 .0 .0 .0 .0 .0 .0 .0 .0 .0 .1),
-      ne-eqb kind 3 (not-one-of .0 .0 .0 .0 .0 .0 .0 .0 .0 .0 .1),
-      ne-eqb kind 4 (not-one-of .0 .0 .0 .0 .0 .0 .0 .0 .0 .1),
-      ne-eqb kind 5 (not-one-of .0 .0 .0 .0 .0 .0 .0 .0 .1),
-      ne-eqb kind 6 (not-one-of .0 .0 .0 .0 .0 .0 .0 .1),
-      ne-eqb kind 7 (not-one-of .0 .0 .0 .0 .0 .0 .1),
-      ne-eqb kind 8 (not-one-of .0 .0 .0 .0 .0 .1),
-      ne-eqb kind 9 (not-one-of .0 .0 .0 .0 .1),
-      ne-eqb kind 10 (not-one-of .0 .0 .0 .1),
-      ne-eqb kind 11 (not-one-of .0 .0 .1),
-      ne-eqb kind 12 (not-one-of .0 .1),
-      ne-eqb kind 13 (not-one-of .1),
+      ne-eqb kind 0 (not-one-of .0 .0 .0 .0 .0 .0 .0 .0 .0 .0 .0 .0 .0 .0 .1),
+      ne-eqb kind 1 (not-one-of .0 .0 .0 .0 .0 .0 .0 .0 .0 .0 .0 .0 .0 .1),
+      ne-eqb kind 2 (not-one-of .0 .0 .0 .0 .0 .0 .0 .0 .0 .0 .0 .0 .1),
+      ne-eqb kind 3 (not-one-of .0 .0 .0 .0 .0 .0 .0 .0 .0 .0 .0 .1),
+      ne-eqb kind 4 (not-one-of .0 .0 .0 .0 .0 .0 .0 .0 .0 .0 .1),
+      ne-eqb kind 5 (not-one-of .0 .0 .0 .0 .0 .0 .0 .0 .0 .1),
+      ne-eqb kind 6 (not-one-of .0 .0 .0 .0 .0 .0 .0 .0 .1),
+      ne-eqb kind 7 (not-one-of .0 .0 .0 .0 .0 .0 .0 .1),
+      ne-eqb kind 8 (not-one-of .0 .0 .0 .0 .0 .0 .1),
+      ne-eqb kind 9 (not-one-of .0 .0 .0 .0 .0 .1),
+      ne-eqb kind 10 (not-one-of .0 .0 .0 .0 .1),
+      ne-eqb kind 11 (not-one-of .0 .0 .0 .1),
+      ne-eqb kind 12 (not-one-of .0 .0 .1),
+      ne-eqb kind 13 (not-one-of .0 .1),
+      ne-eqb kind 14 (not-one-of .1),
     )
 
 pub step-of-spec : {M : Type 1} → statement M
@@ -87,4 +92,4 @@ step-of-spec =
     tie.close
     (tie.spec
     returns returns-2 returns-3 returns-4 returns-5 returns-6 returns-7 returns-8 returns-9 returns-10 returns-11
-    returns-12 returns-13 returns-14 returns-15)
+    returns-12 returns-13 returns-14 returns-15 returns-16)

@@ -85,6 +85,7 @@ module _ (book longer : Book) (text : List ℕ) (retains : Retains book longer) 
   step-still scope (Step.CommaList M) x = refl
   step-still scope (Step.Delimited M b c) x = refl
   step-still scope (Step.OptionalDelimited M b c) x = refl
+  step-still scope (Step.Binder M b c) x = refl
 
   -- ---- Derivations
   -- the variant of an attempt is the shorter book's
