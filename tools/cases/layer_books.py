@@ -1,4 +1,4 @@
-"""The list of the crate layer_cases: books, and what document 01 makes of each.
+"""The list of the crate layer_cases: books, and what documents 01 and 02 d make of each.
 
 The books are the boundaries below, whose refusals were written down by hand, and then each book of files of vectors,
 once. The fields of an accepted book are taken straight from its bytes; nothing is checked.
@@ -8,11 +8,13 @@ A case is: the book's length (two bytes, the high one first) and bytes; the refu
 nonterminals (mark, first variant, number of variants), variants (level, associativity, committed, passing, first step,
 number of steps), steps (kind, a, b, c).
 """
-from cases.books import BOTH, COMMITTED, IDENTIFIER, NONTERMINAL, PASSING, book, sections, word
+from cases.books import BINDER, BOTH, COMMITTED, IDENTIFIER, NONTERMINAL, PASSING, book, sections, word
 from cases.vectors import PLACE, REFUSAL
 
 IDENTIFIER_STEP = (IDENTIFIER, 0, 0, 0)
 NONTERMINAL_STEP = (NONTERMINAL, 0, 0, 0)
+BINDER_VARIANT = (255, BOTH, COMMITTED, 1)
+BINDER_STEP = (BINDER, 0, 60, 62)
 CALL_REFUSALS = 1, 2  # in which the book isn't looked at
 BOOK_REFUSALS = range(3, 9)
 
@@ -63,6 +65,15 @@ def one(step, words=(), flags=COMMITTED):
     return book(words, (), ((0, 1),), ((255, BOTH, flags, 1),), (step,))
 
 
+def binder(variant=BINDER_VARIANT, step=BINDER_STEP):
+    """A book with one nonterminal, a binder with this variant and this step."""
+    return book(nonterminals=((3, 1),), variants=(variant,), steps=(step,))
+
+
+def changed(record, i, byte):
+    return record[:i] + (byte,) + record[i + 1 :]
+
+
 def boundaries():
     """(book, refusal, place), 0 0 for an accepted one."""
     yield b"", 3, 0
@@ -105,7 +116,7 @@ def boundaries():
     # nonterminals
     for n in range(4):
         yield bytes.fromhex("00 00 01 00 00 00")[: 2 + n], 3, 2 + n
-    yield book(nonterminals=((3, 0),)), 6, 3
+    yield book(nonterminals=((4, 0),)), 6, 3
     yield book(nonterminals=((1, 0),)), 0, 0
     yield book(nonterminals=((2, 0),)), 0, 0
     yield book(nonterminals=((2, 1),), variants=((0, 0, 0, 0),)), 6, 4
@@ -119,6 +130,7 @@ def boundaries():
     yield book(nonterminals=((0, 1),), variants=((0, 0, 4, 0),)), 6, 8
     yield book(nonterminals=((0, 1),), variants=((0, 0, 0, 8),), steps=(IDENTIFIER_STEP,) * 8), 0, 0
     yield book(nonterminals=((0, 1),), variants=((0, 0, 0, 9),), steps=(IDENTIFIER_STEP,) * 9), 6, 9
+    yield from binders()
     # steps: the step's first byte stands at 11
     for a, good in ((32, 0), (33, 1), (126, 1), (127, 0)):
         yield one((0, a, 0, 0)), 0 if good else 6, 0 if good else 12
@@ -169,3 +181,51 @@ def boundaries():
     yield largest, 0, 0
     yield largest + b"\x00", 8, 3777
     yield largest[:-1], 3, 3776
+
+
+def binders():
+    """The like, of books with a nonterminal of mark 3 or a step of kind 14."""
+    yield binder(), 0, 0
+    for n in range(4, 15):
+        yield binder()[:n], 3, n
+    # its number of variants, before a missing byte too
+    for n in (0, 2, 16):
+        yield book(nonterminals=((3, n),), variants=(BINDER_VARIANT,) * n, steps=(BINDER_STEP,) * n), 6, 4
+        yield bytes([0, 0, 1, 3, n]), 6, 4
+    # its variant: 255, 3, 1, 1 from 6 on; flags of a passing variant are 6, too
+    for i, bad in enumerate(((0, 254), (0, 2, 4), (0, 2, 3, 4), (0, 2, 8))):
+        for byte in bad:
+            yield binder(changed(BINDER_VARIANT, i, byte)), 6, 6 + i
+    # its step, from 11 on
+    for kind in (*range(14), 15, 255):
+        yield binder(step=(kind, 0, 60, 62)), 6, 11
+        yield binder(step=(kind, 0, 0, 0)), 6, 11
+    yield binder(step=(BINDER, 1, 60, 62)), 6, 12
+    for i in (2, 3):
+        for byte in (33, 126):
+            yield binder(step=changed(BINDER_STEP, i, byte)), 0, 0
+        for byte in (0, 32, 127):
+            yield binder(step=changed(BINDER_STEP, i, byte)), 6, 11 + i
+    # kind 14 of another nonterminal's step: alone, before a binder's and behind it
+    for mark in (0, 1):
+        yield book(nonterminals=((mark, 1),), variants=(BINDER_VARIANT,), steps=(BINDER_STEP,)), 6, 11
+        for nonterminals, at in ((((mark, 1), (3, 1)), 17), (((3, 1), (mark, 1)), 21)):
+            yield book(nonterminals=nonterminals, variants=(BINDER_VARIANT,) * 2, steps=(BINDER_STEP,) * 2), 6, at
+    yield book(nonterminals=((0, 1),), variants=((0, 0, 0, 2),), steps=(IDENTIFIER_STEP, BINDER_STEP)), 6, 15
+    # a binder behind and before others, whose variants and steps are as free as ever
+    mixed = (0, 0), (3, 1), (1, 2), (2, 0), (3, 1), (0, 1)
+    variants = BINDER_VARIANT, (0, 0, 0, 0), (7, 2, 1, 3), BINDER_VARIANT, (254, 1, 2, 1)
+    steps = (BINDER, 5, 40, 41), *(IDENTIFIER_STEP,) * 3, (BINDER, 1, 91, 91), (NONTERMINAL, 4, 0, 0)
+    yield book(nonterminals=mixed, variants=variants, steps=steps), 0, 0
+    for i, at in ((0, 16), (3, 28)):
+        yield book(nonterminals=mixed, variants=changed(variants, i, (254, 3, 1, 1)), steps=steps), 6, at
+    for i in (0, 4):
+        yield book(nonterminals=mixed, variants=variants, steps=changed(steps, i, NONTERMINAL_STEP)), 6, 37 + 4 * i
+    for i in (1, 2, 3, 5):
+        yield book(nonterminals=mixed, variants=variants, steps=changed(steps, i, BINDER_STEP)), 6, 37 + 4 * i
+    # 7 of a variant beside a binder's
+    yield book(nonterminals=mixed, variants=variants, steps=changed(steps, 5, (9, 4, 0, 0))), 7, 32
+    # as many binders as there may be
+    most = book(nonterminals=((3, 1),) * 32, variants=(BINDER_VARIANT,) * 32, steps=((BINDER, 31, 33, 126),) * 32)
+    yield most, 0, 0
+    yield most + b"\x00", 8, len(most)

@@ -80,9 +80,8 @@ identifierMark = 2
 abbrev pub binderMark : ℕ
 binderMark = 3
 
--- the last mark that a book may have: no book has a binder yet
 abbrev pub lastMark : ℕ
-lastMark = 2
+lastMark = 3
 
 -- "number of variants 0 to 16"
 abbrev pub variantsEach : ℕ

@@ -32,8 +32,7 @@ pub const IDENTIFIER_MARK: usize = 2;
 // Document 02 d, "the binder of `CoreBinder::parse` as mark 3".
 pub const BINDER_MARK: usize = 3;
 
-// The last mark that a book may have: no book has a binder yet.
-pub const LAST_MARK: usize = 2;
+pub const LAST_MARK: usize = BINDER_MARK;
 
 // "number of variants 0 to 16"
 pub const VARIANTS_EACH: usize = 16;
