@@ -1,5 +1,5 @@
--- Document 02 d, by examples: names in nested scopes, what is read as a declared name, and the run of a binder. No book
--- is accepted yet that has one: the book here is a record, and the run begins behind an opening.
+-- Document 02 d, by examples: names in nested scopes, what is read as a declared name, the run behind an opening, and
+-- answers by a book with a binder.
 use mathlib.Core.Path.{_≡_, refl}
 use mathlib.Core.Bool.{true, false}
 use mathlib.Core.List.{List, [], _∷_, _++_}
@@ -7,36 +7,53 @@ use mathlib.Core.Option.{Option, none, some}
 use Prim.Native.Nat.{ℕ}
 use lib.ListN.{replicate}
 use Rattle.book.specs.Book.{Entry, Book}
+use Rattle.book.specs.Check.{checkBook, Outcome}
 use Rattle.book.specs.declared.records.Mark.{Mark}
 use Rattle.book.specs.declared.records.Associativity.{Associativity}
 use Rattle.book.specs.declared.records.Variant.{Variant}
 use Rattle.book.specs.declared.records.Step.{Step}
+use Rattle.semantics.specs.Values.{Tree, no-trees, _▸_}
 use Rattle.semantics.specs.Uses.{Use, useOf, within, behind, Path, scopeOf, minimum, same-start, governor}
 use Rattle.semantics.specs.Tokens.{Item, Variable, Read, variableIn, hasClaimant, declarationAt}
 use Rattle.semantics.specs.Cells.{Cell}
 use Rattle.semantics.specs.Errors.{error, declarationError}
 use Rattle.semantics.specs.Run.{Result, met, ok, State, Parsed, parsed, call, openScope, bodyAfter, nameChoice}
 use Rattle.semantics.specs.Run.{parseBy, runner}
-use Rattle.semantics.specs.ExampleBook.{computing}
+use Rattle.semantics.specs.ExampleBook.{computing, value, refused, reads, readsWithin}
 
 -- an entry of one letter
 abbrev entry : ℕ → ℕ → Entry
 entry label letter = record { label = label; spelling = letter ∷ [] }
 
-abbrev variantOf : ℕ → Variant
-variantOf n =
-    record { level = 255; associativity = Associativity.Both; committed = true; passing = false; first = 0; count = n }
+abbrev variantOf : ℕ → ℕ → Variant
+variantOf first n = record {
+  level = 255;
+  associativity = Associativity.Both;
+  committed = true;
+  passing = false;
+  first = first;
+  count = n;
+}
 
 -- words: `t`, which is reserved, `u` twice, `v` five times, and `w`; starting names: `s` of kind 2 and `q` of kind 3.
--- Nonterminal 0 is a binder, and nonterminal 1, of mark 1, a variable
+-- Nonterminal 0 is a binder with `<` and `>`, whose body is nonterminal 1, of mark 1: a variable, or `-` and a binder
+abbrev bytes : List ℕ
+bytes =
+    9 ∷ 1 ∷ 1 ∷ 116 ∷ 0 ∷ 1 ∷ 117 ∷ 0 ∷ 1 ∷ 117 ∷ 0 ∷ 1 ∷ 118 ∷ 0 ∷ 1 ∷ 118 ∷ 0 ∷ 1 ∷ 118 ∷ 0 ∷ 1 ∷ 118 ∷ 0 ∷ 1 ∷ 118
+    ∷ 0 ∷ 1 ∷ 119
+    ∷ 2 ∷ 2 ∷ 1 ∷ 115 ∷ 3 ∷ 1 ∷ 113
+    ∷ 2 ∷ 3 ∷ 1 ∷ 1 ∷ 2
+    ∷ 3 ∷ 255 ∷ 3 ∷ 1 ∷ 1 ∷ 255 ∷ 3 ∷ 1 ∷ 1 ∷ 255 ∷ 3 ∷ 1 ∷ 2
+    ∷ 4 ∷ 14 ∷ 1 ∷ 60 ∷ 62 ∷ 4 ∷ 0 ∷ 0 ∷ 0 ∷ 0 ∷ 45 ∷ 0 ∷ 0 ∷ 8 ∷ 0 ∷ 0 ∷ 0 ∷ []
+
 abbrev book : Book
 book = record {
   words = entry 1 116 ∷ entry 0 117 ∷ entry 0 117 ∷ (replicate 5 (entry 0 118) ++ (entry 0 119 ∷ []));
   names = entry 2 115 ∷ entry 3 113 ∷ [];
   nonterminals =
-      record { mark = Mark.Binder; first = 0; count = 1 } ∷ record { mark = Mark.Variable; first = 1; count = 1 } ∷ [];
-  variants = variantOf 0 ∷ variantOf 1 ∷ [];
-  steps = Step.Variable ∷ [];
+      record { mark = Mark.Binder; first = 0; count = 1 } ∷ record { mark = Mark.Variable; first = 1; count = 2 } ∷ [];
+  variants = variantOf 0 1 ∷ variantOf 1 1 ∷ variantOf 2 2 ∷ [];
+  steps = Step.Binder 1 60 62 ∷ Step.Variable ∷ Step.Character 45 ∷ Step.Nonterminal 0 ∷ [];
 }
 
 -- ---- Names in scope: behind `<t a, u a, t b>`, in `<>`, in `<t a, u c, t s>`
@@ -73,8 +90,9 @@ state units cells = record { units = units; cells = cells; asked = false ∷ [] 
 abbrev text : List ℕ
 text = 60 ∷ 117 ∷ 32 ∷ 97 ∷ 62 ∷ 97 ∷ []
 
-abbrev reads : Result Parsed
-reads = nameChoice book text (runner book text 9) (call [] [] 0 0 []) 0 [] 1 62 1 [] 1 1 [] (state 4 (Cell.empty ∷ []))
+abbrev behindOpening : Result Parsed
+behindOpening =
+    nameChoice book text (runner book text 9) (call [] [] 0 0 []) 0 [] 1 62 1 [] 1 1 [] (state 5 (Cell.empty ∷ []))
 
 -- n names are declared in a scope that has 32
 abbrev opens : ℕ → Result State
@@ -83,6 +101,19 @@ opens n = openScope (some (replicate n (entry 0 97))) (replicate 32 (entry 0 97)
 -- the body behind 65 names, with these cells, no unit and no level of nesting
 abbrev body : List Cell → Result Parsed
 body cs = bodyAfter book text none (some (replicate 65 (entry 0 97))) (call [] [] 0 0 []) 0 1 2 [] 5 1 [] (state 0 cs)
+
+-- ---- Values: of the binder's variant, of the variable's, and of the variant with `-`
+abbrev bound : Tree → Tree → Tree
+bound kinds body = Tree.variant 0 (no-trees ▸ kinds ▸ body)
+
+abbrev variableTree : Tree → Tree
+variableTree v = Tree.variant 1 (no-trees ▸ v)
+
+abbrev minus : Tree → Tree
+minus body = Tree.variant 2 (no-trees ▸ body)
+
+abbrev kind : ℕ → Tree
+kind k = Tree.list (no-trees ▸ Tree.number k)
 
 pub record DeclaredNameAnswers : Type 0 where
   -- "An equal name declared later wins", in its binder, and before those of the binders around it
@@ -115,12 +146,37 @@ pub record DeclaredNameAnswers : Type 0 where
   -- behind the cells of the kinds, and "before the body's unit"
   pub after-the-cells : body (replicate 4096 Cell.absent) ≡ met 23 0
   pub before-the-unit : body (Cell.empty ∷ []) ≡ met 41 0
-  -- a unit for the choice, the name, the body's call and its step; the name's kind "is made last"; "Its items are the
-  -- kinds as a list of numbers, .. and the body"
+  -- a unit for the choice, the name, the body's call and each first step of it; the name's kind "is made last"; "Its
+  -- items are the kinds as a list of numbers, .. and the body"
   pub read :
-      reads ≡ ok (parsed (parseBy book text 0 6 11 ∷ []) none (state 0
+      behindOpening ≡ ok (parsed (parseBy book text 0 6 11 ∷ []) none (state 0
       (Cell.empty ∷ Cell.list 1 ∷ Cell.number 0 1 ∷ Cell.chain 1 3 ∷ Cell.list 4 ∷ Cell.chain 1 5 ∷ Cell.declared 0 0
       ∷ Cell.chain 1 7 ∷ Cell.variant 1 8 ∷ Cell.chain 6 9 ∷ Cell.variant 0 10 ∷ [])))
+  -- a book with a binder is accepted
+  pub accepted : checkBook bytes ≡ Outcome.book book
+  -- "an opening character, a comma list of names, a closing character, and a body": `<u a>a`; `< u a , >a`, as a comma
+  -- list may end with a comma; `<>s`
+  pub one : reads bytes text ≡ value (bound (kind 1) (variableTree (Tree.declared 0 0))) 1
+  pub last-comma :
+      reads bytes (60 ∷ 32 ∷ 117 ∷ 32 ∷ 97 ∷ 32 ∷ 44 ∷ 32 ∷ 62 ∷ 97 ∷ [])
+      ≡ value (bound (kind 1) (variableTree (Tree.declared 0 0))) 1
+  pub empty : reads bytes (60 ∷ 62 ∷ 115 ∷ []) ≡ value (bound (Tree.list no-trees) (variableTree (Tree.variable 0 2))) 1
+  -- "without the opening, the body alone"; kinds "absent without the opening": `s`
+  pub alone : reads bytes (115 ∷ []) ≡ value (bound Tree.absent (variableTree (Tree.variable 0 2))) 1
+  -- `<u a>-<t b>a`, and `<u a>-a`, where an absent opening is no binder
+  pub depth-1 :
+      reads bytes (60 ∷ 117 ∷ 32 ∷ 97 ∷ 62 ∷ 45 ∷ 60 ∷ 116 ∷ 32 ∷ 98 ∷ 62 ∷ 97 ∷ [])
+      ≡ value (bound (kind 1) (minus (bound (kind 0) (variableTree (Tree.declared 1 0))))) 1
+  pub depth-0 :
+      reads bytes (60 ∷ 117 ∷ 32 ∷ 97 ∷ 62 ∷ 45 ∷ 97 ∷ [])
+      ≡ value (bound (kind 1) (minus (bound Tree.absent (variableTree (Tree.declared 0 0))))) 1
+  -- `<,>s`: neither a name nor the closing; `<u a`; `<u a>b`
+  pub no-name : reads bytes (60 ∷ 44 ∷ 62 ∷ 115 ∷ []) ≡ refused 30 1 12 0
+  pub unclosed : reads bytes (60 ∷ 117 ∷ 32 ∷ 97 ∷ []) ≡ refused 30 4 1 62
+  pub unknown : reads bytes (60 ∷ 117 ∷ 32 ∷ 97 ∷ 62 ∷ 98 ∷ []) ≡ refused 30 5 11 1
+  -- `<u a>a` takes 7 units, and not one less
+  pub enough : readsWithin 7 bytes text ≡ value (bound (kind 1) (variableTree (Tree.declared 0 0))) 1
+  pub too-few : readsWithin 6 bytes text ≡ refused 20 0 0 0
 
 pub declared-name-answers : DeclaredNameAnswers
 unfolding computing
@@ -146,4 +202,16 @@ declared-name-answers = record {
   after-the-cells = refl;
   before-the-unit = refl;
   read = refl;
+  accepted = refl;
+  one = refl;
+  last-comma = refl;
+  empty = refl;
+  alone = refl;
+  depth-1 = refl;
+  depth-0 = refl;
+  no-name = refl;
+  unclosed = refl;
+  unknown = refl;
+  enough = refl;
+  too-few = refl;
 }
