@@ -11,8 +11,7 @@ use Rattle.book.specs.Book.{Entry}
 use Rattle.book.specs.Check.{checkBook, Outcome}
 use Rattle.book.specs.Index.{verdict}
 use Rattle.book.specs.declared.checking.Verdict.{Verdict}
-use Rattle.semantics.specs.Numbers.{cellSize, mostCells, noParse, differentValues, notAccepted, noUnit}
-use Rattle.semantics.specs.Numbers.{tooManyCells}
+use Rattle.semantics.specs.Numbers.{cellSize, mostCells, noParse, differentValues, notAccepted, isLimit}
 use Rattle.semantics.specs.Answer.{Answer, Answered, answer, answerOf}
 use Rattle.run.specs.Promise.{Reads, answerWith}
 use Rattle.run.specs.declared.reader.Answer as code
@@ -65,9 +64,9 @@ pub record ReadIntoWith (book text : Lent) (start allowance : ℕ)
   pub few : length (atEntry answer) < answerSize → Stays index × Stays store × Stays rows
 
 -- ---- Numbers that are an answer
--- a refusal of the table of "The answer"
+-- a refusal of the table of "The answer", or document 02's further limit
 abbrev pub isRefusal : ℕ → Bool
-isRefusal n = notAccepted n || (between noUnit tooManyCells n || between noParse differentValues n)
+isRefusal n = notAccepted n || (isLimit n || between noParse differentValues n)
 
 -- "from cell 1", and "a 4,097th cell" is refused: a cell that a run can make and the list holds
 abbrev pub hasCell : List ℕ → ℕ → Bool

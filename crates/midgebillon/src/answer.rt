@@ -18,6 +18,7 @@ use run::NO_PARSE;
 use run::SHORT_LISTS;
 use transitions::NO_UNIT;
 use transitions::TOO_MANY_CELLS;
+use transitions::TOO_MANY_NAMES;
 
 pub const ANSWER_SIZE: usize = 7;
 
@@ -70,7 +71,7 @@ fn has_cell(cells: &[u32], n: u32) -> bool
     false
 }
 
-// The numbers of document 01's table.
+// The numbers of document 01's table, and document 02's further limit.
 fn is_refusal(n: u32) -> bool
     ensures { λ r. ⌜ r ≡ isRefusal n ⌝ }
 {
@@ -80,10 +81,13 @@ fn is_refusal(n: u32) -> bool
     if is_between(NO_UNIT, TOO_MANY_CELLS, n) {
         return true;
     }
+    if n == TOO_MANY_NAMES {
+        return true;
+    }
     is_between(NO_PARSE, DIFFERENT_VALUES, n)
 }
 
-// A value is one of an accepted book and has its cell; a refusal is one of document 01.
+// A value is one of an accepted book and has its cell; a refusal is one of the documents'.
 pub fn is_answer(verdict: Verdict, cells: &[u32], a: Answer) -> bool
     ensures { λ r. ⌜ r ≡ isAnswer verdict (atEntry cells) (answerIn a) ⌝ }
 {

@@ -54,7 +54,7 @@ fn write_parses(parses: &mut [u32], rows: &[u32])
     }
 }
 
-// 20 to 23 and 30.
+// 20 to 23, 41 and 30.
 pub fn clear_lists(cells: &mut [u32], parses: &mut [u32])
     requires { ⌜ LongLists cells parses ⌝ }
     ensures { λ _. ⌜ Writes cells cellsSize [] × Writes parses parsesSize [] ⌝ }

@@ -126,7 +126,7 @@ fn gone(allowance: u32, left: u32) -> u32
     }
 }
 
-// The end: 20 to 23, 30, 31, 32 or a value.
+// The end: 20 to 23, 41, 30, 31, 32 or a value.
 fn ending(
     text: &[u8],
     allowance: u32,

@@ -159,5 +159,10 @@ pub fn step_error(
             opening: _,
             closing: _,
         } => error_at(at, NONTERMINAL_WANTED, nonterminal),
+        Step::Binder {
+            body,
+            opening: _,
+            closing: _,
+        } => error_at(at, NONTERMINAL_WANTED, body),
     }
 }

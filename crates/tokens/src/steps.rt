@@ -299,6 +299,23 @@ fn optional_delimited(text: &[u8], nonterminal: u32, opening: u32, closing: u32,
     }
 }
 
+// Without the opening the body stands where it was looked for.
+fn binder(text: &[u8], body: u32, opening: u32, closing: u32, x: usize) -> Taken
+    ensures { λ r. ⌜ ((book : Book) (scope : Scope) →
+        takenOf r ≡ stepAt book (atEntry text) scope (Step.Binder body opening closing) x) ⌝ }
+{
+    let End::At(place) = character_end(text, opening, x) else {
+        return Taken::Body(body);
+    };
+    Taken::List {
+        comma: true,
+        names: true,
+        nonterminal: body,
+        closing: Closing::Character(closing),
+        place,
+    }
+}
+
 // What a step of a row's call takes at a place, by its kind.
 pub fn step_at(
     book: &[u8],
@@ -348,6 +365,11 @@ pub fn step_at(
             opening,
             closing,
         } => optional_delimited(text, nonterminal, opening, closing, x),
+        Step::Binder {
+            body,
+            opening,
+            closing,
+        } => binder(text, body, opening, closing, x),
     }
 }
 

@@ -265,6 +265,12 @@ module _ (book : Book) (text : List ℕ) (scope : Scope) (fit : Fit book text) (
       by-option (characterEnd text b x) (λ end e. rw (e, stepAt) (character-fits text b x end (fit .short) e))
       (λ e. rw (e, stepAt) at-fits)
 
+  binder-taken : (M b c : ℕ) → TakenIn (stepAt book text scope (Step.Binder M b c) x)
+  unfolding stepAt
+  binder-taken M b c =
+      by-option (characterEnd text b x) (λ end e. rw (e, stepAt) (character-fits text b x end (fit .short) e))
+      (λ e. rw (e, stepAt) tt)
+
   step-taken : (step : Step) → TakenIn (stepAt book text scope step x)
   unfolding stepAt
   step-taken (Step.Character a) = character-taken a
@@ -281,6 +287,7 @@ module _ (book : Book) (text : List ℕ) (scope : Scope) (fit : Fit book text) (
   step-taken (Step.CommaList M) = h
   step-taken (Step.Delimited M b c) = delimited-taken M b c
   step-taken (Step.OptionalDelimited M b c) = optional-taken M b c
+  step-taken (Step.Binder M b c) = binder-taken M b c
 
 item-in : (i : Item) → ItemIn (itemOf i) → ItemFits i
 item-in Item.Nothing f = f

@@ -4,7 +4,7 @@ ghost use Rattle.transitions.specs.Outcomes.{withoutFailure, doneWith, f
 use errors::Error;
 use errors::Failure;
 
-// Document 01, "The answer", 20 to 23.
+// The limits of a run: 20 to 23 of document 01, "The answer", and 41 of document 02 d.
 pub const NO_UNIT: u32 = 20;
 
 pub const TOO_DEEP: u32 = 21;
