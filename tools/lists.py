@@ -11,17 +11,17 @@ status is 1 if any differs.
 writes those that differ. A list is never replaced by one with fewer cases than its program's `stdout` tells, unless
 --fewer is given.
 
-    cut       vectors/open.jsonl, reading.jsonl, damaged.jsonl, deep.jsonl: a choice of the vectors of --from, by the
-              rule of tools/cases/cut.py
+    cut       vectors/open.jsonl, reading.jsonl, damaged.jsonl, deep.jsonl, and binders.jsonl of document 02 d's own,
+              new.jsonl: a choice of the vectors of --from, by the rule of tools/cases/cut.py
     vectors   crates/known_answers/data/vectors.bin: all of vectors/*.jsonl, as the program reads them
               (tools/cases/vectors.py), with how many vectors show each refusal, error kind, step kind, ..
     books     crates/layer_cases/data/books.bin: boundaries, and the books of the vectors of --from
               (tools/cases/layer_books.py)
     program   crates/program_cases/data/*: books and long texts (tools/cases/program_files.py)
 
-cut and books need the whole files of vectors, which the repository doesn't have: --from FOLDER, or `vectors/02/f` in
-the folder `shared` beside the repository, which has the answers with document 02's requests g, c, a, n and f. Without
-them both are left out. The list of the Rust's answers, crates/known_answers/data/rust.bin, is made in compare/.
+cut and books need the whole files of vectors, which the repository doesn't have: --from FOLDER, or `vectors/02/d` in
+the folder `shared` beside the repository, which has the answers with document 02's requests g, c, a, n, f and d.
+Without them both are left out. The list of the Rust's answers, crates/known_answers/data/rust.bin, is made in compare/.
 """
 import argparse
 import collections
@@ -34,29 +34,30 @@ from cases import cut, layer_books, program_files
 from cases.vectors import read, record
 
 ROOT = os.path.dirname(os.path.dirname(os.path.abspath(__file__)))
-VECTORS = "vectors/02/f"  # those of the last request here that changes an answer or a line
+VECTORS = "vectors/02/d"  # those of the last request here that changes an answer or a line
 WHOLE = ["open", "damaged", "reading", "deep"]  # in the order in which books.bin has their books
+BINDERS = "new"  # those of document 02 d alone
 
 # The content of a list's files by their paths; how many cases it has and which program counts them, None if none does;
 # and what it ought to show and doesn't.
 List = collections.namedtuple("List", "files cases program missing", defaults=[None, None, ()])
 
 
-def whole(folder):
-    """The paths of the whole files of vectors."""
-    return [f"{folder}/{name}.jsonl" for name in WHOLE]
+def whole(folder, names=WHOLE):
+    """The paths of whole files of vectors."""
+    return [f"{folder}/{name}.jsonl" for name in names]
 
 
 def cut_list(folder):
     files = {}
-    for path in whole(folder):
-        name = os.path.basename(path)
+    names = dict(zip(whole(folder), WHOLE)) | dict(zip(whole(folder, [BINDERS]), ["binders"]))
+    for path, name in names.items():
         vectors = [vector for _, vector in read([path])]
-        numbers = cut.chosen(vectors, cut.WANTED[name.removesuffix(".jsonl")])
+        numbers = cut.chosen(vectors, cut.WANTED[name])
         with open(path, "rb") as lines:
             content = lines.readlines()
-        files[f"vectors/{name}"] = b"".join(content[number] for number in numbers)
-        print(f"cut: {len(numbers)} of {len(vectors)} vectors of {name}")
+        files[f"vectors/{name}.jsonl"] = b"".join(content[number] for number in numbers)
+        print(f"cut: {len(numbers)} of {len(vectors)} vectors of {os.path.basename(path)}")
     return List(files)
 
 
@@ -135,7 +136,7 @@ def main():
     }
     if not set(chosen.names) <= set(makers):
         options.error(f"the lists are {', '.join(makers)}")
-    missing = [path for path in whole(chosen.folder) if not os.path.exists(path)]
+    missing = [path for path in whole(chosen.folder, [*WHOLE, BINDERS]) if not os.path.exists(path)]
     equal = True
     for name in chosen.names or makers:
         if name in ("cut", "books") and missing:

@@ -7,21 +7,30 @@ vectors/by_hand.jsonl does.
 from cases.books import sections
 from cases.vectors import KIND, NUMBER_OF_PARSES, REFUSAL, WORK
 
-WANTED = {"open": None, "reading": 500, "damaged": 200, "deep": 100}
+WANTED = {"open": None, "reading": 500, "damaged": 200, "deep": 100, "binders": 150}
 NO_PARSE = 30
 CELL_SIZE = 3
+DECLARED = 9  # the form of a declared variable's cell
 
-# What there is to show, as document 01 numbers it.
+# What there is to show, as documents 01 and 02 number it.
 ALL = {
-    "refusal": [0, *range(1, 12), *range(20, 24), *range(30, 33)],
+    "refusal": [0, *range(1, 12), *range(20, 24), *range(30, 33), 41],
     "error kind": [*range(1, 13)],
-    "step kind": [*range(14)],
-    "step kind in a value's book": [*range(14)],
-    "mark": [*range(3)],
+    "step kind": [*range(15)],
+    "step kind in a value's book": [*range(15)],
+    "mark": [*range(4)],
     "associativity": [*range(4)],
     "flags": [*range(4)],
-    "form of a cell": [*range(1, 9)],
+    "form of a cell": [*range(1, 10)],
+    "depth of a declared variable": [0, 1, 2],
+    "index of a declared variable": [0, 1, 2],
 }
+
+
+def cells(vector):
+    """The cells that were made, three numbers each."""
+    numbers = (vector["cells"] or []) + [0] * (CELL_SIZE - 1)  # the zeros of the last one are cut
+    return [numbers[at : at + CELL_SIZE] for at in range(0, len(numbers) - CELL_SIZE + 1, CELL_SIZE)]
 
 
 def shown(vector):
@@ -30,7 +39,10 @@ def shown(vector):
     found = {("refusal", answer[REFUSAL]), ("number of parses", answer[NUMBER_OF_PARSES])}
     if answer[REFUSAL] == NO_PARSE:
         found.add(("error kind", answer[KIND]))
-    found |= {("form of a cell", form) for form in (vector["cells"] or [])[::CELL_SIZE] if form}
+    for form, depth, index in cells(vector):
+        found.add(("form of a cell", form))
+        if form == DECLARED:
+            found |= {("depth of a declared variable", depth), ("index of a declared variable", index)}
     if answer[WORK]:
         _, _, nonterminals, variants, steps = sections(bytes.fromhex(vector["book"]))
         found |= {("mark", record[0]) for record in nonterminals}
