@@ -158,13 +158,19 @@ fn step(random: &mut Random, book: &Book, of: usize) -> Step {
 
 /// A random book with words for kinds before its own, and with binders.
 pub fn with_binders(random: &mut Random) -> Book {
-    let mut book = if random.one_in(2) { book(random) } else { of_variables(random) };
+    let mut book = match random.below(4) {
+        0 => book(random),
+        1 => of_variables(random),
+        _ => of_terms(random),
+    };
     let kinds = if random.one_in(16) { random.below(10) } else { random.between(1, 3) };
     let word = |random: &mut Random| Entry { label: random.one_in(3) as u8, spelling: random.pick(SPELLINGS).into() };
     let words: Vec<Entry> = (0..kinds).map(|_| word(random)).collect();
     book.words.splice(0..0, words);
     book.words.truncate(MOST_ENTRIES);
-    for _ in 0..random.between(1, 3) {
+    // a book of terms has one already
+    let more = if book.nonterminals.iter().any(|n| n.mark == BINDER) { random.below(4) / 3 } else { random.between(1, 3) };
+    for _ in 0..more {
         if book.nonterminals.len() < MOST_NONTERMINALS {
             add_binder(random, &mut book);
         }
@@ -182,14 +188,46 @@ fn of_variables(random: &mut Random) -> Book {
     book
 }
 
+/// Nonterminal 0 is a variable, perhaps a number, or made of terms with operators; 1 is a binder of it. Where a variant begins with 1, that is left recursion through an absent
+/// opening.
+fn of_terms(random: &mut Random) -> Book {
+    const OPERATORS: &[u8] = b"-+*!";
+    let mut variants = vec![with_precedence(random, vec![[4, 0, 0, 0]])];
+    if random.one_in(2) {
+        variants.push(with_precedence(random, vec![[3, 0, 0, 0]]));
+    }
+    for _ in 0..random.between(1, 3) {
+        let operator = [0, random.byte(OPERATORS), 0, 0];
+        let steps = match random.below(8) {
+            0..=2 => vec![[8, 1, 0, 0], operator, [8, 1, 0, 0]],
+            3 => vec![[8, 0, 0, 0], operator, [8, 1, 0, 0]],
+            4 => vec![operator, [8, 1, 0, 0]],
+            5 => vec![[12, 1, b'(', b')']],
+            6 => vec![[9, 1, 0, 0], operator, [8, 0, 0, 0]],
+            _ => vec![[6, 0, 0, 0], [2, 0, 0, 0]],
+        };
+        variants.push(with_precedence(random, steps));
+    }
+    let mark = if random.one_in(4) { CLAIMS } else { PLAIN };
+    let nonterminals = vec![Nonterminal { mark, variants }, binder(random, 0)];
+    Book { words: vec![], names: entries(random, 3), nonterminals }
+}
+
+/// A binder of a nonterminal.
+fn binder(random: &mut Random, body: u8) -> Nonterminal {
+    let [open, close] = *random.pick(BINDER_CHARACTERS);
+    let variant = Variant { level: DEFAULT_LEVEL, associativity: BOTH, flags: COMMITTED, steps: vec![[14, body, open, close]] };
+    Nonterminal { mark: BINDER, variants: vec![variant] }
+}
+
 /// A further nonterminal, a binder of one of those before it, which mostly gets variants for what is declared. Some uses become uses of the binder.
 fn add_binder(random: &mut Random, book: &mut Book) {
-    let binder = book.nonterminals.len() as u8;
+    let added = book.nonterminals.len() as u8;
     let mut body = random.below(book.nonterminals.len());
     if book.nonterminals[body].mark == IDENTIFIER {
         body = random.below(book.nonterminals.len());
     }
-    for steps in [use_of_name(random), use_of_binder(random, binder)] {
+    for steps in [use_of_name(random), use_of_binder(random, added)] {
         if matches!(book.nonterminals[body].mark, PLAIN | CLAIMS) && !random.one_in(4) {
             let variant = with_precedence(random, steps);
             book.nonterminals[body].variants.push(variant);
@@ -197,12 +235,11 @@ fn add_binder(random: &mut Random, book: &mut Book) {
     }
     for step in book.nonterminals.iter_mut().flat_map(|n| &mut n.variants).flat_map(|v| &mut v.steps) {
         if step[0] >= 8 && random.one_in(4) {
-            step[1] = binder;
+            step[1] = added;
         }
     }
-    let [open, close] = *random.pick(BINDER_CHARACTERS);
-    let variant = Variant { level: DEFAULT_LEVEL, associativity: BOTH, flags: COMMITTED, steps: vec![[14, body as u8, open, close]] };
-    book.nonterminals.push(Nonterminal { mark: BINDER, variants: vec![variant] });
+    let binder = binder(random, body as u8);
+    book.nonterminals.push(binder);
 }
 
 /// Steps that read a declared name, or refuse one.

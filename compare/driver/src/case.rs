@@ -2,7 +2,7 @@
 use crate::reader::Reader;
 use crate::worker::{Without, Worker};
 use oracle::answer::Answer;
-use oracle::book::Book;
+use oracle::book::{Book, BINDER};
 
 #[derive(Clone, Debug, PartialEq)]
 pub struct Case {
@@ -22,6 +22,11 @@ impl Case {
         let text = String::from_utf8_lossy(&self.text);
         let mut words = text.split(|c: char| !c.is_ascii_alphanumeric() && c != '_');
         words.any(|word| is_name(word) && is_reserved(word))
+    }
+
+    /// Whether a book that the reader has accepted has a binder.
+    pub fn has_binder(&self) -> bool {
+        Book::of(&self.book).nonterminals.iter().any(|n| n.mark == BINDER)
     }
 }
 

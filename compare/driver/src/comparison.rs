@@ -5,6 +5,7 @@ use crate::reader::MOST_WORK;
 use crate::vectors::Vector;
 use crate::worker::{Without, Worker};
 use crate::{books, fixed, shrink, small, texts};
+use oracle::answer::Answer;
 use oracle::book::Book;
 use std::collections::BTreeMap;
 
@@ -64,6 +65,11 @@ pub struct Counts {
     without: BTreeMap<Without, usize>,
     step_kinds: BTreeMap<u8, usize>,
     reserved_names: BTreeMap<u32, usize>,
+    binders: BTreeMap<u32, usize>,
+    several_with_binders: BTreeMap<u32, usize>,
+    declared: BTreeMap<u32, usize>,
+    declared_further_out: BTreeMap<u32, usize>,
+    most_depth: u32,
     most_parses: usize,
 }
 
@@ -79,12 +85,26 @@ impl Counts {
                 for kind in kinds(&case.book) {
                     *self.step_kinds.entry(kind).or_default() += 1;
                 }
+                if case.has_binder() {
+                    self.count_binders(answer);
+                }
             }
             Verdict::Different { .. } => self.different += 1,
             Verdict::Limit(limit) => *self.limit.entry(*limit).or_default() += 1,
             Verdict::Refused(refusal) => *self.refused.entry(*refusal).or_default() += 1,
             Verdict::WithoutAnswer(why) => *self.without.entry(*why).or_default() += 1,
         }
+    }
+
+    /// An equal answer of a book with binders.
+    fn count_binders(&mut self, answer: &Answer) {
+        let count = |of: &mut BTreeMap<u32, usize>, fits: bool| *of.entry(answer.refusal).or_default() += usize::from(fits);
+        let depth = answer.declared_depths().max();
+        count(&mut self.binders, true);
+        count(&mut self.several_with_binders, answer.parses.len() > 1);
+        count(&mut self.declared, depth.is_some());
+        count(&mut self.declared_further_out, depth > Some(0));
+        self.most_depth = self.most_depth.max(depth.unwrap_or(0));
     }
 
     pub fn differ(&self) -> bool {
@@ -100,6 +120,11 @@ impl Counts {
         println!("book or text refused    {:>7}  {:?}", sum(&self.refused), self.refused);
         println!("of the equal ones, books with each step kind {:?}; at most {} parses", self.step_kinds, self.most_parses);
         println!("of the equal ones, a reserved name in the text {:>7}  by refusal {:?}", sum(&self.reserved_names), self.reserved_names);
+        println!("of the equal ones, a book with binders         {:>7}  by refusal {:?}", sum(&self.binders), self.binders);
+        println!("  several parses                               {:>7}  {:?}", sum(&self.several_with_binders), self.several_with_binders);
+        println!("  a declared variable in a parse               {:>7}  {:?}", sum(&self.declared), self.declared);
+        let outer = &self.declared_further_out;
+        println!("  one of an outer binder                       {:>7}  {outer:?}; the greatest depth is {}", sum(outer), self.most_depth);
     }
 }
 
@@ -148,16 +173,14 @@ fn show(what: &str, case: &Case) {
 }
 
 /// Books with binders: all short texts of some, and random cases.
-pub fn binders(sides: &mut Sides, seed: u64, random: u64) -> Counts {
-    let mut counts = Counts::default();
+pub fn binders(sides: &mut Sides, seed: u64, random: u64, counts: &mut Counts) {
     for exhaustive in fixed::BINDERS {
-        compare(sides, exhaustive.cases(), &mut counts);
+        compare(sides, exhaustive.cases(), counts);
     }
-    compare(sides, (0..random).map(|number| binder_case(seed, number)), &mut counts);
-    counts
+    compare(sides, (0..random).map(|number| binder_case(seed, number)), counts);
 }
 
-/// Rows, all short texts of some books and of all small ones, and random cases.
+/// Rows, all short texts of some books and of all small ones, and random cases; then those of books with binders.
 pub fn whole(sides: &mut Sides, seed: u64, random: u64) -> Counts {
     let mut counts = Counts::default();
     compare(sides, fixed::rows().into_iter().map(|row| row.case), &mut counts);
@@ -166,5 +189,6 @@ pub fn whole(sides: &mut Sides, seed: u64, random: u64) -> Counts {
     }
     compare(sides, small::cases(), &mut counts);
     compare(sides, (0..random).map(|number| random_case(seed, number)), &mut counts);
+    binders(sides, seed, random, &mut counts);
     counts
 }

@@ -17,8 +17,8 @@ mod worker;
 use case::{of_hexadecimal, Case, Sides};
 use worker::Worker;
 
-const USAGE: &str = "all SEED CASES        compares fixed cases and so many random ones
-binders SEED CASES     compares fixed cases and so many random ones of books with binders
+const USAGE: &str = "all SEED CASES        compares fixed cases and so many random ones, and as many of books with binders
+binders SEED CASES     compares those of books with binders alone
 case BOOK TEXT [START] compares one case; the book in hexadecimal
 vectors FILE..         compares the books and texts of files of vectors
 rust-vectors FILE..    compares the Rust alone with the answers of files of vectors
@@ -31,7 +31,7 @@ fn main() {
     match words[..] {
         ["worker"] => worker::work(),
         ["all", seed, cases] => all(seed.parse().expect("a number"), cases.parse().expect("a number")),
-        ["binders", seed, cases] => finish(comparison::binders(&mut Sides::new(), seed.parse().expect("a number"), cases.parse().expect("a number"))),
+        ["binders", seed, cases] => binders(seed.parse().expect("a number"), cases.parse().expect("a number")),
         ["list", seed, path] => list::write(&mut Sides::new(), seed.parse().expect("a number"), path),
         ["vectors", ref files @ ..] => vectors(files),
         ["rust-vectors", ref files @ ..] => rust_vectors(files),
@@ -49,6 +49,12 @@ fn all(seed: u64, cases: u64) {
     let mut sides = Sides::new();
     self_test::run(&mut sides);
     finish(comparison::whole(&mut sides, seed, cases));
+}
+
+fn binders(seed: u64, cases: u64) {
+    let mut counts = comparison::Counts::default();
+    comparison::binders(&mut Sides::new(), seed, cases, &mut counts);
+    finish(counts);
 }
 
 /// Of each vector its call alone.

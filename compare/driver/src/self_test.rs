@@ -11,6 +11,8 @@ pub fn run(sides: &mut Sides) {
     outlives_an_endless_case(sides);
     reads_beyond_ascii(sides);
     reads_longer_texts(sides);
+    declares_more_names(sides);
+    counts_read_openings(sides);
     println!("self-test passed");
 }
 
@@ -55,4 +57,22 @@ fn reads_longer_texts(sides: &mut Sides) {
     let text = format!("1{}", " ".repeat(4096));
     assert_eq!(sides.worker.answer(&fixed::example(0), text.as_bytes(), 0).expect("an answer").value, "(0 1)");
     assert_eq!(sides.reader.call(&fixed::example(0), text.as_bytes(), 0, MOST_WORK), 10);
+}
+
+/// And of declared names: the Rust has no limit of 64.
+fn declares_more_names(sides: &mut Sides) {
+    let book = of_hexadecimal("01 00 01 74 00 02 03 01 00 01 02 FF030101 FF030101 02 0E013C3E 04000000");
+    let text = |names| format!("<{}>a", vec!["t a"; names].join(","));
+    let value = |names| format!("(0 [{}] (1 $0.{}))", vec!["0"; names].join(" "), names - 1);
+    let case = |names| Case { book: book.clone(), text: text(names).into_bytes(), start: 0, allowance: MOST_WORK };
+    assert!(matches!(sides.judge(&case(64)), Verdict::Equal(answer) if answer.value == value(64)));
+    assert_eq!(sides.judge(&case(65)), Verdict::Limit(41));
+    assert_eq!(sides.worker.answer(&book, text(65).as_bytes(), 0).expect("an answer").value, value(65));
+}
+
+/// And of depths: a binder without its opening counts in the Rust, and is taken off its depth (`oracle::start_up` tests that), so both are equal.
+fn counts_read_openings(sides: &mut Sides) {
+    let book = of_hexadecimal("01 00 01 74 00 03 03 01 03 01 00 01 03 FF030101 FF030101 FF030101 03 0E013C3E 0E023C3E 04000000");
+    let case = Case { book, text: b"<t a>a".to_vec(), start: 0, allowance: MOST_WORK };
+    assert!(matches!(sides.judge(&case), Verdict::Equal(answer) if answer.value == "(0 [0] (1 - (2 $0.0)))"));
 }

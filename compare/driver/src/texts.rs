@@ -2,7 +2,7 @@
 use crate::books::{CHARACTERS, SPELLINGS};
 use crate::fixed::Long;
 use crate::random::Random;
-use oracle::book::{Book, Variant, IDENTIFIER};
+use oracle::book::{Book, Variant, BINDER, IDENTIFIER};
 
 const NUMBERS: &[&str] = &["0", "1", "2", "12", "007", "18446744073709551615", "18446744073709551616"];
 const GAPS: &[&str] = &[" ", "  ", "\n", "\t", "//\n", " // c\n ", "\x0b\x0c\r", "// 1 - //\n//\n"];
@@ -94,7 +94,7 @@ fn derived(random: &mut Random, book: &Book, start: usize) -> Vec<String> {
     derived.tokens
 }
 
-/// The tokens so far, and all names that were declared in them.
+/// The tokens so far, and names that were declared in them: those of open scopes, and some of ended ones.
 #[derive(Default)]
 struct Derived {
     tokens: Vec<String>,
@@ -121,9 +121,11 @@ fn use_of(random: &mut Random, book: &Book, n: usize, depth: usize, derived: &mu
             chosen = other;
         }
     }
-    if !derived.declared.is_empty() && random.one_in(2) {
-        let reads_variable = |v: &Variant| matches!(v.steps[..], [[4 | 5, ..]]);
-        chosen = nonterminal.variants.iter().position(reads_variable).unwrap_or(chosen);
+    if !derived.declared.is_empty() && !random.one_in(4) {
+        let inwards = depth > 1 && random.one_in(2);
+        let is_binder = |n: u8| book.nonterminals[n as usize].mark == BINDER;
+        let fits = |v: &Variant| if inwards { v.steps.iter().any(|s| s[0] >= 8 && is_binder(s[1])) } else { matches!(v.steps[..], [[4 | 5, ..]]) };
+        chosen = nonterminal.variants.iter().position(fits).unwrap_or(chosen);
     }
     if depth == 0 && uses(chosen) > 0 {
         return;
@@ -167,10 +169,16 @@ fn take(random: &mut Random, book: &Book, step: &[u8; 4], depth: usize, derived:
             }
         }
         14 => {
-            if !random.one_in(4) {
+            let outside = derived.declared.len();
+            // without an opening, what begins with a binder is left recursion; within one, depths are of weight
+            let often = if derived.declared.is_empty() { 2 } else { 4 };
+            if !random.one_in(often) {
                 opening(random, book, [b, c], derived);
             }
             child(random, derived);
+            if !random.one_in(8) {
+                derived.declared.truncate(outside);
+            }
         }
         _ => (),
     }
@@ -180,9 +188,9 @@ fn character(c: u8) -> String {
     (c as char).to_string()
 }
 
-/// A name, where some are declared mostly one of those: also behind its scope.
+/// A name, where some are declared mostly one of those.
 fn name(random: &mut Random, book: &Book, derived: &Derived) -> String {
-    if derived.declared.is_empty() || random.one_in(3) {
+    if derived.declared.is_empty() || random.one_in(8) {
         return spelling(random, book);
     }
     derived.declared[random.below(derived.declared.len())].clone()
@@ -199,7 +207,8 @@ fn opening(random: &mut Random, book: &Book, [open, close]: [u8; 2], derived: &m
     let mut tokens = vec![character(open)];
     for i in 0..count {
         let name = declared_name(random, book, often);
-        tokens.extend([kind_word(random, book, often), name.clone()]);
+        let gap = if random.one_in(often) { "" } else { random.pick(GAPS) };
+        tokens.push(kind_word(random, book, often) + gap + &name);
         derived.declared.push(name);
         if i + 1 < count || random.one_in(4) {
             tokens.push(",".into());

@@ -24,6 +24,12 @@ impl Answer {
         self
     }
 
+    /// The depths of the declared variables in the parses' values. No other part of a value has a full stop.
+    pub fn declared_depths(&self) -> impl Iterator<Item = u32> + '_ {
+        let variables = self.parses.iter().flat_map(|parse| parse.value.split('$').skip(1));
+        variables.filter_map(|variable| variable.split_once('.')).map(|(depth, _)| depth.parse().expect("a depth"))
+    }
+
     pub fn bytes(&self) -> Vec<u8> {
         let mut bytes = Vec::new();
         put_numbers(&mut bytes, &[self.refusal, self.place, self.parses.len() as u32]);

@@ -1,13 +1,15 @@
 //! A nonterminal of mark 3 as a binder of the Rust. Document 02 d.
-use crate::book::Book;
+use crate::book::{Book, BINDER};
 use crate::grammar::{self, mapped, Books, Nonterminal};
 use crate::term::{Binder, Term};
 use formality_core::binder::CoreBinder;
 use formality_core::cast_impl;
 use formality_core::fold::{CoreFold, SubstitutionFn};
 use formality_core::language::Language;
-use formality_core::parse::{skip_whitespace, Binding, CoreParse, ParseResult, Parser, Scope};
+use formality_core::parse::{skip_whitespace, Binding, CoreParse, ParseError, ParseResult, Parser, Scope};
 use formality_core::term::CoreTerm;
+use formality_core::Set;
+use std::collections::BTreeSet;
 use std::sync::Arc;
 
 /// What the Rust reads for nonterminal N.
@@ -43,6 +45,18 @@ pub fn parse_between<'t, const N: usize>(open: char, close: char, scope: &Scope<
             })
         })
     })
+}
+
+/// Whether the Rust's `CoreBinder::parse` and its body here give the same parses, or errors at the same places, if N is a binder with the language's
+/// characters. An error's message may name a variable, which is another one in each parse.
+pub fn agree<const N: usize>(book: &Book, scope: &Scope<Books>, text: &str) -> bool {
+    let (open, close) = (Books::BINDING_OPEN, Books::BINDING_CLOSE);
+    let nonterminal = &book.nonterminals[N];
+    if nonterminal.mark != BINDER || nonterminal.variants[0].steps[0][2..] != [open as u8, close as u8] {
+        return true;
+    }
+    let places = |errors: Set<ParseError<'_>>| errors.iter().map(|e| e.text.len()).collect::<BTreeSet<_>>();
+    Bound::<N>::parse(scope, text).map_err(places) == parse_between(open, close, scope, text).map_err(places)
 }
 
 /// The body of nonterminal N. The number in the type makes the `TypeId` of each nonterminal's binder its own, whatever its body.

@@ -1,5 +1,6 @@
 //! The Rust's answer to a book and a text.
 use crate::answer::{Answer, Parse};
+use crate::binder;
 use crate::book::Book;
 use crate::grammar::{self, with_nonterminal, Books, Nonterminal};
 use crate::value::Value;
@@ -27,6 +28,7 @@ pub fn answer(book: &Rc<Book>, text: &str, start: u32) -> Answer {
 fn parses<const N: usize>(book: &Book, text: &str) -> (u32, Vec<Parse>) {
     let scope = Scope::new(grammar::bindings(book));
     let place = |rest: &str| (text.len() - rest.len()) as u32;
+    assert!(binder::agree::<N>(book, &scope, text), "the body of `CoreBinder::parse` does what that does");
     match Nonterminal::<N>::parse(&scope, text) {
         Ok(parses) => {
             let parse = |p: SuccessfulParse<'_, Nonterminal<N>>| {

@@ -16,6 +16,7 @@ pub fn test() {
     binders();
     binder_bodies();
     binder_depths();
+    binder_openings();
 }
 
 fn variant(level: u8, associativity: u8, steps: &[[u8; 4]]) -> Variant {
@@ -126,15 +127,33 @@ fn binder_bodies() {
     }
 }
 
+/// So many binders, 0 of 1, 1 of 2 and so on, and the last one of a variable. A word is `t`, a name `a`.
+fn binders_of_variable(count: u8) -> Rc<Book> {
+    let [words, names] = ["t", "a"].map(|spelling| vec![Entry { label: 0, spelling: spelling.into() }]);
+    let variable = Nonterminal { mark: PLAIN, variants: vec![variant(DEFAULT_LEVEL, BOTH, &[[4, 0, 0, 0]])] };
+    let nonterminals = (1..=count).map(|body| binder(body, b'<', b'>')).chain([variable]).collect();
+    Rc::new(Book { words, names, nonterminals })
+}
+
 /// The Rust's depth counts a binder without its opening; document 02's, and so a value's, doesn't.
 fn binder_depths() {
-    let words = vec![Entry { label: 0, spelling: "t".into() }];
-    let variable = Nonterminal { mark: PLAIN, variants: vec![variant(DEFAULT_LEVEL, BOTH, &[[4, 0, 0, 0]])] };
-    let book = Rc::new(Book { words, names: vec![], nonterminals: vec![binder(1, b'<', b'>'), binder(2, b'<', b'>'), variable] });
+    let book = Rc::new(Book { names: vec![], ..(*binders_of_variable(2)).clone() });
     assert_eq!(crate::answer(&book, "<t a>a", 0).value, "(0 [0] (1 - (2 $0.0)))");
     let parses = grammar::parse(0, &Scope::new([]), "<t a>a").expect("a parse");
     let depths = parses.into_iter().flat_map(|parse| counted_depths(&parse.finish().0));
     assert_eq!(depths.collect::<Vec<_>>(), [1]);
+}
+
+/// The Rust's binder is the same for an empty opening and for none.
+fn binder_openings() {
+    let book = binders_of_variable(1);
+    assert_eq!(["<>a", "a"].map(|text| crate::answer(&book, text, 0).value), ["(0 [] (1 $a))", "(0 - (1 $a))"]);
+    let scope = Scope::new(grammar::bindings(&book));
+    let [opened, absent] = ["<>a", "a"].map(|text| {
+        let parses = Bound::<0>::parse(&scope, text).expect("a parse");
+        parses.into_iter().map(|parse| parse.finish().0).collect::<Vec<_>>()
+    });
+    assert_eq!((opened.len(), &opened), (1, &absent));
 }
 
 /// The depths of a term's declared variables as the Rust counts them.
