@@ -36,7 +36,7 @@ from cases.vectors import read, record
 ROOT = os.path.dirname(os.path.dirname(os.path.abspath(__file__)))
 VECTORS = "vectors/02/d"  # those of the last request here that changes an answer or a line
 WHOLE = ["open", "damaged", "reading", "deep"]  # in the order in which books.bin has their books
-BINDERS = "new"  # those of document 02 d alone
+CUT = {name: name for name in WHOLE} | {"binders": "new"}  # a file of the repository, and which it is a choice of
 
 # The content of a list's files by their paths; how many cases it has and which program counts them, None if none does;
 # and what it ought to show and doesn't.
@@ -50,8 +50,7 @@ def whole(folder, names=WHOLE):
 
 def cut_list(folder):
     files = {}
-    names = dict(zip(whole(folder), WHOLE)) | dict(zip(whole(folder, [BINDERS]), ["binders"]))
-    for path, name in names.items():
+    for name, path in zip(CUT, whole(folder, CUT.values())):
         vectors = [vector for _, vector in read([path])]
         numbers = cut.chosen(vectors, cut.WANTED[name])
         with open(path, "rb") as lines:
@@ -136,7 +135,7 @@ def main():
     }
     if not set(chosen.names) <= set(makers):
         options.error(f"the lists are {', '.join(makers)}")
-    missing = [path for path in whole(chosen.folder, [*WHOLE, BINDERS]) if not os.path.exists(path)]
+    missing = [path for path in whole(chosen.folder, CUT.values()) if not os.path.exists(path)]
     equal = True
     for name in chosen.names or makers:
         if name in ("cut", "books") and missing:
