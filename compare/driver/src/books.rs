@@ -163,9 +163,7 @@ pub fn with_binders(random: &mut Random) -> Book {
         1 => of_variables(random),
         _ => of_terms(random),
     };
-    let kinds = if random.one_in(16) { random.below(10) } else { random.between(1, 3) };
-    let word = |random: &mut Random| Entry { label: random.one_in(3) as u8, spelling: random.pick(SPELLINGS).into() };
-    let words: Vec<Entry> = (0..kinds).map(|_| word(random)).collect();
+    let words = kind_words(random);
     book.words.splice(0..0, words);
     book.words.truncate(MOST_ENTRIES);
     // a book of terms has one already
@@ -178,6 +176,17 @@ pub fn with_binders(random: &mut Random) -> Book {
     book
 }
 
+/// Words for kinds. In one book of sixteen there are nine different ones, of which the last is no kind's.
+fn kind_words(random: &mut Random) -> Vec<Entry> {
+    let entry = |is_reserved: bool, spelling: &str| Entry { label: is_reserved as u8, spelling: spelling.into() };
+    if random.one_in(16) {
+        let (before, after) = SPELLINGS.split_at(random.below(SPELLINGS.len()));
+        return after.iter().chain(before).map(|spelling| entry(random.one_in(16), spelling)).collect();
+    }
+    let count = if random.one_in(16) { random.below(10) } else { random.between(1, 3) };
+    (0..count).map(|_| entry(random.one_in(3), random.pick(SPELLINGS))).collect()
+}
+
 /// Nonterminal 0 is a variable or something else; 1 an identifier nonterminal.
 fn of_variables(random: &mut Random) -> Book {
     let mut book = Book { words: vec![], names: entries(random, 3), nonterminals: vec![] };
@@ -188,8 +197,8 @@ fn of_variables(random: &mut Random) -> Book {
     book
 }
 
-/// Nonterminal 0 is a variable, perhaps a number, or made of terms with operators; 1 is a binder of it. Where a variant begins with 1, that is left recursion through an absent
-/// opening.
+/// Nonterminal 0 is a variable, perhaps a number, or made of terms with operators; 1 is an identifier nonterminal, 2 a binder of 0. Where a variant begins
+/// with 2, that is left recursion through an absent opening.
 fn of_terms(random: &mut Random) -> Book {
     const OPERATORS: &[u8] = b"-+*!";
     let mut variants = vec![with_precedence(random, vec![[4, 0, 0, 0]])];
@@ -198,18 +207,19 @@ fn of_terms(random: &mut Random) -> Book {
     }
     for _ in 0..random.between(1, 3) {
         let operator = [0, random.byte(OPERATORS), 0, 0];
-        let steps = match random.below(8) {
-            0..=2 => vec![[8, 1, 0, 0], operator, [8, 1, 0, 0]],
-            3 => vec![[8, 0, 0, 0], operator, [8, 1, 0, 0]],
-            4 => vec![operator, [8, 1, 0, 0]],
-            5 => vec![[12, 1, b'(', b')']],
-            6 => vec![[9, 1, 0, 0], operator, [8, 0, 0, 0]],
+        let steps = match random.below(9) {
+            0..=2 => vec![[8, 2, 0, 0], operator, [8, 2, 0, 0]],
+            3 => vec![[8, 0, 0, 0], operator, [8, 2, 0, 0]],
+            4 => vec![operator, [8, 2, 0, 0]],
+            5 => vec![[12, 2, b'(', b')']],
+            6 => vec![[9, 2, 0, 0], operator, [8, 0, 0, 0]],
+            7 => vec![[8, 1, 0, 0]],
             _ => vec![[6, 0, 0, 0], [2, 0, 0, 0]],
         };
         variants.push(with_precedence(random, steps));
     }
-    let mark = if random.one_in(4) { CLAIMS } else { PLAIN };
-    let nonterminals = vec![Nonterminal { mark, variants }, binder(random, 0)];
+    let mark = if random.one_in(3) { CLAIMS } else { PLAIN };
+    let nonterminals = vec![Nonterminal { mark, variants }, Nonterminal { mark: IDENTIFIER, variants: vec![] }, binder(random, 0)];
     Book { words: vec![], names: entries(random, 3), nonterminals }
 }
 

@@ -220,9 +220,9 @@ fn opening(random: &mut Random, book: &Book, [open, close]: [u8; 2], derived: &m
     derived.tokens.push(joined(random, &tokens));
 }
 
-/// The word of a kind, but one time in so many any spelling.
+/// The word of a kind, or the ninth, which is none; but one time in so many any spelling.
 fn kind_word(random: &mut Random, book: &Book, often: usize) -> String {
-    let kinds = &book.words[..book.words.len().min(8)];
+    let kinds = &book.words[..book.words.len().min(9)];
     if kinds.is_empty() || random.one_in(often) {
         return spelling(random, book);
     }
