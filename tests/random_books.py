@@ -20,7 +20,7 @@ def _character(choose):
 
 
 def _step(choose, words, nonterminals):
-    kind = choose.randrange(14)
+    kind = choose.randrange(books.BINDER)
     if kind == books.CHARACTER:
         return books.Step(kind, _character(choose))
     if kind == books.WORD:
@@ -43,6 +43,23 @@ def _variant(choose, words, nonterminals, most_steps):
     return books.Variant(level, associativity, flags, tuple(_step(choose, words, nonterminals) for _ in range(steps)))
 
 
+def _binder(choose, nonterminals):
+    step = books.Step(books.BINDER, choose.randrange(nonterminals), _character(choose), _character(choose))
+    return books.Variant(books.DEFAULT_LEVEL, books.BOTH, books.COMMITTED, (step,))
+
+
+def _variants(choose, mark, most, words, nonterminals, most_steps):
+    if mark == books.IDENTIFIER_MARK:
+        return ()
+    if mark == books.BINDER_MARK:
+        return (_binder(choose, nonterminals),)
+    found = []
+    for _ in range(choose.randrange(most + 1)):
+        found.append(_variant(choose, words, nonterminals, most_steps))
+        most_steps -= len(found[-1].steps)
+    return tuple(found)
+
+
 def random_book(seed):
     """The records of a book; the same for the same seed."""
     choose = random.Random(seed)
@@ -51,12 +68,10 @@ def random_book(seed):
     count = choose.randint(1, 3 if small else 32)
     nonterminals, variants_left, steps_left = [], 128, 255
     for _ in range(count):
-        mark = choose.randrange(3)
-        variants = []
-        if mark != books.IDENTIFIER_MARK:
-            for _ in range(choose.randrange(min(4 if small else 16, variants_left) + 1)):
-                variants.append(_variant(choose, len(words), count, steps_left))
-                variants_left -= 1
-                steps_left -= len(variants[-1].steps)
-        nonterminals.append(books.Nonterminal(mark, tuple(variants)))
+        mark = choose.randrange(4 if variants_left and steps_left else 3)
+        most = min(4 if small else 16, variants_left)
+        variants = _variants(choose, mark, most, len(words), count, steps_left)
+        variants_left -= len(variants)
+        steps_left -= sum(len(variant.steps) for variant in variants)
+        nonterminals.append(books.Nonterminal(mark, variants))
     return books.Book(words, names, tuple(nonterminals))

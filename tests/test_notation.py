@@ -11,6 +11,8 @@ from random_books import random_book
 from vectors import ROOT, accepted_books
 
 RANDOM_BOOKS = 1000
+BINDER_LINE = "  | ('[' names,* ']')? e\n"
+BINDER = f"e (declares names)\n{BINDER_LINE}".rstrip()
 
 
 class RoundTrips(unittest.TestCase):
@@ -41,7 +43,7 @@ class RoundTrips(unittest.TestCase):
             marks |= {nonterminal.mark for nonterminal in book.nonterminals}
             flags |= {(v.flags, v.associativity) for v in book.variants}
             kinds |= {step.kind for variant in book.variants for step in variant.steps}
-        self.assertEqual((kinds, marks, len(flags)), (set(range(14)), {0, 1, 2}, 16))
+        self.assertEqual((kinds, marks, len(flags)), (set(range(15)), {0, 1, 2, 3}, 16))
 
     def test_the_example(self):
         with open(f"{ROOT}/examples/rules.grammar", encoding="utf-8") as file:
@@ -73,8 +75,19 @@ PROBLEMS = [
     ("e\n  number\n", 2, 3, "a | is missing before it"),
     ("e\n  e '-' e\n", 2, 3, "a | is missing before it"),
     ("e\ne\n", 2, 1, "there is a nonterminal e already"),
-    ("e (identifyer)\n", 1, 3, "(claims variables) or (identifier)"),
-    ("e (identifier\n", 1, 3, "(claims variables) or (identifier)"),
+    ("e (identifyer)\n", 1, 3, "(claims variables), (identifier) or (declares names)"),
+    ("e (identifier\n", 1, 3, "(claims variables), (identifier) or (declares names)"),
+    ("e (declares)\n", 1, 3, "(claims variables), (identifier) or (declares names)"),
+    ("e (declares names)\n  | ('[' names,* ']') e\n", 2, 21, "a ? stands behind declared names"),
+    ("e (declares names)\n  | ('[' names,* ']')?\n", 2, 23, "('[' names,* ']')? amount"),
+    ("e (declares names)\n  | ('[' names,* ']')? number\n", 2, 24, "a nonterminal: ('[' names,* ']')? amount"),
+    ("e (declares names)\n  | ('[' names,* ']')? e*\n", 2, 25, "for one nonterminal"),
+    ("e (declares names)\n  | ('[' names,* ']')? e+\n", 2, 25, "e e*"),
+    ("e (declares names)\n  | ('[' names,* ']')? f\n", 2, 24, "f is no nonterminal"),
+    ("e (declares names)\n  | ('[' names ']')? e\n", 2, 5, "('[' names,* ']')? amount"),
+    ("e (declares names)\n  | '[' names,* ']' e\n", 2, 9, "('[' names,* ']')? amount"),
+    ("e (declares names)\n  | ('[' name,* ']')? e\n", 2, 10, "('[' names,* ']')? amount"),
+    ("e (declares names)\n  | ('[' names,* 'é')? e\n", 2, 18, "one of ASCII"),
     ("e\nwords a\n", 2, 1, "words stand before the first nonterminal"),
     ("names x\ne\n", 1, 7, "x:0"),
     ("names x:a\ne\n", 1, 9, "is a number"),
@@ -171,8 +184,46 @@ REFUSED = [
     ("e\n  | variable:8\n", 6, 2, 14, "a kind is 0 to 7"),
     ("e\n  | number ; passing\n", 7, 2, 14, "one nonterminal and nothing else"),
     ("e\n  | e e ; uncommitted passing\n", 7, 2, 23, "one nonterminal and nothing else"),
+    ("e\n  | e e ; passing uncommitted\n", 7, 2, 11, "one nonterminal and nothing else"),
+    # each place of document 02 d
+    ("e (declares names)\n", 6, 1, 1, "has one variant, of one step: ('[' names,* ']')? amount"),
+    (f"{BINDER}\n{BINDER_LINE}", 6, 3, 3, "has one variant, of one step"),
+    (f"{BINDER}\n  | number\n", 6, 3, 3, "has one variant, of one step"),
+    (f"{BINDER} ; left 1\n", 6, 2, 33, "has no level"),
+    (f"{BINDER} ; both 254\n", 6, 2, 33, "has no level"),
+    (f"{BINDER} ; left 255\n", 6, 2, 28, "has no level"),
+    (f"{BINDER} ; passing\n", 6, 2, 28, "neither passing nor uncommitted"),
+    (f"{BINDER} ; uncommitted\n", 6, 2, 28, "neither passing nor uncommitted"),
+    (f"{BINDER} '.'\n", 6, 2, 26, "has one variant, of one step"),
+    (f"{BINDER} '.' '.'\n", 6, 2, 26, "has one variant, of one step"),
+    ("e (declares names)\n  | empty\n", 6, 2, 3, "has one variant, of one step"),
+    ("e (declares names)\n  | e\n", 6, 2, 5, "has one variant, of one step"),
+    ("e (declares names)\n  | ('[' e,* ']')? ; passing\n", 6, 2, 22, "neither passing nor uncommitted"),
+    (f"e\n{BINDER_LINE}", 6, 2, 5, "names are declared by a nonterminal of its own"),
+    (f"e (claims variables)\n  | number\n{BINDER_LINE}", 6, 3, 5, "names are declared by a nonterminal of its own"),
+    ("e (declares names)\n  | (' ' names,* ']')? e\n", 6, 2, 6, "33 to 126"),
+    ("e (declares names)\n  | ('[' names,* '\x7f')? e\n", 6, 2, 18, "33 to 126"),
 ]
 
+
+# A byte of a binder's book, another one, and a part of what is said of it.
+BINDER_BYTES = [
+    (6, 4, "the mark of nonterminal 0 is 4: it has to be 0 to 3"),
+    (7, 0, "the number of variants of nonterminal 0 is 0: it has to be 0 to 16, and 0 with mark 2, 1 with mark 3"),
+    (7, 2, "the number of variants of nonterminal 0 is 2"),
+    (11, 254, "the level of variant 0 is 254: in a nonterminal of mark 3 it has to be 255"),
+    (12, 2, "the associativity of variant 0 is 2: in a nonterminal of mark 3 it has to be 3"),
+    (13, 3, "the byte of flags of variant 0 is 3: in a nonterminal of mark 3 it has to be 1"),
+    (13, 0, "the byte of flags of variant 0 is 0: in a nonterminal of mark 3 it has to be 1"),
+    (14, 0, "the number of steps of variant 0 is 0: in a nonterminal of mark 3 it has to be 1"),
+    (16, 0, "level 255 goes with both alone, and variant 1 has left with it"),
+    (20, 13, "the kind of step 0 is 13: in a nonterminal of mark 3 it has to be 14"),
+    (20, 15, "the kind of step 0 is 15: in a nonterminal of mark 3 it has to be 14"),
+    (21, 2, "byte a of step 0 is 2: nonterminals are numbered from 0, and the book has 2"),
+    (22, 32, "byte b of step 0 is 32: a character is one of 33 to 126"),
+    (23, 127, "byte c of step 0 is 127: a character is one of 33 to 126"),
+    (24, 14, "the kind of step 1 is 14: it has to be 0 to 13, and 14 with mark 3"),
+]
 
 # A book that is accepted, and a part of a note on it.
 NOTES = [
@@ -268,6 +319,17 @@ class Problems(unittest.TestCase):
                 self.assertEqual(refusal, number)
                 self.assertTrue(said.startswith(f"book:{line}:{column}: "), said)
                 self.assertIn(part, said)
+
+    def test_a_binder_in_bytes(self):
+        """Each byte that document 02 d fixes, with another: the place, and what is said of it."""
+        plain = bytes.fromhex("010001740002 0301 0001 02 ff030101 ff030101 02 0e015b5d 04000000")
+        self.assertIsNone(check(plain))
+        for place, byte, part in BINDER_BYTES:
+            data = bytearray(plain)
+            data[place] = byte
+            refusal, at = check(bytes(data))
+            self.assertEqual((refusal, at), (6, place))
+            self.assertIn(part, explained(refusal, at, view(bytes(data)), "book"))
 
 
 if __name__ == "__main__":

@@ -18,7 +18,7 @@ class Associativity(IntEnum):
 LEFT, RIGHT, NONE, BOTH = Associativity
 ASSOCIATIVITIES = tuple(each.name.lower() for each in Associativity)
 
-PLAIN, CLAIMING, IDENTIFIER_MARK = range(3)
+PLAIN, CLAIMING, IDENTIFIER_MARK, BINDER_MARK = range(4)
 
 COMMITTED, PASSING = 1, 2  # the flags of a variant
 DEFAULT_LEVEL = 255
@@ -30,9 +30,10 @@ LAST_KIND = 7
 
 # the kinds of steps
 CHARACTER, WORD, IDENTIFIER, NUMBER, VARIABLE, VARIABLE_OF_KIND, NO_VARIABLE, NO_RESERVED = range(8)
-NONTERMINAL, OPTIONAL, MANY, COMMA_LIST, DELIMITED, OPTIONAL_DELIMITED = range(8, 14)
+NONTERMINAL, OPTIONAL, MANY, COMMA_LIST, DELIMITED, OPTIONAL_DELIMITED, BINDER = range(8, 15)
 LISTS = (MANY, COMMA_LIST, DELIMITED, OPTIONAL_DELIMITED)
-TAKES_NONTERMINAL = (NONTERMINAL, OPTIONAL, *LISTS)
+TAKES_NONTERMINAL = (NONTERMINAL, OPTIONAL, *LISTS, BINDER)
+BETWEEN_CHARACTERS = (DELIMITED, OPTIONAL_DELIMITED, BINDER)
 
 
 @dataclass(frozen=True)
@@ -88,6 +89,17 @@ class Book:
         """The number of the nonterminal that has the variant of this number."""
         owners = [i for i, nonterminal in enumerate(self.nonterminals) for _ in nonterminal.variants]
         return owners[variant]
+
+    @property
+    def declares(self):
+        """Whether a rule may declare names."""
+        return any(nonterminal.mark == BINDER_MARK for nonterminal in self.nonterminals)
+
+    @property
+    def kind_words(self):
+        """The words that stand before a declared name, with the kinds that they mean: of equal words the least."""
+        first = list(enumerate(word.spelling for word in self.words[: LAST_KIND + 1]))
+        return {spelling: kind for kind, spelling in reversed(first)}
 
 
 @dataclass(frozen=True)

@@ -21,7 +21,7 @@ def _said(view, section, number, row):
         label = f"kind {entry.label}" if section == "name" else "reserved" if entry.label else "not reserved"
         return f"{section} {number}: {entry.spelling}, {label}"
     if section == "nonterminal":
-        mark = ("", ", claims variables", ", an identifier")[row[0]]
+        mark = ("", ", claims variables", ", an identifier", ", declares names")[row[0]]
         return f"nonterminal {number}: {view.names[number]}{mark}, {row[1]} variant{'s' * (row[1] != 1)}"
     if section == "variant":
         variant = view.book.variants[number]

@@ -1,6 +1,6 @@
 """Why the reader's check refuses a book (3 to 8), in words: which field, what it is, what it may be."""
 from . import book as books
-from .notation import is_text
+from .notation import BINDER_EXAMPLE, is_text
 from .notation_tokens import shown
 from .refusal import Refusal
 
@@ -15,13 +15,16 @@ FIELDS = {
     ("name", "kind"): ("the kind of name {n}", "0 to 7"),
     ("name", "length"): ("the length of name {n}", "1 to 15"),
     ("name", "spelling"): ("the spelling of name {n}", ""),
-    ("nonterminal", "mark"): ("the mark of nonterminal {n}", "0, 1 or 2"),
-    ("nonterminal", "variants"): ("the number of variants of nonterminal {n}", "0 to 16, and 0 with mark 2"),
+    ("nonterminal", "mark"): ("the mark of nonterminal {n}", "0 to 3"),
+    ("nonterminal", "variants"): (
+        "the number of variants of nonterminal {n}",
+        "0 to 16, and 0 with mark 2, 1 with mark 3",
+    ),
     ("variant", "level"): ("the level of variant {n}", "0 to 255"),
     ("variant", "associativity"): ("the associativity of variant {n}", "0 to 3"),
     ("variant", "flags"): ("the byte of flags of variant {n}", "0 to 3"),
     ("variant", "steps"): ("the number of steps of variant {n}", "0 to 8"),
-    ("step", "kind"): ("the kind of step {n}", "0 to 13"),
+    ("step", "kind"): ("the kind of step {n}", "0 to 13, and 14 with mark 3"),
     ("step", "a"): ("byte a of step {n}", ""),
     ("step", "b"): ("byte b of step {n}", ""),
     ("step", "c"): ("byte c of step {n}", ""),
@@ -31,6 +34,9 @@ COUNTS = {
     "name": f"0 to {books.MOST_NAMES}",
     "nonterminal": f"1 to {books.MOST_NONTERMINALS}",
 }
+# What a nonterminal of mark 3 has: its variant's bytes, and its step's kind.
+OF_BINDER = {"level": books.DEFAULT_LEVEL, "associativity": books.BOTH, "flags": books.COMMITTED, "steps": 1}
+OF_BINDER |= {"kind": books.BINDER}
 
 
 def _called(field):
@@ -39,16 +45,33 @@ def _called(field):
     return FIELDS[field.section, field.name][0].format(n=field.record)
 
 
-def _sum(data, section, name):
-    """What the records of a section have of something in all."""
-    return sum(field.value or 0 for field in books.fields(data) if (field.section, field.name) == (section, name))
+def _values(data, section, name):
+    """A field of all records of a section, as far as the book goes."""
+    return [field.value or 0 for field in books.fields(data) if (field.section, field.name) == (section, name)]
+
+
+def _owner(counts, record):
+    """The number of the record that has this one, by how many each has."""
+    return [number for number, count in enumerate(counts) for _ in range(count)][record]
+
+
+def _is_of_binder(data, field):
+    """Whether a field belongs to a nonterminal of mark 3, to its variants or to their steps."""
+    if field.section not in ("nonterminal", "variant", "step"):
+        return False
+    record = field.record
+    if field.section == "step":
+        record = _owner(_values(data, "variant", "steps"), record)
+    if field.section != "nonterminal":
+        record = _owner(_values(data, "nonterminal", "variants"), record)
+    return _values(data, "nonterminal", "mark")[record] == books.BINDER_MARK
 
 
 def _count(data, field):
     if field.section in COUNTS:
         return f"it has to be {COUNTS[field.section]}"
     above = "nonterminal" if field.section == "variant" else "variant"
-    total = _sum(data, above, f"{field.section}s")
+    total = sum(_values(data, above, f"{field.section}s"))
     most = books.MOST_VARIANTS if field.section == "variant" else books.MOST_STEPS
     if total > most:
         return f"the {above}s have {total} {field.section}s in all, and {most} are the most"
@@ -59,8 +82,7 @@ def _step(data, field):
     """What byte a, b or c of a step has to be, by the step's kind."""
     kind = next(f.value for f in books.fields(data) if (f.section, f.record, f.name) == ("step", field.record, "kind"))
     counts = {f.section: f.value for f in books.fields(data) if f.record is None}
-    delimited = kind in (books.DELIMITED, books.OPTIONAL_DELIMITED)
-    if field.name == "a" and kind == books.CHARACTER or field.name != "a" and delimited:
+    if field.name == "a" and kind == books.CHARACTER or field.name != "a" and kind in books.BETWEEN_CHARACTERS:
         return CHARACTERS
     if field.name == "a" and kind == books.VARIABLE_OF_KIND:
         return KINDS
@@ -93,12 +115,23 @@ def reason(refusal, place, data):
         return f"{said}: {_count(data, field)}"
     if refusal == Refusal.BAD_SPELLING:
         return f"{field.section} {field.record}: {_spelling(data, field)}"
+    if field.name in OF_BINDER and _is_of_binder(data, field):
+        return f"{said}: in a nonterminal of mark 3 it has to be {OF_BINDER[field.name]}"
     if field.name == "associativity" and field.value <= books.BOTH:
         associativity = books.ASSOCIATIVITIES[field.value]
         return f"level 255 goes with both alone, and variant {field.record} has {associativity} with it"
     if field.section == "step" and field.name != "kind":
         return f"{said}: {_step(data, field)}"
     return f"{said}: it has to be {FIELDS[field.section, field.name][1]}"
+
+
+def _of_binder(field):
+    """What is wrong in a nonterminal that declares names, in the terms of the notation."""
+    if field.name in ("level", "associativity"):
+        return "a nonterminal that (declares names) has no level"
+    if field.name == "flags":
+        return "a nonterminal that (declares names) is neither passing nor uncommitted"
+    return f"a nonterminal that (declares names) has one variant, of one step: {BINDER_EXAMPLE}"
 
 
 def in_notation(refusal, field, view):
@@ -109,6 +142,8 @@ def in_notation(refusal, field, view):
         return _spelling(view.data, field)
     if refusal == Refusal.BAD_PASSING:
         return "a passing variant is one nonterminal and nothing else"
+    if field.name in (*OF_BINDER, "variants") and _is_of_binder(view.data, field):
+        return _of_binder(field)
     if field.name == "associativity":
         return "255 is the level of variants that are no operators; an operator's is at most 254"
     if field.name == "variants":
@@ -116,6 +151,8 @@ def in_notation(refusal, field, view):
         return plain if field.value > books.VARIANTS_EACH else "a nonterminal that is (identifier) has no variants"
     if field.name == "steps":
         return f"a variant has at most {books.STEPS_EACH} steps"
+    if field.section == "step" and field.name == "kind":
+        return "names are declared by a nonterminal of its own, with (declares names) behind its name"
     return KINDS if field.name == "kind" else _step(view.data, field)
 
 

@@ -11,7 +11,7 @@
 from . import book as books
 
 # What a nonterminal's mark is called, by its number; a further mark has its name here.
-MARKS = ("", "claims variables", "identifier")
+MARKS = ("", "claims variables", "identifier", "declares names")
 
 # The steps that have a name and no argument.
 PLAIN_STEPS = {
@@ -24,6 +24,8 @@ PLAIN_STEPS = {
 SUFFIXES = {books.NONTERMINAL: "", books.OPTIONAL: "?", books.MANY: "*", books.COMMA_LIST: ",*"}
 EMPTY = "empty"
 ENTRIES = ("words", "reserved", "names")
+DECLARED = "names"  # between the two characters of a binder
+BINDER_EXAMPLE = f"('[' {DECLARED},* ']')? amount"
 NOT_FOR_NONTERMINALS = {*ENTRIES, EMPTY, *(name for name in PLAIN_STEPS.values() if name.isalpha())}
 
 
@@ -47,7 +49,9 @@ def step_text(step, words, names):
         return f"variable:{a}"
     if kind in SUFFIXES:
         return names[a] + SUFFIXES[kind]
-    return f"('{chr(step.b)}' {names[a]},* '{chr(step.c)}')" + ("?" if kind == books.OPTIONAL_DELIMITED else "")
+    element = DECLARED if kind == books.BINDER else names[a]
+    delimited = f"('{chr(step.b)}' {element},* '{chr(step.c)}')"
+    return delimited + {books.DELIMITED: "", books.OPTIONAL_DELIMITED: "?", books.BINDER: f"? {names[a]}"}[kind]
 
 
 def variant_text(variant, words, names):
@@ -105,6 +109,6 @@ def to_text(book, names=None, labels=()):
 
 
 def is_text(data):
-    """Whether bytes are text rather than a book in bytes: each accepted book has a mark, 0 to 2, and no text has such a
+    """Whether bytes are text rather than a book in bytes: each accepted book has a mark, 0 to 3, and no text has such a
     byte."""
     return all(byte >= 32 or byte in b"\t\n\r" for byte in data)

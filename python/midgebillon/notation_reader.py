@@ -20,6 +20,7 @@ MOST = {
     "variant": books.MOST_VARIANTS,
     "step": books.MOST_STEPS,
 }
+MOST_VARIANTS = {books.IDENTIFIER_MARK: 0, books.BINDER_MARK: 1}  # of a nonterminal, by its mark
 
 
 class _Reader:
@@ -141,12 +142,13 @@ class _Reader:
         while line.next() is not None and not line.is_next(")"):
             words.append(line.take().text)
         if not line.take_if(")") or line.next() is not None or " ".join(words) not in MARKS[1:]:
-            marks = " or ".join(f"({mark})" for mark in MARKS[1:])
-            raise Wrong(Span(start.start, line.end.start), f"behind a nonterminal's name may stand {marks}")
+            *marks, last = (f"({mark})" for mark in MARKS[1:])
+            message = f"behind a nonterminal's name may stand {', '.join(marks)} or {last}"
+            raise Wrong(Span(start.start, line.end.start), message)
         return MARKS.index(" ".join(words))
 
     # -- variants
-    def _variant(self, number, line, steps_before):
+    def _variant(self, number, line, steps_before, mark):
         """A variant, and the spans of its bytes and of its steps' bytes."""
         line.take()
         reader = Steps(self.words, self.names, [name for name, _, _ in self.headers], self.problems)
@@ -161,7 +163,8 @@ class _Reader:
         if len(steps) > LARGEST_BYTE:
             raise Wrong(steps[LARGEST_BYTE][1][0], f"a variant has no more than {books.STEPS_EACH} steps")
         (level, associativity, flags), spans = attributes_of(line)
-        last = steps[min(books.STEPS_EACH, len(steps) - 1)][1][0] if steps else spans[0]
+        most = 1 if mark == books.BINDER_MARK else books.STEPS_EACH
+        last = steps[min(most, len(steps) - 1)][1][0] if steps else spans[0]
         for name, span in zip(("level", "associativity", "flags", "steps"), (*spans, last)):
             self.spans["variant", number, name] = span
         for i, (_, bytes_of) in enumerate(steps):
@@ -173,7 +176,7 @@ class _Reader:
         """The book. NotationError where there is a problem."""
         groups, number, steps, step_lines = [[] for _ in self.headers], 0, 0, []
         for owner, line, comment in self.lines:
-            variant = self._guarded(self._variant, number, line, steps)
+            variant = self._guarded(self._variant, number, line, steps, self.headers[owner][1])
             if variant is None:
                 continue
             self.labels.append(comment)
@@ -184,7 +187,7 @@ class _Reader:
         self._count("variant", [span for group in groups for _, span in group])
         self._count("step", step_lines)
         for i, group in enumerate(groups):
-            beyond = 0 if self.headers[i][1] == books.IDENTIFIER_MARK else books.VARIANTS_EACH
+            beyond = MOST_VARIANTS.get(self.headers[i][1], books.VARIANTS_EACH)
             if len(group) > beyond:
                 self.spans["nonterminal", i, "variants"] = group[beyond][1]
             if len(group) > LARGEST_BYTE:

@@ -2,7 +2,7 @@
 import re
 
 from . import book as books
-from .notation import ENTRIES, NOT_FOR_NONTERMINALS, PLAIN_STEPS, SUFFIXES
+from .notation import BINDER_EXAMPLE, DECLARED, ENTRIES, NOT_FOR_NONTERMINALS, PLAIN_STEPS, SUFFIXES
 from .notation_tokens import Problem, Span, Token, Wrong, near
 
 IDENTIFIER = re.compile(r"[A-Za-z_][A-Za-z0-9_]*")
@@ -115,6 +115,7 @@ class Steps:
                 message = f"{token.text} is a starting name: write variable, or variable:{kind} for those of its kind"
             elif token.text in ("name", "names"):
                 message = "a starting name is taken by variable, or variable:1 for those of kind 1; any by identifier"
+                message += f"; names that a rule declares are written {BINDER_EXAMPLE}"
             return self._wrong(token.span, message)
         return self.names.index(token.text)
 
@@ -137,11 +138,33 @@ class Steps:
             "character", "name", ",*", "character", ")",
         ]:
             message = "parentheses hold a list between two characters, as ('[' amount,* ']')"
-            raise Wrong(token.span, f"{message}; any other group has a nonterminal of its own")
-        opening, name, _, closing, _ = parts
+            declared = any(part and part.text == DECLARED for part in parts)
+            other = f"names that a rule declares are written {BINDER_EXAMPLE}"
+            raise Wrong(token.span, other if declared else f"{message}; any other group has a nonterminal of its own")
+        opening, name, _, closing, end = parts
+        codes, spans = [self._code(opening), self._code(closing)], [opening.span, closing.span]
+        if name.text == DECLARED:
+            body = self._body(line, end)
+            whole = Span(token.span.start, body.span.end)
+            return books.Step(books.BINDER, self._nonterminal(body), *codes), [whole, body.span, *spans]
         kind = books.OPTIONAL_DELIMITED if line.take_if("?") else books.DELIMITED
-        step = books.Step(kind, self._nonterminal(name), self._code(opening), self._code(closing))
-        return step, [token.span, name.span, opening.span, closing.span]
+        return books.Step(kind, self._nonterminal(name), *codes), [token.span, name.span, *spans]
+
+    def _body(self, line, end):
+        """The name of the nonterminal that stands behind declared names, which end with this token."""
+        if not line.take_if("?"):
+            message = f"a ? stands behind declared names, since a rule may leave them out: {BINDER_EXAMPLE}"
+            raise Wrong(end.span, message)
+        body = line.next()
+        if body is None or body.sort != "name" or body.text in NOT_FOR_NONTERMINALS:
+            message = f"behind declared names stands what they are declared for, a nonterminal: {BINDER_EXAMPLE}"
+            raise Wrong(line.here(), message)
+        line.take()
+        at = line.here()
+        if self._suffix(body, line) != books.NONTERMINAL:
+            message = "declared names are for one nonterminal; a list or an optional has a nonterminal of its own"
+            raise Wrong(at, message)
+        return body
 
     @staticmethod
     def _no_step(token):
@@ -203,6 +226,8 @@ def attributes_of(line):
             flags, spans[2] = flags + books.PASSING, token.span
         elif token.text == "uncommitted" and flags & books.COMMITTED:
             flags -= books.COMMITTED
+            if not flags & books.PASSING:  # of both, passing is what refusal 7 is about
+                spans[2] = token.span
         else:
             raise Wrong(token.span, _no_attribute(token))
     return (books.DEFAULT_LEVEL if level is None else level, associativity, flags), spans
