@@ -47,6 +47,21 @@ unit
 field (identifier)
 """
 
+BLEND = """words share price
+reserved if
+names spot:1
+
+rule (declares names)
+  | ('[' names,* ']')? amount
+
+amount
+  | number
+  | variable
+  | amount '*' amount  ; left 2
+  | '(' rule ')'
+"""
+SHARE = "words share price\nnames spot:0\nrule (declares names)\n  | ('[' names,* ']')? sum\nsum\n  | '=' variable:0\n"
+TWO_SUMS = BLEND.replace("left 2", "both 2")
 EMPTY = "e\n  | part*\n\npart\n  | empty\n  | number\n"
 NESTED = "e\n  | '[' part ']'\n\npart\n  | number ',' part\n  | number\n"
 IDENTIFIER_OR_KIND = "identifier\n  | number variable:3"  # one step, and then another variant
@@ -63,6 +78,11 @@ def step_book(step):
 def reserved_name(step):
     """The same with `x` reserved, too."""
     return step_book(step).replace("reserved if", "reserved if x")
+
+
+def declared(names, part):
+    """A part of a rule with so many declared names."""
+    return f"[{', '.join(f'share x{i}' for i in range(names))}] {part}"
 
 
 def both(text):
@@ -91,7 +111,11 @@ CASES = [
     ("6: a level that needs both", ARITHMETIC.replace("left 2", "left 255"), "1", 0, MOST_WORK),
     ("6: a character in bytes", bytes_of(ARITHMETIC, 32, 32), "1", 0, MOST_WORK),
     ("6: a nonterminal that isn't there", bytes_of(ARITHMETIC, 28, 7), "1", 0, MOST_WORK),
-    ("6: a kind of step that isn't there", bytes_of(ARITHMETIC, 23, 14), "1", 0, MOST_WORK),
+    ("6: a kind of step that isn't there", bytes_of(ARITHMETIC, 23, 15), "1", 0, MOST_WORK),
+    ("6: a kind of step that declares names elsewhere", bytes_of(ARITHMETIC, 23, 14), "1", 0, MOST_WORK),
+    ("6: names that are declared elsewhere", BLEND.replace(" (declares names)", ""), "1", 0, MOST_WORK),
+    ("6: more than declared names", BLEND.replace("? amount", "? amount '.'"), "1", 0, MOST_WORK),
+    ("6: a variant beside declared names", BLEND.replace("\n\namount", "\n  | number\n\namount"), "1", 0, MOST_WORK),
     ("6: a byte that isn't used", bytes_of(ARITHMETIC, 24, 1), "1", 0, MOST_WORK),
     ("7: a passing variant", ARITHMETIC.replace("| number", "| number ; passing"), "1", 0, MOST_WORK),
     ("8: bytes left over", EXAMPLE + b"\0\0", "1", 0, MOST_WORK),
@@ -110,6 +134,8 @@ CASES = [
     ("22: operators without a level", ARITHMETIC.replace("  ; left 1", ""), "-".join("12345678"), 0, MOST_WORK),
     ("22: an element that may be empty", EMPTY, "1", 0, MOST_WORK),
     ("23: a long list of numbers within one another", NESTED, f"[{','.join(map(str, range(63)))}]", 0, MOST_WORK),
+    ("41: many declared names", BLEND, declared(65, "1"), 0, MOST_WORK),
+    ("41: declared names within others", BLEND, declared(40, f"2 * ({declared(25, '1')})"), 0, MOST_WORK),
     ("30, 1: a character", ARITHMETIC, "(1", 0, MOST_WORK),
     ("30, 1: behind a tab, and blank lines at the end", ARITHMETIC, "\t(1 // one\n\n", 0, MOST_WORK),
     ("30, 1: the minus goes on, and its operand is wrong", ARITHMETIC, "(1 - x) * 2", 0, MOST_WORK),
@@ -131,6 +157,19 @@ CASES = [
     ("30, 11: an empty rule", ARITHMETIC, "", 0, MOST_WORK),
     ("30, 11: a number that is too large for an expression", ARITHMETIC, "(18446744073709551616", 0, MOST_WORK),
     ("30, 12: more of a list", step_book("('(' item,* ')')"), "1 (#,", 0, MOST_WORK),
+    ("30, 12: a declared name without its kind", BLEND, "[a] a", 0, MOST_WORK),
+    ("30, 12: a misspelled kind of a declared name", BLEND, "[share a, prise b] a * b", 0, MOST_WORK),
+    ("30, 1: no comma between declared names", BLEND, "[share a share b] a", 0, MOST_WORK),
+    ("30, 4: a declared name is missing at the end", BLEND, "[share", 0, MOST_WORK),
+    ("30, 3: a declared name is missing", BLEND, "[share] 2", 0, MOST_WORK),
+    ("30, 6: a reserved word for a declared name", BLEND, "[share if] 2", 0, MOST_WORK),
+    ("30, 11: nothing behind declared names", BLEND, "[share a]", 0, MOST_WORK),
+    ("30, 11: a misspelled declared name", BLEND, "[share hard] hart * 2", 0, MOST_WORK),
+    ("30, 7: neither a starting name nor declared", SHARE, "[share a] = b", 0, MOST_WORK),
+    ("30, 8: a declared name of another kind", SHARE, "[price spot] = spot", 0, MOST_WORK),
+    ("31: a declared name behind its part of the rule", BLEND, "([share a] a * spot) * a", 0, MOST_WORK),
+    ("31: left over behind declared names", BLEND, "[share a, price b,] // two\nb * a * 02 a", 0, MOST_WORK),
+    ("32: two ways, with declared names", TWO_SUMS, "[share a, price b] b * a * 2", 0, MOST_WORK),
     ("30: a misspelled name", MARGIN, "if volume > 3 then volume * prize", 0, MOST_WORK),
     ("30: another kind of name", MARGIN, "price * price", 2, MOST_WORK),
     ("30: another case", MARGIN, "if volume * price > 3 Then 1", 0, MOST_WORK),

@@ -15,7 +15,9 @@ TEXTS = 3000
 MARKS = [*"'\"|;:?*,()!#+ \n\t-\u00e99_", ",*"]
 WORDS = ["words ", "reserved ", "names ", "x:1 ", "identifier", "number", "variable:3", "!variable", "empty", "left 1"]
 WORDS += ["none 255", "passing", "uncommitted", "'('", '"if"', "(claims variables)", "(identifier)", "\n  | "]
+WORDS += ["(declares names)", "('[' names,* ']')? ", "\ne (declares names)\n  | ('[' names,* ']')? "]
 RULE = [*"1()-*,>#\t\n\0\u00e9", "99999999999999999999", "foo", "//c\n", "if"]
+BOOKS = [explanations.ARITHMETIC, explanations.MARGIN, explanations.BLEND]
 
 
 def changed(text, choose):
@@ -30,6 +32,8 @@ def changed(text, choose):
 def some_rule(book, choose):
     own = [entry.spelling for entry in (*book.words, *book.names)]
     own += [chr(step.a) for variant in book.variants for step in variant.steps if step.kind == 0]
+    for step in (step for variant in book.variants for step in variant.steps if step.kind == 14):
+        own += [chr(step.b), chr(step.c), *(f"{chr(step.b)}{kind} foo{chr(step.c)}" for kind in book.kind_words)]
     return " ".join(choose.choice(RULE + own) for _ in range(choose.randrange(14))).encode()
 
 
@@ -56,12 +60,12 @@ class AnyText(unittest.TestCase):
         as_json(reading, found, "rule", said, None)
         for parse in reading.parses[:3]:
             drawing(found, parse.value, 50)
-            bracketed(found, parse.value)
+            bracketed(found, parse.value, text=text)
 
     def test_any(self):
         choose, accepted = random.Random(20), 0
         for seed in range(TEXTS):
-            text = choose.choice([explanations.ARITHMETIC, explanations.MARGIN, to_text(random_book(seed))])
+            text = choose.choice([*BOOKS, to_text(random_book(seed))])
             found = self.book(changed(text, choose))
             if found is None:
                 continue

@@ -26,6 +26,12 @@ class Explanations(unittest.TestCase):
         reading = Reading(b"", b"", (1, 0, 0, 0, 0, 0, 0), [], [])
         self.assertIn("(refusal 1)", explain(reading, view(b"e\n")))
 
+    def test_a_declared_name_is_wanted(self):
+        """An error that no answer has, since its choice drops it."""
+        found = view(explanations.BLEND.encode())
+        reading = Reading(found.data, b"[a", (30, 1, 11, 32, 9, 0, 0), [], [], 1)
+        self.assertIn("rule:1:2: a declared name is wanted here", explain(reading, found))
+
     def test_titles_say_what_is_met(self):
         for title, *case in explanations.CASES:
             _, refusal, kind = explanations.explanation(*case)

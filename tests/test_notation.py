@@ -13,6 +13,7 @@ from vectors import ROOT, accepted_books
 RANDOM_BOOKS = 1000
 BINDER_LINE = "  | ('[' names,* ']')? e\n"
 BINDER = f"e (declares names)\n{BINDER_LINE}".rstrip()
+BINDER_OF_F = "e (declares names)\n  | ('[' names,* ']')? f\n"
 
 
 class RoundTrips(unittest.TestCase):
@@ -199,8 +200,8 @@ REFUSED = [
     ("e (declares names)\n  | empty\n", 6, 2, 3, "has one variant, of one step"),
     ("e (declares names)\n  | e\n", 6, 2, 5, "has one variant, of one step"),
     ("e (declares names)\n  | ('[' e,* ']')? ; passing\n", 6, 2, 22, "neither passing nor uncommitted"),
-    (f"e\n{BINDER_LINE}", 6, 2, 5, "names are declared by a nonterminal of its own"),
-    (f"e (claims variables)\n  | number\n{BINDER_LINE}", 6, 3, 5, "names are declared by a nonterminal of its own"),
+    (f"e\n{BINDER_LINE}", 6, 2, 5, "(declares names) behind its name"),
+    (f"e (claims variables)\n  | number\n{BINDER_LINE}", 6, 3, 5, "(declares names) behind its name"),
     ("e (declares names)\n  | (' ' names,* ']')? e\n", 6, 2, 6, "33 to 126"),
     ("e (declares names)\n  | ('[' names,* '\x7f')? e\n", 6, 2, 18, "33 to 126"),
 ]
@@ -249,6 +250,14 @@ NOTES = [
     ("names x:1\ne\n  | variable:2\n", "no name has kind 2"),
     ("names x:1 x:2\ne\n  | variable:1\n", "no name has kind 1"),
     ("e\n  | variable\n", "the book has no names"),
+    (f"{BINDER_OF_F}f\n  | variable\n", "book:2:3: no name can be declared"),
+    (f"{BINDER_OF_F}f\n  | variable\n", "book:4:3: variable takes nothing: the book has no names"),
+    (f"words a\n{BINDER_OF_F}f\n  | number\n", "book:3:3: it declares names, and no step takes a variable"),
+    (f"words a\n{BINDER_OF_F}f\n  | variable:1\n", "book:5:3: variable:1 takes nothing: no name has kind 1"),
+    (f"words a a\n{BINDER_OF_F}f\n  | variable:1\n", "no name has kind 1"),
+    (f"words a\n{BINDER_OF_F}f\n  | '[' variable ']'\n", "book:3:3: f may begin with '[', too"),
+    (f"words a b c d e f g h i\n{BINDER_OF_F}f\n  | variable\n", "the word i is in no variant"),
+    (f"words a\n{BINDER_OF_F}f\n  | e\n  | variable\n", "book:5:3: it makes f of f"),
 ]
 
 
@@ -268,6 +277,8 @@ class Notes(unittest.TestCase):
         self.assertEqual(notes(view(b"e\n  | number\n  | e '!'\n")), [])
         self.assertEqual(notes(view(b'words kg kg\ne\n  | number "kg":1\n')), [])
         self.assertEqual(notes(view(b"reserved x\nnames x:1\ne\n  | variable:1\n")), [])
+        words = "words a b c d e f g h\n"
+        self.assertEqual(notes(view(f"{words}{BINDER_OF_F}f\n  | variable:7\n  | '(' e ')'\n")), [])
 
 
 class Problems(unittest.TestCase):

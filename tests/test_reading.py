@@ -1,5 +1,6 @@
 """The Python package: the library's answers as they are, trees, threads."""
 import doctest
+import json
 import os
 import pickle
 import subprocess
@@ -8,8 +9,8 @@ import threading
 import unittest
 
 import midgebillon
-from midgebillon import Absent, Associativity, Error, ErrorKind, Identifier, List, Number, Variable, Variant
-from midgebillon import from_text, read
+from midgebillon import Absent, Associativity, Declared, Error, ErrorKind, Identifier, List, Number, Refusal, Variable
+from midgebillon import Variant, from_text, read
 from midgebillon.drawing import bracketed, drawing
 from midgebillon.json_form import tree_json
 from midgebillon.library import Library, NoLibrary, loaded
@@ -131,6 +132,106 @@ class Readings(unittest.TestCase):
         self.assertEqual(doctest.testmod(midgebillon), (0, 9))
 
 
+BLEND = """words share price share
+reserved if
+names spot:1 a:3
+
+rule (declares names)
+  | ('[' names,* ']')? amount
+
+amount
+  | number
+  | variable
+  | amount '*' amount  ; left 2
+  | '(' rule ')'
+  | '=' variable:1
+"""
+
+
+class DeclaredNames(unittest.TestCase):
+    def setUp(self):
+        self.book = view(BLEND)
+
+    def value(self, text):
+        reading = read(self.book, text)
+        self.assertIsNone(reading.refusal, text)
+        self.assertEqual(reading.line(), b"value %s\n" % str(reading.value).encode())
+        return reading.value
+
+    def variables(self, text):
+        """The variables of a value, in order."""
+        found, todo = [], [self.value(text)]
+        while todo:
+            node = todo.pop()
+            todo += reversed(node.items if isinstance(node, (Variant, List)) else ())
+            found += [str(node)] if isinstance(node, (Variable, Declared)) else []
+        return " ".join(found)
+
+    def test_the_items_of_a_binder(self):
+        one = Variant(1, (Number(1),))
+        self.assertEqual(self.value(b"1"), Variant(0, (Absent(), one)))
+        self.assertEqual(self.value(b"[] 1"), Variant(0, (List(()), one)))
+        kinds = List((Number(1), Number(0), Number(3)))
+        self.assertEqual(self.value(b"[price x, share y, if z,] 1"), Variant(0, (kinds, one)))
+
+    def test_depth_and_index(self):
+        cases = [
+            (b"[share x, price y] y * x", "$0.1 $0.0"),
+            (b"[share x] ([price y] x * y) * x", "$1.0 $0.0 $0.0"),
+            (b"[share x] ([] x) * (x)", "$1.0 $0.0"),
+            (b"[share x] ([share x] x) * x", "$0.0 $0.0"),
+            (b"[share x, price x] x", "$0.1"),
+            (b"[share spot] spot * a", "$0.0 $a"),
+            (b"([share spot] spot) * spot", "$0.0 $spot"),
+        ]
+        for text, wanted in cases:
+            self.assertEqual(self.variables(text), wanted, text)
+        self.assertIn(Declared(depth=1, index=0), self.value(b"[share x] ([] x)").items[1].items[0].items[1].items)
+
+    def test_what_is_no_such_name(self):
+        cases = [(b"[share x] y", 30, 10), (b"([share x] x) * x", 31, 0), (b"[share spot] = spot", 30, 15)]
+        for text, refusal, place in cases:
+            answer = read(self.book, text).answer
+            self.assertEqual((answer.refusal, answer.place), (refusal, place), text)
+
+    def test_many_names(self):
+        names = ", ".join(f"share x{i}" for i in range(65))
+        reading = read(self.book, f"[{names}] 1".encode())
+        self.assertEqual((reading.refusal, reading.refusal.of_limit), (Refusal.TOO_MANY_NAMES, True))
+        self.assertEqual((reading.answer.refusal, reading.value, set(reading.cells)), (41, None, {0}))
+        self.assertIsNone(read(self.book, f"[{names.replace(', share x64', '')}] x63".encode()).refusal)
+
+    def test_json(self):
+        found = json.loads(tree_json(self.book, self.value(b"[share x] ([] x)")))
+        self.assertEqual(found["items"][0], {"form": "list", "items": [{"form": "number", "value": "0"}]})
+        inner = found["items"][1]["items"][0]["items"][1]["items"]
+        self.assertEqual(inner, [{"form": "declared", "depth": 1, "index": 0}])
+        self.assertEqual(json.loads(tree_json(self.book, self.value(b"1")))["items"][0], {"form": "absent"})
+
+    def test_drawing(self):
+        lines = drawing(self.book, self.value(b"[price x] x * (2)"))
+        self.assertEqual(lines[1:3], ["├─ names: 1 in the list", "│  └─ price (kind 1)"])
+        self.assertIn("   │  └─ $0.0", lines)
+        self.assertIn("         ├─ no names", lines)
+
+    def test_written_again(self):
+        """With the names of the text, or with v0, v1 and so on where the two don't fit."""
+        text = b"[share x, price yy] yy * ([if x] (02 * x) * yy)"
+        spaced = "[ share {} , price {} ] {} * ( [ if {} ] ( 2 * {} ) * {} )"
+        value = self.value(text)
+        names, numbers = spaced.format("x", "yy", "yy", "x", "x", "yy"), spaced.format(*"v0 v1 v1 v2 v2 v1".split())
+        self.assertEqual(bracketed(self.book, value, 400, False, text), names)
+        self.assertEqual(self.value(names.encode()), value)
+        self.assertEqual(bracketed(self.book, value, 400, False, text.replace(b"yy]", b"y, ]")), numbers)
+        self.assertEqual(bracketed(self.book, value, 400, False), numbers)
+        self.assertEqual(self.value(numbers.encode()), value)
+        self.assertEqual(bracketed(self.book, value.items[1], 400, False), "0.1 * ( [ if v0 ] ( 2 * v0 ) * 1.1 )")
+
+    def test_commas_behind_the_last(self):
+        text = b"[share x , price y , ] y"
+        self.assertEqual(bracketed(self.book, self.value(text), 400, False, text), "[ share x , price y ] y")
+
+
 class LargeTrees(unittest.TestCase):
     def doubling(self, depth):
         """A book whose value doubles with each nonterminal, and takes no text."""
@@ -143,6 +244,7 @@ class LargeTrees(unittest.TestCase):
         self.assertEqual(node_count(value), 2**17 - 1)
         self.assertEqual(len(drawing(book, value, 100)), 101)
         self.assertLess(len(bracketed(book, value)), 1000)
+        self.assertEqual(bracketed(book, value, with_braces=False), "...")
         self.assertEqual(tree_json(book, value), "null")
 
     def test_deep(self):

@@ -40,7 +40,7 @@ from .notation_reader import Source, from_text
 from .notation_tokens import NotationError
 from .reading import MOST_WORK, Answer, Parse, Reading, check, furthest, read
 from .refusal import Error, ErrorKind, Refusal
-from .tree import Absent, Identifier, List, Number, Tree, Variable, Variant, printed
+from .tree import Absent, Declared, Identifier, List, Number, Tree, Variable, Variant, printed
 from .view import View, view
 
 __version__ = "0.1.0"
@@ -48,7 +48,7 @@ __version__ = "0.1.0"
 __all__ = [
     *("MOST_WORK", "Answer", "Associativity", "Parse", "Reading", "check", "furthest", "read"),
     *("Error", "ErrorKind", "Refusal", "explain"),
-    *("Absent", "Identifier", "List", "Number", "Tree", "Variable", "Variant", "printed"),
+    *("Absent", "Declared", "Identifier", "List", "Number", "Tree", "Variable", "Variant", "printed"),
     *("Book", "decode", "encode", "NotationError", "Source", "from_text", "to_text", "View", "view"),
     *("NoLibrary", "NotProved"),
 ]

@@ -97,9 +97,11 @@ class Book:
 
     @property
     def kind_words(self):
-        """The words that stand before a declared name, with the kinds that they mean: of equal words the least."""
-        first = list(enumerate(word.spelling for word in self.words[: LAST_KIND + 1]))
-        return {spelling: kind for kind, spelling in reversed(first)}
+        """The words that stand before declared names, with the kinds that they mean: of equal words the least."""
+        found = {}
+        for kind, word in enumerate(self.words[: LAST_KIND + 1]):
+            found.setdefault(word.spelling, kind)
+        return found
 
 
 @dataclass(frozen=True)

@@ -152,7 +152,7 @@ def in_notation(refusal, field, view):
     if field.name == "steps":
         return f"a variant has at most {books.STEPS_EACH} steps"
     if field.section == "step" and field.name == "kind":
-        return "names are declared by a nonterminal of its own, with (declares names) behind its name"
+        return "such a step stands alone in a nonterminal, which has (declares names) behind its name"
     return KINDS if field.name == "kind" else _step(view.data, field)
 
 

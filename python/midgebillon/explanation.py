@@ -10,7 +10,7 @@ from .hints import LARGEST_NUMBER, Hints, near
 from .notes import growing
 from .picture import line_and_column, picture
 from .reading import MOST_WORK, last_end, skip
-from .refusal import ErrorKind, Refusal
+from .refusal import DECLARED_NAME, ErrorKind, Refusal
 from .tree import node_count, printed
 from .view import as_view
 from .wanted import Part, Terminal
@@ -56,6 +56,7 @@ LIMITS = {
     Refusal.TOO_DEEP: "the reader gave up: the rule nests more than 200 levels deep",
     Refusal.TOO_MANY_PARSES: "the reader gave up: it found more than 64 ways to read one part of the rule",
     Refusal.TOO_MANY_CELLS: "the reader gave up: the rule has more than 4,096 different parts",
+    Refusal.TOO_MANY_NAMES: "the reader gave up: a part of the rule has more than 64 declared names around it",
 }
 ADVICE = {
     Refusal.NO_UNIT: "Most often brackets stand in brackets in brackets: in a book whose expressions begin with"
@@ -68,6 +69,9 @@ ADVICE = {
     " (1-2-3)-(4-5-6). If the rule is short, the book reads it in too many ways: try a shorter one, which shows them.",
     Refusal.TOO_MANY_CELLS: "Every different number, name and part counts, those of ways that led nowhere, too. Write"
     " it as two rules.",
+    Refusal.TOO_MANY_NAMES: "All names count that are declared for a part and for what is around it, those that are"
+    " declared again, too. Declare fewer, or each for the part alone that uses it: beside one another they don't add"
+    " up.",
 }
 
 
@@ -174,7 +178,8 @@ class Explanation:
 
     def _wanted(self, hints, place, symbols, number=""):
         """What is wanted at a place, with how that begins below the picture."""
-        return "\n".join([self._at(place, hints.said(place, symbols) + number), *map(_filled, hints.begun(symbols))])
+        said = self._at(place, hints.said(place, symbols) + number)
+        return "\n".join([said, *map(_filled, hints.begun(place, symbols))])
 
     def _error(self, hints, number):
         """The furthest error."""
@@ -188,23 +193,25 @@ class Explanation:
             ErrorKind.DIGITS_WANTED: Terminal(books.NUMBER),
             ErrorKind.NONTERMINAL_WANTED: Part(books.NONTERMINAL, argument),
         }.get(kind)
-        if symbol is not None:
+        if symbol is not None and symbol != Part(books.NONTERMINAL, DECLARED_NAME):
             return self._wanted(hints, place, [symbol], number)
         word = hints.word(place)
         said = {
             ErrorKind.TEXT_ENDED: "the text ends where a name or a number is wanted",
             ErrorKind.VARIABLE_FOUND: f"{word} is a variable, and none may stand here",
             ErrorKind.RESERVED_FOUND: f"{word} is a reserved word, and may not stand here",
-            ErrorKind.UNKNOWN_NAME: f"{word} is no name of the book; {self._names(word)}",
+            ErrorKind.UNKNOWN_NAME: f"{hints.unknown(word)}; {self._names(word, hints.scope(place))}",
+            ErrorKind.NONTERMINAL_WANTED: f"a declared name is wanted {hints.ends(place)}",
             ErrorKind.TOO_LARGE: f"this number is above {LARGEST_NUMBER}, the greatest",
             ErrorKind.MORE_WANTED: f"more is wanted {hints.ends(place)}",
         }
         return self._at(place, said[kind] + number)
 
-    def _names(self, word):
-        """The name that was perhaps meant, or all."""
-        names = list(dict.fromkeys(name.spelling for name in self.view.book.names))
-        return "".join(near(word, set(names))) or f"it has {', '.join(names) or 'none'}"
+    def _names(self, word, scope):
+        """The variable that was perhaps meant, or all."""
+        listed = ", ".join(scope) or "none"
+        all_of_them = f"the names here: {listed}" if self.view.book.declares else f"it has {listed}"
+        return "".join(near(word, set(scope))) or all_of_them
 
     # ---- What the steps would take
     def _further(self, hints, place):
@@ -222,7 +229,7 @@ class Explanation:
         said = hints.said(place, found.symbols)
         if not said.startswith(f"{hints.word(place)} is "):  # a word of the rule stays as it is spelled
             said = said[0].upper() + said[1:]
-        return [said, *map(_filled, hints.begun(found.symbols))]
+        return [said, *map(_filled, hints.begun(place, found.symbols))]
 
     def _levels(self):
         """That levels forbid the rule, and all levels of the book."""
@@ -248,7 +255,7 @@ class Explanation:
 
     def _value(self, value, braces):
         """A value in its text's words, with or without braces, and as it is printed, where that isn't too long."""
-        written = bracketed(self.view, value, LONGEST_VALUE, braces) or "nothing"
+        written = bracketed(self.view, value, LONGEST_VALUE, braces, self.text) or "nothing"
         return f"{written}, as the value {printed(value)}" if node_count(value) < LONGEST_VALUE else written
 
     # ---- 32

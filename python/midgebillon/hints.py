@@ -5,14 +5,16 @@ import re
 from . import book as books
 from .reading import last_end
 from .view import one_of
-from .wanted import DIGITS, Grammar, Part, Tokens, wanted
+from .wanted import DIGITS, NEW_NAME, Grammar, Part, Tokens, variables, wanted
 
 LARGEST_NUMBER = 2**64 - 1
 COMMENTS = (b"#", b"/*")  # of other languages
 CLOSE = 0.7  # how alike two spellings are for one to be meant
 DECIMAL = re.compile(rb"(?<=[0-9])[.,eE][0-9]")
 DOLLAR = re.compile(rb"\$[A-Za-z_]")
-OF_NAMES = {books.IDENTIFIER, books.VARIABLE, books.VARIABLE_OF_KIND}
+OF_VARIABLES = {books.VARIABLE, books.VARIABLE_OF_KIND}
+OF_NEW_NAMES = {books.IDENTIFIER, NEW_NAME}
+OF_NAMES = OF_VARIABLES | OF_NEW_NAMES
 
 
 def near(word, known):
@@ -30,6 +32,11 @@ class Hints:
         self.tokens, self.grammar = Tokens(view.book, text), Grammar(view.book)
         self.wanted = wanted(view.book, text, start)
 
+    def scope(self, place):
+        """The variables at a place, with their kinds."""
+        starting = variables(self.view.book)
+        return self.wanted.variables.get(place, starting) if self.wanted else starting
+
     def ends(self, place):
         return "where the text ends" if place == len(self.text) else "here"
 
@@ -43,7 +50,7 @@ class Hints:
         word, digits = self.word(place), DIGITS.match(self.text, place)
         if digits and int(digits.group()) > LARGEST_NUMBER and books.NUMBER in kinds:
             return [f"this number is above {LARGEST_NUMBER}, the greatest"]
-        if kinds & OF_NAMES and (known := self._known(word)):
+        if kinds & OF_NAMES and (known := self._known(place, word)):
             return [f"{word} is {' and '.join(known)}"]
         if self.text.startswith(COMMENTS, place):
             return ["a comment begins with //"]
@@ -53,21 +60,27 @@ class Hints:
             return ["a number is digits alone, without point or comma"]
         if DOLLAR.match(self.text, place) and ord("$") not in self._characters():
             return ["a name is written without $"]
-        return self._no_name(word, first, kinds)
+        return self._no_name(place, word, first, kinds)
 
-    def _known(self, word):
+    def _known(self, place, word):
         """What a word is, of what may keep it from being read as a name; it may be both."""
-        known = ["a reserved word"] if word in self.tokens.reserved else []
-        if word in self.tokens.variables:
-            known.append(f"a variable of kind {self.tokens.variables[word]}")
+        known, scope = ["a reserved word"] if word in self.tokens.reserved else [], self.scope(place)
+        if word in scope:
+            known.append(f"a variable of kind {scope[word]}")
         return known
+
+    def unknown(self, word):
+        """That a word is no variable at its place."""
+        if self.wanted and word in self.wanted.anywhere:
+            return f"{word} is declared in the rule, but not for this part of it"
+        return f"{word} is no name of the book" + ", and not declared in the rule" * self.view.book.declares
 
     def _characters(self):
         """The codes of all characters that the book's steps take."""
         steps = [step for variant in self.view.book.variants for step in variant.steps]
         return {step.a for step in steps if step.kind == books.CHARACTER}.union(*((s.b, s.c) for s in steps))
 
-    def _no_name(self, word, first, kinds):
+    def _no_name(self, place, word, first, kinds):
         """A remark on a word that is no name and no word that is wanted."""
         if not word:
             return ["the rule is empty"] if last_end(self.text) == 0 else []
@@ -75,19 +88,20 @@ class Hints:
         if word in {each.spelling for each in words}:
             return []
         wanted_words = {words[terminal.a].spelling for terminal in first if terminal.kind == books.WORD}
-        of_names = bool(kinds & OF_NAMES)
-        unknown = of_names and books.IDENTIFIER not in kinds
-        close = near(word, wanted_words | set(self.tokens.variables if of_names else ()))
-        return [f"{word} is no name of the book"] * unknown + close
+        unknown = kinds & OF_NAMES and not kinds & OF_NEW_NAMES
+        close = near(word, wanted_words | set(self.scope(place) if kinds & OF_NAMES else ()))
+        return ([self.unknown(word)] if unknown else []) + close
 
     def said(self, place, symbols):
         """What would go on at a place, behind a remark on what stands there; but a question comes last."""
-        named = one_of(dict.fromkeys(map(self.view.symbol, symbols)))
+        scope = self.scope(place)
+        named = one_of(dict.fromkeys(self.view.symbol(symbol, scope) for symbol in symbols))
         remarks = self.remarks(place, symbols)
         asked = [remark for remark in remarks if remark.endswith("?")]
         told = [remark for remark in remarks if remark not in asked]
         return "; ".join([*told, f"wanted {self.ends(place)}: {named}", *asked])
 
-    def begun(self, symbols):
-        """How the nonterminals among the symbols begin, in lines."""
-        return [self.view.begins(self.grammar, symbol.a) for symbol in symbols if isinstance(symbol, Part)]
+    def begun(self, place, symbols):
+        """How the parts among the symbols begin at a place, in lines."""
+        parts, scope = [symbol for symbol in symbols if isinstance(symbol, Part)], self.scope(place)
+        return [self.view.begins(self.grammar, part, scope) for part in parts]

@@ -4,7 +4,7 @@ import json
 from .book import ASSOCIATIVITIES
 from .picture import line_and_column
 from .refusal import Refusal
-from .tree import Identifier, List, Number, Variable, Variant, items_of, node_count
+from .tree import Declared, Identifier, List, Number, Variable, Variant, items_of, node_count
 
 MOST_NODES = 20_000
 
@@ -23,6 +23,8 @@ def _fields(view, node):
         return {"form": "number", "value": str(node.value)}
     if isinstance(node, Variable):
         return {"form": "variable", "spelling": node.spelling, "name": node.name, "kind": node.kind}
+    if isinstance(node, Declared):
+        return {"form": "declared", "depth": node.depth, "index": node.index}
     return {"form": "absent"}
 
 

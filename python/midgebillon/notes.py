@@ -4,7 +4,7 @@ A note is a variant's number, or None, and a sentence.
 """
 from . import book as books
 from .picture import line_and_column
-from .wanted import Grammar, Part, variables
+from .wanted import Grammar, Part, Terminal, variables
 
 
 def _variants(view):
@@ -155,13 +155,19 @@ def _apart(view):
 def _unused_words(view):
     words, steps = view.book.words, [step for variant in view.book.variants for step in variant.steps]
     used = {words[step.a].spelling for step in steps if step.kind == books.WORD}
+    used |= _kind_words(view).keys()
     for spelling in dict.fromkeys(word.spelling for word in words if not word.label):
         if spelling not in used:
             yield None, f"the word {spelling} is in no variant"
 
 
+def _kind_words(view):
+    """The words that a rule may declare names by."""
+    return view.book.kind_words if view.book.declares else {}
+
+
 def _no_such_names(view):
-    kinds = set(variables(view.book).values())
+    kinds = {*variables(view.book).values(), *_kind_words(view).values()}
     for number, _, variant in _variants(view):
         for step in variant.steps:
             if step.kind == books.VARIABLE_OF_KIND and step.a not in kinds:
@@ -170,9 +176,26 @@ def _no_such_names(view):
                 yield number, f"{view.step(step)} takes nothing: the book has no names"
 
 
+def _declaring(view):
+    """Binders that declare nothing, or nothing that is of use, or that take what belongs to their body."""
+    grammar, steps = Grammar(view.book), [step for variant in view.book.variants for step in variant.steps]
+    taken = any(step.kind in (books.VARIABLE, books.VARIABLE_OF_KIND) for step in steps)
+    for number, _, variant in _variants(view):
+        for step in variant.steps:
+            if step.kind != books.BINDER:
+                continue
+            if not view.book.words:
+                yield number, "no name can be declared: the first eight words say the kinds, and there are no words"
+            if not taken:
+                yield number, "it declares names, and no step takes a variable"
+            if Terminal(books.CHARACTER, step.b) in grammar.first(Part(books.NONTERMINAL, step.a)):
+                own = f"{view.names[step.a]} may begin with '{chr(step.b)}', too"
+                yield number, f"{own}: where that stands first it always opens declared names"
+
+
 def notes(view):
     """All notes on an accepted book."""
-    used = [*_unread(view), *_apart(view), *_unused_words(view), *_no_such_names(view)]
+    used = [*_unread(view), *_apart(view), *_unused_words(view), *_no_such_names(view), *_declaring(view)]
     return [*_brackets(view), *growing(view), *_one_sided(view), *_mixed(view), *_no_operators(view), *used]
 
 

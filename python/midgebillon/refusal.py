@@ -4,7 +4,7 @@ from enum import IntEnum
 
 
 class Refusal(IntEnum):
-    """Why a text has no value. Book: 3 to 8; limits: 20 to 23; the text's end: 30 to 32."""
+    """Why a text has no value. Book: 3 to 8; limits: 20 to 23 and 41; the text's end: 30 to 32."""
 
     SHORT_LISTS = 1
     BAD_ALLOWANCE = 2
@@ -24,6 +24,7 @@ class Refusal(IntEnum):
     NO_PARSE = 30
     NONE_WHOLE = 31
     DIFFERENT_VALUES = 32
+    TOO_MANY_NAMES = 41
 
     def __str__(self):
         return f"refusal {self.value}, {self.name.lower().replace('_', ' ')}"
@@ -34,7 +35,7 @@ class Refusal(IntEnum):
 
     @property
     def of_limit(self):
-        return Refusal.NO_UNIT <= self <= Refusal.TOO_MANY_CELLS
+        return Refusal.NO_UNIT <= self <= Refusal.TOO_MANY_CELLS or self == Refusal.TOO_MANY_NAMES
 
 
 class ErrorKind(IntEnum):
@@ -52,6 +53,9 @@ class ErrorKind(IntEnum):
     TOO_LARGE = 10
     NONTERMINAL_WANTED = 11
     MORE_WANTED = 12
+
+
+DECLARED_NAME = 32  # in place of a nonterminal's number, where a declared name was wanted
 
 
 @dataclass(frozen=True)

@@ -46,11 +46,21 @@ class Variable(Tree):
 
 
 @dataclass(frozen=True)
+class Declared(Tree):
+    """A variable that the rule itself declares, by its binder's depth, which counts the openings that were read between
+    it and the one that declares it, and by its index among that one's names; both from 0."""
+
+    depth: int
+    index: int
+
+
+@dataclass(frozen=True)
 class Absent(Tree):
-    """An optional that isn't there."""
+    """An optional that isn't there, or the names of a rule that declares none."""
 
 
 EMPTY_FORM, CHAIN_FORM, VARIANT_FORM, NAME_FORM, NUMBER_FORM, VARIABLE_FORM, ABSENT_FORM, LIST_FORM = range(1, 9)
+DECLARED_FORM = 9
 CELL_SIZE = 3
 
 
@@ -79,6 +89,8 @@ def trees(cells, text, names):
             made.append(Absent())
         elif form == LIST_FORM:
             made.append(List(made[a]))
+        elif form == DECLARED_FORM:
+            made.append(Declared(a, b))
         else:
             break
     return made
@@ -103,6 +115,8 @@ def leaf_text(tree):
         return tree.spelling
     if isinstance(tree, Variable):
         return "$" + tree.spelling
+    if isinstance(tree, Declared):
+        return f"${tree.depth}.{tree.index}"
     return str(tree.value) if isinstance(tree, Number) else "-"
 
 

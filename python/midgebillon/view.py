@@ -6,9 +6,9 @@ from .notation import default_names, is_text, step_text, variant_text
 from .library import as_bytes
 from .notation_reader import Source, from_text
 from .notation_tokens import NotationError, Problem, Span
-from .wanted import Part, variables
+from .wanted import DECLARATION, NEW_NAME, NO_CHARACTER, Part, variables
 
-SHOWN_NAMES = 6  # of starting names, in a sentence
+SHOWN_NAMES = 6  # of variables, in a sentence
 
 
 def one_of(things):
@@ -51,37 +51,46 @@ class View:
         owner = self.names[self.book.owner(variant)]
         return f"{owner} {variant}{f' ({label})' if label else ''}: {self.steps(variant)}"
 
-    def _variables(self, kind=None):
-        """The starting names, or those of a kind, as a remark."""
-        names = [name for name, of in variables(self.book).items() if kind in (None, of)]
+    def _variables(self, scope, kind=None):
+        """The variables of a scope, or those of a kind, as a remark; what the rule declares comes first."""
+        names = [name for name, of in scope.items() if kind in (None, of)]
+        names.sort(key=variables(self.book).keys().__contains__)
         listed = names[:SHOWN_NAMES] + ["..."] * (len(names) > SHOWN_NAMES)
-        return f" ({', '.join(listed)})" if names else " (the book has none)"
+        none = " (there is none here)" if self.book.declares else " (the book has none)"
+        return f" ({', '.join(listed)})" if names else none
 
-    def terminal(self, terminal):
-        """What a terminal takes, in words."""
+    def terminal(self, terminal, scope):
+        """What a terminal takes, in words, where these are the variables."""
         kind, a = terminal.kind, terminal.a
         if kind == books.CHARACTER:
             return f"'{chr(a)}'"
         if kind == books.WORD:
             return f'"{self.book.words[a].spelling}"'
         if kind == books.VARIABLE_OF_KIND:
-            return f"a variable of kind {a}{self._variables(a)}"
+            return f"a variable of kind {a}{self._variables(scope, a)}"
+        if kind == NO_CHARACTER:
+            return f"anything but '{chr(a)}'"
         return {
             books.IDENTIFIER: "an identifier",
             books.NUMBER: "a number",
-            books.VARIABLE: f"a variable{self._variables()}",
+            NEW_NAME: "a name to declare",
+            books.VARIABLE: f"a variable{self._variables(scope)}",
             books.NO_VARIABLE: "anything but a variable",
             books.NO_RESERVED: "anything but a reserved word",
         }[kind]
 
-    def symbol(self, symbol):
-        return self.names[symbol.a] if isinstance(symbol, Part) else self.terminal(symbol)
+    def part(self, part):
+        return "a declared name" if part.kind == DECLARATION else self.names[part.a]
 
-    def begins(self, grammar, nonterminal):
-        """How a nonterminal begins, in words."""
-        first = grammar.first(Part(books.NONTERMINAL, nonterminal))
-        name = self.names[nonterminal]
-        return f"{name} begins with {one_of(map(self.terminal, first))}" if first else f"{name} has no variant to read"
+    def symbol(self, symbol, scope):
+        return self.part(symbol) if isinstance(symbol, Part) else self.terminal(symbol, scope)
+
+    def begins(self, grammar, part, scope):
+        """How a nonterminal or a declared name begins, in words."""
+        first, name = [self.terminal(each, scope) for each in grammar.first(part)], self.part(part)
+        if part.kind == DECLARATION and not first:
+            return f"{name} begins with a word of the book, which has none"
+        return f"{name} begins with {one_of(first)}" if first else f"{name} has no variant to read"
 
     def step(self, step):
         return step_text(step, self.book.words, self.names)

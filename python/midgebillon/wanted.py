@@ -4,7 +4,9 @@ This is help for people, beside the reader and not proved: levels, associativiti
 may reach further than any parse. The reader's own error tells one thing that was wanted, at the furthest place of calls
 that failed; in `(1 - x)` that is `)` at the minus, since `1` alone is an expression there. The steps reach `x`.
 
-An Earley parser: an item is a rule's number, how many of its symbols were taken, and the place where it began.
+An Earley parser: an item is a rule's number, how many of its symbols were taken, the place where it began, and the
+scopes there and where it is now, which differ behind a declared name alone. A scope is the variables by their spellings
+with their kinds; the starting names are scope 0.
 """
 import heapq
 import re
@@ -17,7 +19,12 @@ MOST_ITEMS = 150_000  # beyond them no help is given: that is a second or two
 
 IDENTIFIER = re.compile(rb"[A-Za-z_][A-Za-z0-9_]*")
 DIGITS = re.compile(rb"[0-9]+")
-LOOKS = (books.NO_VARIABLE, books.NO_RESERVED)  # steps that take nothing
+
+# Beside the kinds of steps: a place where a character isn't, a name behind the word for its kind, and the parts of a
+# binder: behind its opening, from a declared name on, and behind one.
+NO_CHARACTER, NEW_NAME, NAMES, DECLARATION, MORE_NAMES = range(books.BINDER + 1, books.BINDER + 6)
+NAMED = (books.NONTERMINAL, DECLARATION)  # the parts that people are told as they are, and not by what they begin with
+LOOKS = (books.NO_VARIABLE, books.NO_RESERVED, NO_CHARACTER)  # these take nothing
 
 
 class Terminal(NamedTuple):
@@ -55,6 +62,7 @@ class Grammar:
 
     def __init__(self, book):
         self.book, self.rules, self.of = book, [], {}
+        self.kinds = list(book.kind_words.values())
         for number in range(len(book.nonterminals)):
             self._add(Part(books.NONTERMINAL, number))
         self.nullable = self._nullables()
@@ -79,12 +87,26 @@ class Grammar:
             if nonterminal.mark == books.IDENTIFIER_MARK:
                 return [(Terminal(books.IDENTIFIER),)]
             return [tuple(map(_symbol, variant.steps)) for variant in nonterminal.variants]
+        if part.kind >= books.BINDER:
+            return self._binder_rows(part)
         return {
             books.OPTIONAL: [(), (one,)],
             books.MANY: [(), (one, part)],
             books.COMMA_LIST: [(), (one,), (one, COMMA, commas)],
             books.DELIMITED: [delimited],
             books.OPTIONAL_DELIMITED: [(), delimited],
+        }[part.kind]
+
+    def _binder_rows(self, part):
+        """The rows of a binder's parts. Each has all that follows it, since a name holds up to the end of the body."""
+        names, declaration, more = (part._replace(kind=kind) for kind in (NAMES, DECLARATION, MORE_NAMES))
+        body, opening = Part(books.NONTERMINAL, part.a), Terminal(books.CHARACTER, part.b)
+        closed = (Terminal(books.CHARACTER, part.c), body)
+        return {
+            books.BINDER: [(opening._replace(kind=NO_CHARACTER), body), (opening, names)],
+            NAMES: [closed, (declaration,)],
+            DECLARATION: [(Terminal(books.WORD, kind), Terminal(NEW_NAME, kind), more) for kind in self.kinds],
+            MORE_NAMES: [closed, (COMMA, names)],
         }[part.kind]
 
     def _nullables(self):
@@ -136,53 +158,70 @@ class Tokens:
     """Whether a terminal's token stands at a place, and where it ends."""
 
     def __init__(self, book, text):
-        self.book, self.text = book, text
-        self.reserved, self.variables = reserved(book), variables(book)
+        self.book, self.text, self.reserved = book, text, reserved(book)
 
     def word(self, place):
         """The identifier at a place, or nothing."""
         found = IDENTIFIER.match(self.text, place)
         return found.group().decode() if found else ""
 
-    def end(self, terminal, place):
+    def end(self, terminal, place, scope):
         """The place behind the token, or None. The place is one behind skipped text."""
-        kind, word = terminal.kind, self.word(place)
+        kind, word, character = terminal.kind, self.word(place), self.text[place : place + 1]
         if kind == books.CHARACTER:
-            return place + 1 if self.text[place : place + 1] == bytes([terminal.a]) else None
+            return place + 1 if character == bytes([terminal.a]) else None
+        if kind == NO_CHARACTER:
+            return None if character == bytes([terminal.a]) else place
         if kind == books.NUMBER:
             digits = DIGITS.match(self.text, place)
             return digits.end() if digits and int(digits.group()) < 2**64 else None
         if kind in LOOKS:
-            found = word in self.reserved if kind == books.NO_RESERVED else word in self.variables
+            found = word in self.reserved if kind == books.NO_RESERVED else word in scope
             return None if found else place
-        return place + len(word) if word and self._fits(terminal, word) else None
+        return place + len(word) if word and self._fits(terminal, word, scope) else None
 
-    def _fits(self, terminal, word):
+    def _fits(self, terminal, word, scope):
         if terminal.kind == books.WORD:
             return word == self.book.words[terminal.a].spelling
-        if terminal.kind == books.IDENTIFIER:
+        if terminal.kind in (books.IDENTIFIER, NEW_NAME):
             return word not in self.reserved
-        return word in self.variables and terminal in (Terminal(books.VARIABLE), self._of_kind(word))
+        of_its_kind = Terminal(books.VARIABLE_OF_KIND, scope.get(word))
+        return word in scope and terminal in (Terminal(books.VARIABLE), of_its_kind)
 
-    def _of_kind(self, word):
-        return Terminal(books.VARIABLE_OF_KIND, self.variables[word])
+
+class Scopes:
+    """The scopes of a text by their numbers; equal ones have the same."""
+
+    def __init__(self, book):
+        starting = variables(book)
+        self.all, self.numbers = [starting], {frozenset(starting.items()): 0}
+
+    def declared(self, number, name, kind):
+        """The number of a scope with a name more."""
+        scope = {**self.all[number], name: kind}
+        found = self.numbers.setdefault(frozenset(scope.items()), len(self.all))
+        if found == len(self.all):
+            self.all.append(scope)
+        return found
 
 
 class Wanted(NamedTuple):
-    """The furthest place that the steps reach, the terminals and nonterminals that would go on there, and whether the
-    steps alone can read the whole text."""
+    """The furthest place that the steps reach, the terminals and named parts that would go on there, and whether the
+    steps alone can read the whole text; the variables at each place, and all that are any in the text."""
 
     place: int
     symbols: tuple
     fits: bool
+    variables: dict
+    anywhere: dict
 
 
 class _Chart:
     def __init__(self, book, text, start):
-        self.grammar, self.tokens, self.text = Grammar(book), Tokens(book, text), text
+        self.grammar, self.tokens, self.text, self.scopes = Grammar(book), Tokens(book, text), text, Scopes(book)
         self.start, self.first = Part(books.NONTERMINAL, start), skip(text, 0)
         self.items, self.places = {}, []  # the items of each place, and the places that are still to be looked at
-        self.waiting = {}  # the items that go on behind a part, by the place and the part
+        self.waiting = {}  # the items that go on behind a part, by the place, the part and the scope
         self.count = 0
 
     def add(self, place, item):
@@ -199,7 +238,7 @@ class _Chart:
     def run(self):
         """Fills the chart place by place. Whether it was finished."""
         self.items[self.first] = {}
-        self.begin(self.first, self.start)
+        self.begin(self.first, self.start, 0)
         self.places = [self.first]
         while self.places:
             place = heapq.heappop(self.places)
@@ -210,50 +249,65 @@ class _Chart:
                 todo += self.step(place, todo.pop())
         return True
 
-    def begin(self, place, part):
-        return [item for number in self.grammar.of[part] if self.add(place, item := (number, 0, place))]
+    def begin(self, place, part, scope):
+        return [item for number in self.grammar.of[part] if self.add(place, item := (number, 0, place, scope, scope))]
 
     def step(self, place, item):
         """What an item gives at its own place; what it gives further on waits there."""
-        number, taken, origin = item
+        number, taken, origin, outer, scope = item
         part, symbols = self.grammar.rules[number]
         if taken == len(symbols):
-            return [moved for moved in self.waiting.get((origin, part), ()) if self.add(place, moved)]
-        symbol, moved = symbols[taken], (number, taken + 1, origin)
+            return [moved for moved in self.waiting.get((origin, part, outer), ()) if self.add(place, moved)]
+        symbol = symbols[taken]
         if isinstance(symbol, Part):
-            return self.part(place, symbol, moved)
-        end = self.tokens.end(symbol, place)
+            return self.part(place, symbol, (number, taken + 1, origin, outer, scope))
+        end = self.tokens.end(symbol, place, self.scopes.all[scope])
         if end is None:
             return []
+        if symbol.kind == NEW_NAME:
+            scope = self.scopes.declared(scope, self.tokens.word(place), symbol.a)
+        moved = (number, taken + 1, origin, outer, scope)
         behind = place if symbol.kind in LOOKS else skip(self.text, end)
         return [moved] if self.add(behind, moved) and behind == place else []
 
     def part(self, place, symbol, moved):
         """A part that took nothing before anything waited for it is taken at once."""
-        self.waiting.setdefault((place, symbol), []).append(moved)
-        found = self.begin(place, symbol)
+        scope = moved[-1]
+        self.waiting.setdefault((place, symbol, scope), []).append(moved)
+        found = self.begin(place, symbol, scope)
         return found + [moved] if symbol in self.grammar.nullable and self.add(place, moved) else found
 
     def wanted(self):
         place, symbols = max(self.items), {}
         if place == self.first:
             self.collect(self.start, symbols)
-        for number, taken, origin in self.items[place]:
+        for number, taken, origin, *_ in self.items[place]:
             rule = self.grammar.rules[number]
             if origin < place and taken < len(rule.symbols):
                 self.collect(rule.symbols[taken], symbols)
         whole = any(map(self.is_whole, self.items.get(len(self.text), ())))
-        return Wanted(place, tuple(sorted(symbols, key=lambda s: (isinstance(s, Terminal), s))), whole)
+        ordered = tuple(sorted(symbols, key=lambda s: (isinstance(s, Terminal), s)))
+        at_places = {place: self.joined(self.going_on(place)) for place in self.items}
+        return Wanted(place, ordered, whole, at_places, self.joined(range(len(self.scopes.all))))
+
+    def going_on(self, place):
+        """The scopes of what may go on at a place, each once."""
+        unended = (item for item in self.items[place] if item[1] < len(self.grammar.rules[item[0]].symbols))
+        return dict.fromkeys(item[-1] for item in unended)
+
+    def joined(self, numbers):
+        """The variables of several scopes."""
+        return {name: kind for number in numbers for name, kind in self.scopes.all[number].items()}
 
     def is_whole(self, item):
         """Whether an item is the start from the text's beginning, taken whole."""
-        number, taken, origin = item
+        number, taken, origin, *_ = item
         rule = self.grammar.rules[number]
         return origin == self.first and rule.part == self.start and taken == len(rule.symbols)
 
     def collect(self, symbol, symbols):
         """The symbol as the book has it: a nonterminal by itself, a list by what it may go on with."""
-        if isinstance(symbol, Terminal) or symbol.kind == books.NONTERMINAL:
+        if isinstance(symbol, Terminal) or symbol.kind in NAMED:
             symbols[symbol] = None
         else:
             for each in self.grammar.begins(symbol):
