@@ -124,6 +124,29 @@ wanted tree 0 'variant 0
     variant 1
       number 18446744073709551615
   identifier net' "$built/forms.book" "$built/forms.txt"
+# names that the rule declares: their kinds, and then the variables by depth and index
+wanted read 0 'value (0 [0 1] (3 $0.0 (4 (0 [0] (3 $0.0 (2 $1.1))))))' examples/blend.book examples/blend.txt
+wanted tree 0 'variant 0
+  list
+    number 0
+    number 1
+  variant 3
+    declared variable 0.0
+    variant 4
+      variant 0
+        list
+          number 0
+        variant 3
+          declared variable 0.0
+          variant 2
+            declared variable 1.1' examples/blend.book examples/blend.txt
+printf 'spot' >"$built/spot.txt"
+wanted tree 0 'variant 0
+  absent
+  variant 2
+    variable of kind 1 spot' examples/blend.book "$built/spot.txt"
+printf '[%s] 1' "$(repeated 65 'share s,')" >"$built/names.txt"
+wanted read 1 'refused 41 place 0 kind 0 argument 0 line 0 column 0' examples/blend.book "$built/names.txt"
 doubling_book >"$built/doubling.book"
 : >"$built/empty.txt"
 cut_off 10000 "$built/doubling.book" "$built/empty.txt"

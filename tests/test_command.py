@@ -36,6 +36,19 @@ class Command(unittest.TestCase):
             status, out, _ = run("read", book, RULE)
             self.assertEqual((status, out), (0, b"value (1 (0 1) (2 (0 2) (0 3)))\n"))
 
+    def test_declared_names(self):
+        for name in ("blend.book", "blend.grammar"):
+            status, out, _ = run("read", f"{ROOT}/examples/{name}", f"{ROOT}/examples/blend.txt")
+            self.assertEqual((status, out), (0, b"value (0 [0 1] (3 $0.0 (4 (0 [0] (3 $0.0 (2 $1.1))))))\n"))
+        status, out, _ = run("read", f"{ROOT}/examples/blend.grammar", "-", "--json", given=b"[price p] p")
+        amount = json.loads(out)["tree"]["items"][1]
+        self.assertEqual((status, amount["items"]), (0, [{"form": "declared", "depth": 0, "index": 0}]))
+        names = b"[%s] 1" % b", ".join([b"share s"] * 65)
+        status, out, _ = run("read", f"{ROOT}/examples/blend.grammar", "-", "--line", given=names)
+        self.assertEqual((status, out), (1, b"refused 41 place 0 kind 0 argument 0 line 0 column 0\n"))
+        out = run("read", f"{ROOT}/examples/blend.grammar", "-", "--json", given=names)[1]
+        self.assertEqual(json.loads(out)["refusal"], "too_many_names")
+
     def test_a_refusal(self):
         status, out, said = run("read", GRAMMAR, "-", given=b"1 - x\n")
         self.assertEqual((status, out), (1, b""))

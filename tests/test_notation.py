@@ -46,11 +46,12 @@ class RoundTrips(unittest.TestCase):
             kinds |= {step.kind for variant in book.variants for step in variant.steps}
         self.assertEqual((kinds, marks, len(flags)), (set(range(15)), {0, 1, 2, 3}, 16))
 
-    def test_the_example(self):
-        with open(f"{ROOT}/examples/rules.grammar", encoding="utf-8") as file:
-            text = file.read()
-        with open(f"{ROOT}/examples/rules.book", "rb") as file:
-            self.assertEqual(from_text(text).data, file.read())
+    def test_the_examples(self):
+        for name in ("rules", "blend"):
+            with open(f"{ROOT}/examples/{name}.grammar", encoding="utf-8") as file:
+                text = file.read()
+            with open(f"{ROOT}/examples/{name}.book", "rb") as file:
+                self.assertEqual(from_text(text).data, file.read())
 
     def test_names_and_comments_stay(self):
         text = "amount\n  | number  # 0 plain\n"
@@ -270,7 +271,7 @@ class Notes(unittest.TestCase):
             self.assertTrue(any(part in note for note in placed), (text, placed))
 
     def test_a_good_book_has_none(self):
-        for name in ("rules.grammar", "rules.book"):
+        for name in ("rules.grammar", "rules.book", "blend.grammar", "blend.book"):
             with open(f"{ROOT}/examples/{name}", "rb") as file:
                 self.assertEqual(notes(view(file.read())), [])
         self.assertEqual(notes(view(b"e\n  | number\n  | e ; left 1 passing\n  | 'x' e ; right 2\n")), [])
