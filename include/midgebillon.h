@@ -70,6 +70,7 @@ enum {
     MIDGEBILLON_TOO_DEEP = 21,        /* the run nests beyond 200 */
     MIDGEBILLON_TOO_MANY_PARSES = 22, /* a set would have a 65th parse */
     MIDGEBILLON_TOO_MANY_CELLS = 23,  /* a 4,097th cell would be made */
+    MIDGEBILLON_TOO_MANY_NAMES = 41,  /* a 65th declared name would be open: a limit of the run as 20 to 23 are */
     MIDGEBILLON_NO_PARSE = 30,        /* no parse: place, kind and argument say why */
     MIDGEBILLON_NONE_WHOLE = 31,      /* parses, and none reaches the end of the text */
     MIDGEBILLON_DIFFERENT_VALUES = 32 /* parses that reach the end have different values */
@@ -87,9 +88,13 @@ enum {
     MIDGEBILLON_WRONG_KIND = 8,          /* another kind of variable was wanted (that kind) */
     MIDGEBILLON_DIGITS_WANTED = 9,       /* digits were wanted */
     MIDGEBILLON_TOO_LARGE = 10,          /* a number was too large */
-    MIDGEBILLON_NONTERMINAL_WANTED = 11, /* a nonterminal was wanted (its number) */
+    MIDGEBILLON_NONTERMINAL_WANTED = 11, /* a nonterminal was wanted (its number, or MIDGEBILLON_DECLARED_NAME) */
     MIDGEBILLON_MORE_WANTED = 12         /* more was wanted (the nonterminal whose variant it was) */
 };
+
+/* The argument of error 11 where a declared name was wanted: nonterminals are numbered 0 to 31. No answer has it, since
+ * where a declared name may stand something else may, too, and the error is then 12. */
+enum { MIDGEBILLON_DECLARED_NAME = 32 };
 
 /* how many numbers a cell and a parse have */
 enum { MIDGEBILLON_CELL_SIZE = 3, MIDGEBILLON_PARSE_SIZE = 4 };
@@ -103,10 +108,9 @@ enum {
     MIDGEBILLON_NAME_FORM = 4,     /* an identifier: its place in the text, its length */
     MIDGEBILLON_NUMBER_FORM = 5,   /* a number: its high 32 bits, its low 32 bits */
     MIDGEBILLON_VARIABLE_FORM = 6, /* a variable: its name's number in the book, the name's kind */
-    MIDGEBILLON_ABSENT_FORM = 7,   /* an optional that is absent */
+    MIDGEBILLON_ABSENT_FORM = 7,   /* an optional that is absent, or the names of a binder whose opening is */
     MIDGEBILLON_LIST_FORM = 8,     /* a list: the chain of its values */
-    /* a declared variable: its binder's depth outwards, its index within that binder; no accepted book gives one yet */
-    MIDGEBILLON_DECLARED_FORM = 9
+    MIDGEBILLON_DECLARED_FORM = 9  /* a declared variable: its binder's depth outwards, its index within that binder */
 };
 
 /* the four numbers of a parse, by their places in it */
@@ -132,8 +136,9 @@ enum { MIDGEBILLON_LEFT, MIDGEBILLON_RIGHT, MIDGEBILLON_NONE, MIDGEBILLON_BOTH }
  * its rest (where it ends in the text), level, associativity (0 Left, 1 Right, 2 None, 3 Both) and value cell; in
  * `cells` three numbers for each cell, cell n at 3n - 3, whose first says what it is: 1 empty chain; 2 chain, item;
  * 3 variant, chain; 4 name's place in the text, length; 5 high half, low half of a number; 6 name's number in the book,
- * kind; 7 absent; 8 list of a chain. A chain, an item and a value are numbers of cells. What is not used of the first
- * 12,288 and 256 numbers is 0; in refusals 20 to 23 and 30 all of them are. Numbers beyond those are never touched. */
+ * kind; 7 absent; 8 list of a chain; 9 depth, index of a declared variable. A chain, an item and a value are numbers of
+ * cells. What is not used of the first 12,288 and 256 numbers is 0; in refusals 20 to 23, 41 and 30 all of them are.
+ * Numbers beyond those are never touched. */
 void midgebillon_read(const uint8_t *book, size_t book_length,
                       const uint8_t *text, size_t text_length,
                       uint32_t start, uint32_t allowance,

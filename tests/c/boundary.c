@@ -38,7 +38,7 @@ static void close_pages(void) {
 static int is_refusal(uint32_t n) {
     return (MIDGEBILLON_SHORT_LISTS <= n && n <= MIDGEBILLON_HIGH_BYTE) ||
            (MIDGEBILLON_NO_UNIT <= n && n <= MIDGEBILLON_TOO_MANY_CELLS) ||
-           (MIDGEBILLON_NO_PARSE <= n && n <= MIDGEBILLON_DIFFERENT_VALUES);
+           (MIDGEBILLON_NO_PARSE <= n && n <= MIDGEBILLON_DIFFERENT_VALUES) || n == MIDGEBILLON_TOO_MANY_NAMES;
 }
 
 /* ---- midgebillon_read */
@@ -193,6 +193,16 @@ static void answers_that_are_none(struct rule rule, enum side side) {
     free(held);
 }
 
+/* A line for each refusal that there is, and for no other number. */
+static void lines_of_refusals(struct rule rule, enum side side) {
+    uint32_t numbers[MIDGEBILLON_ANSWER] = {0};
+    read_rule(rule, side);
+    for (numbers[MIDGEBILLON_REFUSAL] = 1; numbers[MIDGEBILLON_REFUSAL] < 60; numbers[MIDGEBILLON_REFUSAL]++) {
+        lend_sealed(&answer, numbers, sizeof numbers, side);
+        CHECK((print_in(MOST_OUT, side) != 0) == is_refusal(numbers[MIDGEBILLON_REFUSAL]));
+    }
+}
+
 /* ---- midgebillon_furthest */
 
 /* so many numbers of errors, each of kind 1 at places 5, 6 and so on, and an answer of so many numbers */
@@ -266,7 +276,7 @@ static void print_by_chance(struct bytes a_book, enum side side) {
     uint32_t *list = lend(&cells, cells_length * number, side);
     for (size_t i = 0; i < cells_length; i++) list[i] = up_to(30) ? up_to(9 + (uint32_t)i / 3) : drawn();
     uint32_t *numbers = lend(&answer, answer_length * number, side);
-    for (size_t i = 0; i < answer_length; i++) numbers[i] = up_to(5) ? up_to(32) : drawn();
+    for (size_t i = 0; i < answer_length; i++) numbers[i] = up_to(5) ? up_to(42) : drawn();
     if (up_to(2)) numbers[MIDGEBILLON_REFUSAL] = 0;
     seal_lists();
     print_in(up_to(300), side);
@@ -299,6 +309,7 @@ static void on_example(struct rule value, struct rule refused, enum side side) {
     lines_of_all_lengths(value, side);
     lines_of_all_lengths(refused, side);
     answers_that_are_none(value, side);
+    lines_of_refusals(value, side);
     errors_of_all_lengths(side);
 }
 

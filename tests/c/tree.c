@@ -317,6 +317,40 @@ static void check_plain(void) {
     free_tree(tree);
 }
 
+/* declared variables, made by hand */
+static void check_declared(void) {
+    static const uint32_t cells[] = {MIDGEBILLON_DECLARED_FORM, 0, 0, MIDGEBILLON_DECLARED_FORM, UINT32_MAX, 7};
+    struct midgebillon_tree tree = tree_of(none, none, cells, sizeof cells / sizeof *cells);
+    CHECK(midgebillon_tree_form(&tree, 1) == MIDGEBILLON_DECLARED_FORM);
+    CHECK(midgebillon_tree_depth(&tree, 1) == 0 && midgebillon_tree_index(&tree, 1) == 0);
+    CHECK(midgebillon_tree_depth(&tree, 2) == UINT32_MAX && midgebillon_tree_index(&tree, 2) == 7);
+    for (uint32_t cell = 0; cell <= 3; cell++) check_cell(&tree, cell);
+    free_tree(tree);
+}
+
+/* A text that declares names in two openings, and uses the second of the outer one in the inner. */
+static void check_binder(void) {
+    static uint32_t cells[MIDGEBILLON_CELLS], parses[MIDGEBILLON_PARSES];
+    uint32_t answer[MIDGEBILLON_ANSWER], found = 0;
+    /* the word `k`; a binder of nonterminal 1; that is a variable, or a binder in parentheses */
+    uint8_t book[] = "\1\0\1k\0\2\3\1\0\2\3\377\3\1\1\377\3\1\1\377\3\1\3"
+                     "\5\16\1[]\4\0\0\0\0(\0\0\10\0\0\0\0)\0\0";
+    uint8_t text[] = "[k a, k b] ([k c] b)";
+    struct rule rule = {{book, sizeof book - 1}, {text, sizeof text - 1}, 0, MIDGEBILLON_ALLOWANCE};
+    check_reading(rule);
+    midgebillon_read(rule.book.at, rule.book.length, rule.text.at, rule.text.length, rule.start, rule.allowance, cells,
+                     MIDGEBILLON_CELLS, parses, MIDGEBILLON_PARSES, answer, MIDGEBILLON_ANSWER);
+    CHECK(answer[MIDGEBILLON_REFUSAL] == 0);
+    struct midgebillon_tree tree = tree_of(rule.book, rule.text, cells, MIDGEBILLON_CELLS);
+    for (uint32_t cell = 1; cell <= answer[MIDGEBILLON_VALUE]; cell++) {
+        if (midgebillon_tree_form(&tree, cell) != MIDGEBILLON_DECLARED_FORM) continue;
+        CHECK(midgebillon_tree_depth(&tree, cell) == 1 && midgebillon_tree_index(&tree, cell) == 1);
+        found++;
+    }
+    CHECK(found == 1);
+    free_tree(tree);
+}
+
 /* ---- Books */
 
 /* a variable of each name number that matters */
@@ -372,6 +406,8 @@ int main(int argc, char **argv) {
     check_cycles();
     check_long_chain();
     check_plain();
+    check_declared();
+    check_binder();
     check_names();
     for (int i = 0; i < RANDOM_CELLS; i++) {
         snprintf(trying, sizeof trying, "cells by chance, %d", i);
