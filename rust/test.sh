@@ -48,6 +48,7 @@ if command -v rustfmt >/dev/null; then cargo fmt --check; fi
 
 book=../examples/rules.book
 wanted 0 'value (1 (0 1) (2 (0 2) (0 3)))' read $book ../examples/rule.txt
+wanted 0 'value (0 [0 1] (3 $0.0 (4 (0 [0] (3 $0.0 (2 $1.1))))))' read ../examples/blend.book ../examples/blend.txt
 wanted 1 'refused 30 place 2 kind 1 argument 41 line 1 column 3' read $book "$(text open '(1')"
 # a tab moves the column to the next of 9, 17, 25 and so on
 wanted 1 'refused 30 place 3 kind 1 argument 41 line 1 column 11' read $book "$(text tab '\t(1')"

@@ -41,6 +41,9 @@ pub enum ErrorKind {
     TooLarge,
     /// 11: the nonterminal of this number was wanted.
     NonterminalWanted(u32),
+    /// 11 with argument 32, which is no nonterminal's number: a declared name was wanted. No answer tells it, since
+    /// there is always something else that would do.
+    DeclaredNameWanted,
     /// 12: a variant of the nonterminal of this number wanted more.
     MoreWanted(u32),
     /// What this version of the crate has no name for. The library of this version gives no such error.
@@ -51,6 +54,9 @@ pub enum ErrorKind {
         argument: u32,
     },
 }
+
+// The argument of error 11 where a declared name was wanted: a book has nonterminals 0 to 31.
+const DECLARED_NAME: u32 = 32;
 
 impl ErrorKind {
     /// The kind of these numbers. It loses nothing: `number` and `argument` give them back.
@@ -67,6 +73,7 @@ impl ErrorKind {
             (8, wanted) => ErrorKind::WrongKind(wanted),
             (9, 0) => ErrorKind::DigitsWanted,
             (10, 0) => ErrorKind::TooLarge,
+            (11, DECLARED_NAME) => ErrorKind::DeclaredNameWanted,
             (11, nonterminal) => ErrorKind::NonterminalWanted(nonterminal),
             (12, nonterminal) => ErrorKind::MoreWanted(nonterminal),
             _ => unknown,
@@ -86,18 +93,20 @@ impl ErrorKind {
             ErrorKind::WrongKind(_) => 8,
             ErrorKind::DigitsWanted => 9,
             ErrorKind::TooLarge => 10,
-            ErrorKind::NonterminalWanted(_) => 11,
+            ErrorKind::NonterminalWanted(_) | ErrorKind::DeclaredNameWanted => 11,
             ErrorKind::MoreWanted(_) => 12,
             ErrorKind::Unknown { kind, .. } => kind,
         }
     }
 
-    /// What the error says besides, as a number: a character's code, or the number in the variant; else 0.
+    /// What the error says besides, as a number: a character's code, the number in the variant, or 32 for a declared
+    /// name; else 0.
     pub fn argument(&self) -> u32 {
         match *self {
             ErrorKind::CharacterWanted(character) => character.into(),
             ErrorKind::WordWanted(n) | ErrorKind::WrongKind(n) => n,
             ErrorKind::NonterminalWanted(n) | ErrorKind::MoreWanted(n) => n,
+            ErrorKind::DeclaredNameWanted => DECLARED_NAME,
             ErrorKind::Unknown { argument, .. } => argument,
             _ => 0,
         }
@@ -115,11 +124,12 @@ impl fmt::Display for ErrorKind {
             }
             ErrorKind::VariableFound => f.write_str("a variable was found where none may stand"),
             ErrorKind::ReservedFound => f.write_str("a reserved word was found"),
-            ErrorKind::UnknownName => f.write_str("this name isn't one of the book's starting names"),
+            ErrorKind::UnknownName => f.write_str("this name is neither one of the book's starting names nor declared"),
             ErrorKind::WrongKind(kind) => write!(f, "a variable of kind {kind} was wanted, and this is of another"),
             ErrorKind::DigitsWanted => f.write_str("digits were wanted"),
             ErrorKind::TooLarge => write!(f, "this number is above {}", u64::MAX),
             ErrorKind::NonterminalWanted(number) => write!(f, "nonterminal {number} of the book was wanted"),
+            ErrorKind::DeclaredNameWanted => f.write_str("a declared name was wanted"),
             ErrorKind::MoreWanted(number) => write!(f, "nonterminal {number} of the book wanted more"),
             ErrorKind::Unknown { kind, argument } => write!(f, "an error of kind {kind}, argument {argument}"),
         }
@@ -160,7 +170,7 @@ mod tests {
     #[test]
     fn numbers_come_back() {
         for kind in 0..15 {
-            for argument in [0, 1, 41, 0xD800, u32::MAX] {
+            for argument in [0, 1, 31, 32, 33, 41, 0xD800, u32::MAX] {
                 let made = ErrorKind::of(kind, argument);
                 assert_eq!((made.number(), made.argument()), (kind, argument));
             }
@@ -168,5 +178,7 @@ mod tests {
         // a code that is no character's
         assert_eq!(ErrorKind::of(1, 0xD800), ErrorKind::Unknown { kind: 1, argument: 0xD800 });
         assert_eq!(ErrorKind::of(13, 2).to_string(), "an error of kind 13, argument 2");
+        assert_eq!(ErrorKind::of(11, 31), ErrorKind::NonterminalWanted(31));
+        assert_eq!(ErrorKind::of(11, 32).to_string(), "a declared name was wanted");
     }
 }

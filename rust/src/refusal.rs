@@ -80,6 +80,8 @@ pub enum Refusal {
     NoneWhole,
     /// 32: parses that reach the end have different values.
     DifferentValues,
+    /// 41: a part of the text would have a 65th declared name around it. As 20 to 23, a limit of the run.
+    TooManyNames,
     /// What this version of the crate has no name for. The library of this version gives no such refusal.
     Unknown {
         /// The refusal's number.
@@ -111,6 +113,7 @@ impl Refusal {
             30 => Refusal::NoParse(Error { place, kind: ErrorKind::of(kind, argument) }),
             31 => Refusal::NoneWhole,
             32 => Refusal::DifferentValues,
+            41 => Refusal::TooManyNames,
             _ => Refusal::Unknown { number },
         })
     }
@@ -136,6 +139,7 @@ impl Refusal {
             Refusal::NoParse(_) => 30,
             Refusal::NoneWhole => 31,
             Refusal::DifferentValues => 32,
+            Refusal::TooManyNames => 41,
             Refusal::Unknown { number } => number,
         }
     }
@@ -176,6 +180,9 @@ impl fmt::Display for Refusal {
             Refusal::NoParse(error) => error.fmt(f),
             Refusal::NoneWhole => f.write_str("the text is read from its beginning, but not up to its end"),
             Refusal::DifferentValues => f.write_str("the book reads the text in several ways, with different values"),
+            Refusal::TooManyNames => {
+                f.write_str("a part of the text has more than 64 declared names around it: declare fewer names at once")
+            }
             Refusal::Unknown { number } => write!(f, "refusal {number}"),
         }
     }
@@ -208,9 +215,11 @@ mod tests {
 
     #[test]
     fn numbers_come_back() {
-        for number in 1..40 {
+        for number in 1..50 {
             assert_eq!(Refusal::of(&[number, 7, 3, 0, 0, 0, 0]).unwrap().number(), number);
         }
-        assert_eq!(Refusal::of(&[24, 0, 0, 0, 0, 0, 0]), Some(Refusal::Unknown { number: 24 }));
+        for number in [24, 40, 42] {
+            assert_eq!(Refusal::of(&[number, 0, 0, 0, 0, 0, 0]), Some(Refusal::Unknown { number }));
+        }
     }
 }

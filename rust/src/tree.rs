@@ -13,8 +13,8 @@ use std::{fmt, ptr, vec};
 /// calls within calls needs the stack for it.
 ///
 /// Trees are equal by value: variants by number and items, identifiers by spelling, variables by number and kind of
-/// their names. Within one reading that takes a moment, since equal values are one cell; of two readings it takes time
-/// in proportion to their cells.
+/// their names, declared ones by depth and index. Within one reading that takes a moment, since equal values are one
+/// cell; of two readings it takes time in proportion to their cells.
 ///
 /// `Display` writes a tree as a line of the library does: `(1 (0 1) (0 2))`. It writes a part wherever it is used, so
 /// it can be long; a writer may end it by an error, and [`Reading::line`](crate::Reading::line) has a limit.
@@ -62,14 +62,15 @@ pub enum Tree<'r> {
         /// The name's spelling in the book.
         spelling: &'r str,
     },
-    /// A declared variable. No accepted book gives one yet.
+    /// A declared variable: a name that the text itself declares. It has no number, no kind and no spelling; the kinds
+    /// are in the list that is the first item of its binder's variant.
     Declared {
         /// How many openings that were read lie between it and its binder.
         depth: u32,
         /// Its index among its binder's names, from 0.
         index: u32,
     },
-    /// An optional that is absent.
+    /// An optional that is absent, or the names of a binder whose opening is.
     Absent,
 }
 

@@ -3,6 +3,9 @@
 /// Numbers, minus, times and parentheses.
 pub const EXAMPLE: &[u8] = include_bytes!("../../../examples/rules.book");
 
+/// Names that a text declares, as shares (kind 0) and prices (1), and the starting name `spot`, a price.
+pub const BLEND: &[u8] = include_bytes!("../../../examples/blend.book");
+
 /// Bytes that are written in hexadecimal, with spaces between any of them.
 pub fn bytes(digits: &str) -> Vec<u8> {
     let digits: Vec<char> = digits.chars().filter(|c| !c.is_whitespace()).collect();

@@ -17,6 +17,7 @@ fn meet(random: &mut Random, met: &mut Met, book: &[u8], text: &[u8]) {
 
 fn text(random: &mut Random) -> Vec<u8> {
     let tokens = ["1", "23", "-", "*", "(", ")", " ", "\n", "\t", "// -\n", "x", "if", "net", ",", ";", "/", "é"];
+    let tokens = [&tokens[..], &["[", "]", "[net a]", "[if b, net x]", " a", " b"]].concat();
     let length = random.below(12);
     let parts: Vec<_> = (0..length).map(|_| random.one_of(&tokens)).collect();
     parts.concat().into_bytes()
@@ -29,7 +30,7 @@ fn damage(random: &mut Random, book: &mut Vec<u8>) {
     let place = random.below(book.len());
     match random.below(4) {
         0 => book[place] = random.byte(),
-        1 => book[place] = random.below(14) as u8,
+        1 => book[place] = random.below(15) as u8,
         2 => book.insert(place + random.below(2), random.byte()),
         _ => drop(book.remove(place)),
     }
@@ -64,11 +65,12 @@ fn mere_bytes() {
     assert!(met.is_superset(&Met::from([3, 4, 6])), "{met:?}");
 }
 
-// A book that is accepted, with two words, two names and three nonterminals, the last of mark 2.
+// A book that is accepted, with two words, two names and four nonterminals, the first of mark 3 and the last of mark 2.
 fn book(random: &mut Random) -> Vec<u8> {
-    let mut book = b"\x02\x01\x02if\x00\x03net\x02\x05\x01x\x03\x03net\x03".to_vec();
-    let mut variants = Vec::new();
-    let mut steps = Vec::new();
+    let mut book = b"\x02\x01\x02if\x00\x03net\x02\x05\x01x\x03\x03net\x04".to_vec();
+    book.extend([3, 1]);
+    let mut variants = vec![255, 3, 1, 1];
+    let mut steps = vec![14, random.below(4) as u8, b'[', b']'];
     for _ in 0..2 {
         let count = 1 + random.below(3);
         book.extend([random.below(2) as u8, count as u8]);
@@ -88,11 +90,11 @@ fn push_variant(random: &mut Random, variants: &mut Vec<u8>, steps: &mut Vec<u8>
     let (level, associativity) = random.one_of(&[(255, 3), (255, 3), (1, 0), (1, 1), (2, 2), (2, 3)]);
     variants.extend([level, associativity, 1, count as u8]);
     for _ in 0..count {
-        let nonterminal = random.below(3) as u8;
+        let nonterminal = random.below(4) as u8;
         steps.extend(match random.below(14) as u8 {
             0 => [0, random.one_of(b"-*;"), 0, 0],
             1 => [1, random.below(2) as u8, 0, 0],
-            5 => [5, random.one_of(&[3, 5]), 0, 0],
+            5 => [5, random.one_of(&[1, 3, 5]), 0, 0],
             kind @ (8..=11) => [kind, nonterminal, 0, 0],
             kind @ (12 | 13) => [kind, nonterminal, b'(', b')'],
             kind => [kind, 0, 0, 0],
@@ -104,10 +106,15 @@ fn push_variant(random: &mut Random, variants: &mut Vec<u8>, steps: &mut Vec<u8>
 fn accepted_books() {
     let mut random = Random::new(3);
     let mut met = Met::new();
+    let mut declared = 0;
     for _ in 0..3000 {
-        let (book, text) = (book(&mut random), text(&mut random));
+        let names = random.one_of(&["", "[net a] a", "[if b, net x,] x"]);
+        let (book, text) = (book(&mut random), [names.as_bytes(), &text(&mut random)].concat());
         meet(&mut random, &mut met, &book, &text);
+        let reading = held(&book, &text, 0, 1000);
+        declared += reading.parses().filter(|parse| parse.value.to_string().contains("$0.")).count();
     }
+    assert!(declared > 20, "{declared}");
     let wanted = Met::from([0, 2, 9, 11, 20, 21, 22, 30, 31, 32]);
     assert!(met.is_superset(&wanted) && met.is_disjoint(&Met::from([3, 4, 5, 6, 7, 8])), "{met:?}");
 }

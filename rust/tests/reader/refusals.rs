@@ -1,7 +1,7 @@
 //! Each refusal and each kind of error, by an input that meets it.
 
 use crate::held::held;
-use crate::inputs::{bytes, much_stack, number_and, EXAMPLE};
+use crate::inputs::{bytes, much_stack, number_and, BLEND, EXAMPLE};
 use midgebillon::{furthest, Error, ErrorKind, Refusal, MOST_WORK};
 
 // The refusal of a text, which says this.
@@ -90,6 +90,38 @@ fn of_the_limits() {
     assert_eq!((cells, cells.number()), (Refusal::TooManyCells, 23));
 }
 
+// A text whose names are declared so: an opening within another.
+fn declaring(outer: usize, inner: usize) -> String {
+    let names = |count| vec!["share s"; count].join(",");
+    format!("[{}] ([{}] 1)", names(outer), names(inner))
+}
+
+#[test]
+fn of_declared_names() {
+    let says = "a part of the text has more than 64 declared names around it: declare fewer names at once";
+    for (outer, inner) in [(65, 0), (0, 65), (40, 25), (64, 1)] {
+        let names = refused(BLEND, declaring(outer, inner).as_bytes(), says);
+        assert_eq!((names, names.number()), (Refusal::TooManyNames, 41));
+    }
+    for (outer, inner) in [(64, 0), (40, 24), (0, 64)] {
+        assert!(held(BLEND, declaring(outer, inner).as_bytes(), 0, MOST_WORK).value().is_ok());
+    }
+}
+
+// Each byte that a binder's book fixes.
+#[test]
+fn of_a_binder() {
+    for (place, byte) in [(24, 0), (24, 2), (28, 1), (29, 0), (30, 3), (31, 2), (49, 8), (50, 2), (51, 32), (52, 127)] {
+        let mut book = BLEND.to_vec();
+        book[place] = byte;
+        let field = refused(&book, b"1", &format!("at place {place} of the book: this byte is out of range"));
+        assert_eq!(field, Refusal::BadField { place: place as u32 });
+    }
+    // kind 14 elsewhere, and a mark that there isn't
+    assert!(matches!(refused(&with(23, 14), b"1", "at place 23 of the book: this byte is out of range").number(), 6));
+    assert!(matches!(refused(&with(3, 4), b"1", "at place 3 of the book: this byte is out of range").number(), 6));
+}
+
 // More than 2,600 KiB, up to the deepest level that there is.
 #[test]
 fn of_much_stack() {
@@ -110,6 +142,7 @@ fn errors() {
     use ErrorKind::*;
     let ended = "the text ended where an identifier, a number or a variable was wanted";
     let large = "this number is above 18446744073709551615";
+    let unknown = "this name is neither one of the book's starting names nor declared";
     let numbers = [
         error([0, b';', 0, 0], "1 x", 2, CharacterWanted(';'), "the character `;` was wanted"),
         error([1, 0, 0, 0], "1 x", 2, WordWanted(0), "word 0 of the book was wanted"),
@@ -117,7 +150,7 @@ fn errors() {
         error([2, 0, 0, 0], "1", 1, TextEnded, ended),
         error([6, 0, 0, 0], "1 x", 2, VariableFound, "a variable was found where none may stand"),
         error([2, 0, 0, 0], "1 if", 2, ReservedFound, "a reserved word was found"),
-        error([4, 0, 0, 0], "1 y", 2, UnknownName, "this name isn't one of the book's starting names"),
+        error([4, 0, 0, 0], "1 y", 2, UnknownName, unknown),
         error([5, 3, 0, 0], "1 x", 2, WrongKind(3), "a variable of kind 3 was wanted, and this is of another"),
         error([3, 0, 0, 0], "1 x", 2, DigitsWanted, "digits were wanted"),
         error([3, 0, 0, 0], "1 18446744073709551616", 2, TooLarge, large),
@@ -125,6 +158,23 @@ fn errors() {
         error([12, 0, b'(', b')'], "1 (", 3, MoreWanted(0), "nonterminal 0 of the book wanted more"),
     ];
     assert_eq!(numbers.to_vec(), (1..=12).collect::<Vec<_>>());
+}
+
+#[test]
+fn errors_of_declared_names() {
+    use ErrorKind::*;
+    let cases = [
+        ("[a] 1", 1, MoreWanted(0)),
+        ("[,] 1", 1, MoreWanted(0)),
+        ("[share", 6, TextEnded),
+        ("[share 7] 1", 7, IdentifierWanted),
+        ("[share a price b] 1", 9, CharacterWanted(']')),
+        ("[share a]", 9, NonterminalWanted(1)),
+    ];
+    for (text, place, kind) in cases {
+        let refusal = held(BLEND, text.as_bytes(), 0, MOST_WORK).value().unwrap_err();
+        assert_eq!(refusal, Refusal::NoParse(Error { place, kind }), "{text}");
+    }
 }
 
 #[test]
@@ -136,6 +186,7 @@ fn furthest_error() {
         error(5, ErrorKind::WordWanted(7)),
         error(5, ErrorKind::WordWanted(6)),
         error(4, ErrorKind::CharacterWanted('é')),
+        error(5, ErrorKind::DeclaredNameWanted),
     ];
     assert_eq!(furthest(&errors), Some(errors[3]));
     let (first, second) = errors.split_at(2);

@@ -1,7 +1,7 @@
 //! Trees of every form, large ones, and equal ones.
 
 use crate::held::held;
-use crate::inputs::{bytes, doubling, number_and, EXAMPLE};
+use crate::inputs::{bytes, doubling, number_and, BLEND, EXAMPLE};
 use midgebillon::{read, Associativity, Items, Reading, Tree, MOST_WORK};
 
 fn reading<'a>(book: &'a [u8], text: &'a str) -> Reading<'a> {
@@ -74,6 +74,32 @@ fn lists() {
     });
     // equal identifiers are one cell
     assert_eq!(places.collect::<Vec<_>>(), [3, 6, 3]);
+}
+
+#[test]
+fn declared_names() {
+    let text = "[share hard, price basis] hard * ([share soft] soft * basis)";
+    assert_eq!(line(BLEND, text), "(0 [0 1] (3 $0.0 (4 (0 [0] (3 $0.0 (2 $1.1))))))");
+    assert_eq!(line(BLEND, "[share a, share a] a * spot"), "(0 [0 0] (3 $0.1 (2 $spot)))");
+    assert_eq!(line(BLEND, "[price spot] ([] spot)"), "(0 [1] (4 (0 [] (2 $1.0))))");
+    // without the opening the names are absent, and the depth doesn't grow
+    assert_eq!(line(BLEND, "[price spot] (spot)"), "(0 [1] (4 (0 - (2 $0.0))))");
+    let read = reading(BLEND, "[price a, price b] b");
+    let binder = items(read.value().unwrap());
+    assert_eq!(binder.get(0).unwrap().to_string(), "[1 1]");
+    assert!(matches!(items(binder.get(1).unwrap()).get(0), Some(Tree::Declared { depth: 0, index: 1 })));
+}
+
+#[test]
+fn equal_by_depth_and_index() {
+    let value = |text| reading(BLEND, text);
+    let first = value("[price a, price b] b");
+    assert_eq!(first.value(), value("[price b, price a] a").value());
+    for other in ["[price a, price b] a", "[price a] ([price c, price b] b)", "[price a, price b] spot"] {
+        assert_ne!(first.value(), value(other).value());
+    }
+    let (inner, outer) = (value("[price a] ([price b] b)"), value("[price a] ([price b] a)"));
+    assert_ne!(inner.value(), outer.value());
 }
 
 #[test]
