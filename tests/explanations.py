@@ -62,6 +62,7 @@ amount
 """
 SHARE = "words share price\nnames spot:0\nrule (declares names)\n  | ('[' names,* ']')? sum\nsum\n  | '=' variable:0\n"
 TWO_SUMS = BLEND.replace("left 2", "both 2")
+OPENING = BLEND.replace("'(' rule ')'", "'[' number ']'")
 EMPTY = "e\n  | part*\n\npart\n  | empty\n  | number\n"
 NESTED = "e\n  | '[' part ']'\n\npart\n  | number ',' part\n  | number\n"
 IDENTIFIER_OR_KIND = "identifier\n  | number variable:3"  # one step, and then another variant
@@ -159,6 +160,7 @@ CASES = [
     ("30, 12: more of a list", step_book("('(' item,* ')')"), "1 (#,", 0, MOST_WORK),
     ("30, 12: a declared name without its kind", BLEND, "[a] a", 0, MOST_WORK),
     ("30, 12: a misspelled kind of a declared name", BLEND, "[share a, prise b] a * b", 0, MOST_WORK),
+    ("30, 12: the opening of declared names, and not of the amount", OPENING, "[2]", 0, MOST_WORK),
     ("30, 1: no comma between declared names", BLEND, "[share a share b] a", 0, MOST_WORK),
     ("30, 4: a declared name is missing at the end", BLEND, "[share", 0, MOST_WORK),
     ("30, 3: a declared name is missing", BLEND, "[share] 2", 0, MOST_WORK),
