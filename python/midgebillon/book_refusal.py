@@ -35,8 +35,13 @@ COUNTS = {
     "nonterminal": f"1 to {books.MOST_NONTERMINALS}",
 }
 # What a nonterminal of mark 3 has: its variant's bytes, and its step's kind.
-OF_BINDER = {"level": books.DEFAULT_LEVEL, "associativity": books.BOTH, "flags": books.COMMITTED, "steps": 1}
-OF_BINDER |= {"kind": books.BINDER}
+OF_BINDER = {
+    "level": books.DEFAULT_LEVEL,
+    "associativity": books.BOTH,
+    "flags": books.COMMITTED,
+    "steps": 1,
+    "kind": books.BINDER,
+}
 
 
 def _called(field):
