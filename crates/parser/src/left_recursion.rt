@@ -48,7 +48,7 @@ fn rounds(
 }
 
 // A first run, and more if it asked for its own parses.
-fn run_call(
+fn call(
     book: &[u8],
     index: &[usize],
     text: &[u8],
@@ -107,7 +107,7 @@ pub fn enter(
     if !e.runs {
         return o;
     }
-    run_call(
+    call(
         book,
         index,
         text,

@@ -1,20 +1,19 @@
 // A call runs its variants; a variant runs its steps; a step calls a nonterminal again.
 //
-// A row's number is the levels of nesting left. `variant` and `one_run`, and `rounds` and `run_call` of
-// left_recursion.rt, take the row of the call at hand; `enter` and all others here take the first free row, which the
+// A row's number is the levels of nesting left. `variant` and `one_run`, and `rounds` and `call` of left_recursion.rt,
+// take the row of the call at hand; `enter`, the others here and those of names.rt take the first free row, which the
 // next call or declared name gets. A path's own call has the row `here.call`, and its parse joins that row's set of the
 // run as the path ends.
 //
 // What ends the cycle: a call runs its variants, a parse is followed, and what stands behind a declared name is read,
 // with one level less; on one level the steps that remain become fewer.
 ghost use Rattle.transitions.specs.Contracts.{Does, Continues};
-ghost use Rattle.parser.specs.Cycle.{CanRun, CanTry, OnPath, OnNames};
+ghost use Rattle.parser.specs.Cycle.{CanRun, CanTry, OnPath};
 ghost use Rattle.parser.specs.Cycle.{runsOnce, tries, descends, followsEach, chooses, proceeds};
-ghost use Rattle.parser.specs.Cycle.{closesNames, declaresOne, choosesNames};
 use crate::left_recursion::enter;
+use crate::names::choose;
 use errors::Failure;
 use transitions::Doing;
-use transitions::Names;
 use transitions::Next;
 use transitions::Outcome;
 use transitions::Progress;
@@ -25,15 +24,12 @@ use transitions::after_variant;
 use transitions::begin_child;
 use transitions::begin_variant;
 use transitions::both_sides;
-use transitions::declare_name;
 use transitions::done;
 use transitions::finish;
 use transitions::first_side;
 use transitions::goes_on;
 use transitions::next_of;
 use transitions::no_names;
-use transitions::open_body;
-use transitions::spend;
 use transitions::take_step;
 use transitions::without_failure;
 
@@ -148,7 +144,7 @@ fn descend(
 }
 
 // What follows each parse that the row found, one level further in.
-fn follow(
+pub fn follow(
     book: &[u8],
     index: &[usize],
     text: &[u8],
@@ -260,140 +256,6 @@ fn choice(
     both_sides(text, rows, here, a, b)
 }
 
-// ---- The names of an opening
-// They stop, and the body behind them is called.
-fn close_names(
-    book: &[u8],
-    index: &[usize],
-    text: &[u8],
-    store: &mut [u32],
-    rows: &mut [u32],
-    free: usize,
-    here: Progress,
-    names: Names,
-    state: State,
-) -> Outcome
-    requires { ⌜ OnNames book index text rows free here names ⌝ }
-    ensures { λ r. ⌜ Does book index text store rows state r (closesNames free here names) ⌝ }
-{
-    let g = open_body(book, index, text, store, rows, here, names, state);
-    let o = g.outcome;
-    if !goes_on(o) {
-        return o;
-    }
-    let there = Progress {
-        call: here.call,
-        variant: here.variant,
-        step: here.step,
-        remaining: here.remaining,
-        place: g.place,
-        items: g.items,
-    };
-    let binder = calls::body_binder(names.count);
-    let at = begin_child(text, rows, there);
-    let body = enter(
-        book,
-        index,
-        text,
-        store,
-        rows,
-        free,
-        binder,
-        names.body,
-        at,
-        o.state,
-    );
-    follow(
-        book,
-        index,
-        text,
-        store,
-        rows,
-        free,
-        there,
-        Next::Steps,
-        body,
-    )
-}
-
-// One name more, and what follows it, one level further in.
-fn declare(
-    book: &[u8],
-    index: &[usize],
-    text: &[u8],
-    store: &mut [u32],
-    rows: &mut [u32],
-    free: usize,
-    here: Progress,
-    names: Names,
-    state: State,
-) -> Outcome
-    requires { ⌜ OnNames book index text rows free here names ⌝ }
-    ensures { λ r. ⌜ Does book index text store rows state r (declaresOne free here names) ⌝ }
-{
-    let spent = spend(state);
-    if spent.limit != 0 {
-        return spent;
-    }
-    let s = spent.state;
-    if free == 0 {
-        return without_failure(TOO_DEEP, s);
-    }
-    let g = declare_name(book, index, text, store, rows, free, here, names, s);
-    let o = g.outcome;
-    if !goes_on(o) {
-        return o;
-    }
-    let there = Progress {
-        call: here.call,
-        variant: here.variant,
-        step: here.step,
-        remaining: here.remaining,
-        place: g.place,
-        items: here.items,
-    };
-    let more = Names {
-        body: names.body,
-        kinds: g.kinds,
-        count: names.count + 1,
-        closing: names.closing,
-    };
-    let inner = free - 1;
-    if g.comma {
-        name_choice(book, index, text, store, rows, inner, there, more, o.state)
-    } else {
-        close_names(book, index, text, store, rows, inner, there, more, o.state)
-    }
-}
-
-// Stop comes before one more; one unit for both.
-fn name_choice(
-    book: &[u8],
-    index: &[usize],
-    text: &[u8],
-    store: &mut [u32],
-    rows: &mut [u32],
-    free: usize,
-    here: Progress,
-    names: Names,
-    state: State,
-) -> Outcome
-    requires { ⌜ OnNames book index text rows free here names ⌝ }
-    ensures { λ r. ⌜ Does book index text store rows state r (choosesNames free here names) ⌝ }
-{
-    let spent = spend(state);
-    if spent.limit != 0 {
-        return spent;
-    }
-    let s = spent.state;
-    let a = close_names(book, index, text, store, rows, free, here, names, s);
-    if a.limit != 0 {
-        return a;
-    }
-    let b = declare(book, index, text, store, rows, free, here, names, a.state);
-    both_sides(text, rows, here, a, b)
-}
-
 // ---- Steps
 // Goes on from where a path is: first what comes next, then the steps that remain, up to a child or to the variant's
 // end. A path that a limit or a failure has ended stays ended.
@@ -496,7 +358,7 @@ fn steps(
                 };
                 if list.names {
                     let names = no_names(list);
-                    return name_choice(book, index, text, store, rows, free, here, names, o.state);
+                    return choose(book, index, text, store, rows, free, here, names, o.state);
                 }
                 let nonterminal = list.nonterminal;
                 let next = Next::Elements(list);

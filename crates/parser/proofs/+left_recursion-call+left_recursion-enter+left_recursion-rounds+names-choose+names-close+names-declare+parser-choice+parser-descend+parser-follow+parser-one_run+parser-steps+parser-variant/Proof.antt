@@ -1,7 +1,7 @@
--- The functions of the cycle meet their contracts: `enter`, `rounds`, `run_call` of left_recursion.rt and `choice`,
--- `close_names`, `declare`, `descend`, `follow`, `name_choice`, `one_run`, `steps`, `variant` of parser.rt. Each return
--- and each turn of a loop is one law of specs/CallLaws, VariantLaws, ChildLaws, NameLaws or PathLaws, applied to what
--- was called before it.
+-- The functions of the cycle meet their contracts: `call`, `enter`, `rounds` of left_recursion.rt, `choose`, `close`,
+-- `declare` of names.rt and `choice`, `descend`, `follow`, `one_run`, `steps`, `variant` of parser.rt. Each return and
+-- each turn of a loop is one law of specs/CallLaws, VariantLaws, ChildLaws, NameLaws or PathLaws, applied to what was
+-- called before it.
 --
 -- The measures: 2,048 for each level of nesting left, 6 for each step left, and a rank that falls from one function to
 -- the next on one level.
@@ -40,34 +40,34 @@ use mathlib.Core.List.{List}
 use borrow.Fn.Kind.{PK}
 use borrow.Fn.Kinds.{In}
 use borrow.Fn.PlainCycle.{Measures, is, falls, and}
-use Rattle.parser.proofs.+left_recursion-enter+left_recursion-rounds+left_recursion-run_call+parser-choice+parser-close_names+parser-declare+parser-descend+parser-follow+parser-name_choice+parser-one_run+parser-steps+parser-variant as cycle
+use Rattle.parser.proofs.+left_recursion-call+left_recursion-enter+left_recursion-rounds+names-choose+names-close+names-declare+parser-choice+parser-descend+parser-follow+parser-one_run+parser-steps+parser-variant as cycle
 use Rattle.parser.proofs.left_recursion.enter.Reads as left-recursion·enter
 use Rattle.parser.proofs.left_recursion.enter.Kinds as left-recursion·enter-kinds
 use cycle.Lts-left_recursion-enter as left-recursion·enter-lts
 use Rattle.parser.proofs.left_recursion.rounds.Reads as left-recursion·rounds
 use Rattle.parser.proofs.left_recursion.rounds.Kinds as left-recursion·rounds-kinds
 use cycle.Lts-left_recursion-rounds as left-recursion·rounds-lts
-use Rattle.parser.proofs.left_recursion.run_call.Reads as left-recursion·run-call
-use Rattle.parser.proofs.left_recursion.run_call.Kinds as left-recursion·run-call-kinds
-use cycle.Lts-left_recursion-run_call as left-recursion·run-call-lts
+use Rattle.parser.proofs.left_recursion.call.Reads as left-recursion·call
+use Rattle.parser.proofs.left_recursion.call.Kinds as left-recursion·call-kinds
+use cycle.Lts-left_recursion-call as left-recursion·call-lts
+use Rattle.parser.proofs.names.choose.Reads as names·choose
+use Rattle.parser.proofs.names.choose.Kinds as names·choose-kinds
+use cycle.Lts-names-choose as names·choose-lts
+use Rattle.parser.proofs.names.close.Reads as names·close
+use Rattle.parser.proofs.names.close.Kinds as names·close-kinds
+use cycle.Lts-names-close as names·close-lts
+use Rattle.parser.proofs.names.declare.Reads as names·declare
+use Rattle.parser.proofs.names.declare.Kinds as names·declare-kinds
+use cycle.Lts-names-declare as names·declare-lts
 use Rattle.parser.proofs.parser.choice.Reads as parser·choice
 use Rattle.parser.proofs.parser.choice.Kinds as parser·choice-kinds
 use cycle.Lts-parser-choice as parser·choice-lts
-use Rattle.parser.proofs.parser.close_names.Reads as parser·close-names
-use Rattle.parser.proofs.parser.close_names.Kinds as parser·close-names-kinds
-use cycle.Lts-parser-close_names as parser·close-names-lts
-use Rattle.parser.proofs.parser.declare.Reads as parser·declare
-use Rattle.parser.proofs.parser.declare.Kinds as parser·declare-kinds
-use cycle.Lts-parser-declare as parser·declare-lts
 use Rattle.parser.proofs.parser.descend.Reads as parser·descend
 use Rattle.parser.proofs.parser.descend.Kinds as parser·descend-kinds
 use cycle.Lts-parser-descend as parser·descend-lts
 use Rattle.parser.proofs.parser.follow.Reads as parser·follow
 use Rattle.parser.proofs.parser.follow.Kinds as parser·follow-kinds
 use cycle.Lts-parser-follow as parser·follow-lts
-use Rattle.parser.proofs.parser.name_choice.Reads as parser·name-choice
-use Rattle.parser.proofs.parser.name_choice.Kinds as parser·name-choice-kinds
-use cycle.Lts-parser-name_choice as parser·name-choice-lts
 use Rattle.parser.proofs.parser.one_run.Reads as parser·one-run
 use Rattle.parser.proofs.parser.one_run.Kinds as parser·one-run-kinds
 use cycle.Lts-parser-one_run as parser·one-run-lts
@@ -118,17 +118,17 @@ abbrev μ-left-recursion·enter : Measures 5 left-recursion·enter-kinds.ps ℕ
 abbrev μ-left-recursion·rounds : Measures 5 left-recursion·rounds-kinds.ps ℕ
 μ-left-recursion·rounds κs a = 2048 * (a .1 .1 .1 .1 .1 .0) + 3
 
-abbrev μ-left-recursion·run-call : Measures 5 left-recursion·run-call-kinds.ps ℕ
-μ-left-recursion·run-call κs a = 2048 * (a .1 .1 .1 .1 .1 .0) + 4
+abbrev μ-left-recursion·call : Measures 5 left-recursion·call-kinds.ps ℕ
+μ-left-recursion·call κs a = 2048 * (a .1 .1 .1 .1 .1 .0) + 4
 
 abbrev μ-parser·choice : Measures 5 parser·choice-kinds.ps ℕ
 μ-parser·choice κs a = 2048 * (a .1 .1 .1 .1 .1 .0) + 6 * (a .1 .1 .1 .1 .1 .1 .0) .remaining + 9
 
-abbrev μ-parser·close-names : Measures 5 parser·close-names-kinds.ps ℕ
-μ-parser·close-names κs a = 2048 * (a .1 .1 .1 .1 .1 .0) + 7
+abbrev μ-names·close : Measures 5 names·close-kinds.ps ℕ
+μ-names·close κs a = 2048 * (a .1 .1 .1 .1 .1 .0) + 7
 
-abbrev μ-parser·declare : Measures 5 parser·declare-kinds.ps ℕ
-μ-parser·declare κs a = 2048 * (a .1 .1 .1 .1 .1 .0) + 7
+abbrev μ-names·declare : Measures 5 names·declare-kinds.ps ℕ
+μ-names·declare κs a = 2048 * (a .1 .1 .1 .1 .1 .0) + 7
 
 abbrev μ-parser·descend : Measures 5 parser·descend-kinds.ps ℕ
 μ-parser·descend κs a = 2048 * (a .1 .1 .1 .1 .1 .0) + 7
@@ -136,8 +136,8 @@ abbrev μ-parser·descend : Measures 5 parser·descend-kinds.ps ℕ
 abbrev μ-parser·follow : Measures 5 parser·follow-kinds.ps ℕ
 μ-parser·follow κs a = 2048 * (a .1 .1 .1 .1 .1 .0) + 6
 
-abbrev μ-parser·name-choice : Measures 5 parser·name-choice-kinds.ps ℕ
-μ-parser·name-choice κs a = 2048 * (a .1 .1 .1 .1 .1 .0) + 8
+abbrev μ-names·choose : Measures 5 names·choose-kinds.ps ℕ
+μ-names·choose κs a = 2048 * (a .1 .1 .1 .1 .1 .0) + 8
 
 abbrev μ-parser·one-run : Measures 5 parser·one-run-kinds.ps ℕ
 μ-parser·one-run κs a = 2048 * (a .1 .1 .1 .1 .1 .0) + 2
@@ -171,31 +171,37 @@ abbrev left-recursion·rounds-below : ℕ → In 5 left-recursion·rounds-kinds.
 left-recursion·rounds-below t =
     below-measure left-recursion·rounds-kinds.ps μ-left-recursion·rounds left-recursion·rounds.Pre t
 
-abbrev left-recursion·run-call-at : ℕ → In 5 left-recursion·run-call-kinds.ps
-left-recursion·run-call-at t =
-    at-measure left-recursion·run-call-kinds.ps μ-left-recursion·run-call left-recursion·run-call.Pre t
+abbrev left-recursion·call-at : ℕ → In 5 left-recursion·call-kinds.ps
+left-recursion·call-at t =
+    at-measure left-recursion·call-kinds.ps μ-left-recursion·call left-recursion·call.Pre t
 
-abbrev left-recursion·run-call-below : ℕ → In 5 left-recursion·run-call-kinds.ps
-left-recursion·run-call-below t =
-    below-measure left-recursion·run-call-kinds.ps μ-left-recursion·run-call left-recursion·run-call.Pre t
+abbrev left-recursion·call-below : ℕ → In 5 left-recursion·call-kinds.ps
+left-recursion·call-below t =
+    below-measure left-recursion·call-kinds.ps μ-left-recursion·call left-recursion·call.Pre t
+
+abbrev names·choose-at : ℕ → In 5 names·choose-kinds.ps
+names·choose-at t = at-measure names·choose-kinds.ps μ-names·choose names·choose.Pre t
+
+abbrev names·choose-below : ℕ → In 5 names·choose-kinds.ps
+names·choose-below t = below-measure names·choose-kinds.ps μ-names·choose names·choose.Pre t
+
+abbrev names·close-at : ℕ → In 5 names·close-kinds.ps
+names·close-at t = at-measure names·close-kinds.ps μ-names·close names·close.Pre t
+
+abbrev names·close-below : ℕ → In 5 names·close-kinds.ps
+names·close-below t = below-measure names·close-kinds.ps μ-names·close names·close.Pre t
+
+abbrev names·declare-at : ℕ → In 5 names·declare-kinds.ps
+names·declare-at t = at-measure names·declare-kinds.ps μ-names·declare names·declare.Pre t
+
+abbrev names·declare-below : ℕ → In 5 names·declare-kinds.ps
+names·declare-below t = below-measure names·declare-kinds.ps μ-names·declare names·declare.Pre t
 
 abbrev parser·choice-at : ℕ → In 5 parser·choice-kinds.ps
 parser·choice-at t = at-measure parser·choice-kinds.ps μ-parser·choice parser·choice.Pre t
 
 abbrev parser·choice-below : ℕ → In 5 parser·choice-kinds.ps
 parser·choice-below t = below-measure parser·choice-kinds.ps μ-parser·choice parser·choice.Pre t
-
-abbrev parser·close-names-at : ℕ → In 5 parser·close-names-kinds.ps
-parser·close-names-at t = at-measure parser·close-names-kinds.ps μ-parser·close-names parser·close-names.Pre t
-
-abbrev parser·close-names-below : ℕ → In 5 parser·close-names-kinds.ps
-parser·close-names-below t = below-measure parser·close-names-kinds.ps μ-parser·close-names parser·close-names.Pre t
-
-abbrev parser·declare-at : ℕ → In 5 parser·declare-kinds.ps
-parser·declare-at t = at-measure parser·declare-kinds.ps μ-parser·declare parser·declare.Pre t
-
-abbrev parser·declare-below : ℕ → In 5 parser·declare-kinds.ps
-parser·declare-below t = below-measure parser·declare-kinds.ps μ-parser·declare parser·declare.Pre t
 
 abbrev parser·descend-at : ℕ → In 5 parser·descend-kinds.ps
 parser·descend-at t = at-measure parser·descend-kinds.ps μ-parser·descend parser·descend.Pre t
@@ -208,12 +214,6 @@ parser·follow-at t = at-measure parser·follow-kinds.ps μ-parser·follow parse
 
 abbrev parser·follow-below : ℕ → In 5 parser·follow-kinds.ps
 parser·follow-below t = below-measure parser·follow-kinds.ps μ-parser·follow parser·follow.Pre t
-
-abbrev parser·name-choice-at : ℕ → In 5 parser·name-choice-kinds.ps
-parser·name-choice-at t = at-measure parser·name-choice-kinds.ps μ-parser·name-choice parser·name-choice.Pre t
-
-abbrev parser·name-choice-below : ℕ → In 5 parser·name-choice-kinds.ps
-parser·name-choice-below t = below-measure parser·name-choice-kinds.ps μ-parser·name-choice parser·name-choice.Pre t
 
 abbrev parser·one-run-at : ℕ → In 5 parser·one-run-kinds.ps
 parser·one-run-at t = at-measure parser·one-run-kinds.ps μ-parser·one-run parser·one-run.Pre t
@@ -236,7 +236,7 @@ parser·variant-below t = below-measure parser·variant-kinds.ps μ-parser·vari
 -- what a member is told of those that it calls
 abbrev left-recursion·enter-callees : ℕ → left-recursion·enter-lts.Claims
 left-recursion·enter-callees t =
-    (begin-use-reads.Asked, begin-use-reads.Learnt, left-recursion·run-call-below t, left-recursion·run-call.Post)
+    (begin-use-reads.Asked, begin-use-reads.Learnt, left-recursion·call-below t, left-recursion·call.Post)
 
 abbrev left-recursion·rounds-callees : ℕ → left-recursion·rounds-lts.Claims
 left-recursion·rounds-callees t = (
@@ -248,8 +248,8 @@ left-recursion·rounds-callees t = (
   without-failure-reads.Learnt,
 )
 
-abbrev left-recursion·run-call-callees : ℕ → left-recursion·run-call-lts.Claims
-left-recursion·run-call-callees t = (
+abbrev left-recursion·call-callees : ℕ → left-recursion·call-lts.Claims
+left-recursion·call-callees t = (
   open-call-reads.Asked,
   open-call-reads.Learnt,
   parser·one-run-below t,
@@ -272,8 +272,8 @@ parser·choice-callees t = (
   both-sides-reads.Learnt,
 )
 
-abbrev parser·close-names-callees : ℕ → parser·close-names-lts.Claims
-parser·close-names-callees t = (
+abbrev names·close-callees : ℕ → names·close-lts.Claims
+names·close-callees t = (
   open-body-reads.Asked,
   open-body-reads.Learnt,
   goes-on-reads.Asked,
@@ -288,8 +288,8 @@ parser·close-names-callees t = (
   parser·follow.Post,
 )
 
-abbrev parser·declare-callees : ℕ → parser·declare-lts.Claims
-parser·declare-callees t = (
+abbrev names·declare-callees : ℕ → names·declare-lts.Claims
+names·declare-callees t = (
   spend-reads.Asked,
   spend-reads.Learnt,
   without-failure-reads.Asked,
@@ -298,10 +298,10 @@ parser·declare-callees t = (
   declare-name-reads.Learnt,
   goes-on-reads.Asked,
   goes-on-reads.Learnt,
-  parser·name-choice-below t,
-  parser·name-choice.Post,
-  parser·close-names-below t,
-  parser·close-names.Post,
+  names·choose-below t,
+  names·choose.Post,
+  names·close-below t,
+  names·close.Post,
 )
 
 abbrev parser·descend-callees : ℕ → parser·descend-lts.Claims
@@ -334,14 +334,14 @@ parser·follow-callees t = (
   after-parse-reads.Learnt,
 )
 
-abbrev parser·name-choice-callees : ℕ → parser·name-choice-lts.Claims
-parser·name-choice-callees t = (
+abbrev names·choose-callees : ℕ → names·choose-lts.Claims
+names·choose-callees t = (
   spend-reads.Asked,
   spend-reads.Learnt,
-  parser·close-names-below t,
-  parser·close-names.Post,
-  parser·declare-below t,
-  parser·declare.Post,
+  names·close-below t,
+  names·close.Post,
+  names·declare-below t,
+  names·declare.Post,
   both-sides-reads.Asked,
   both-sides-reads.Learnt,
 )
@@ -374,8 +374,8 @@ parser·steps-callees t = (
   parser·choice.Post,
   no-names-reads.Asked,
   no-names-reads.Learnt,
-  parser·name-choice-below t,
-  parser·name-choice.Post,
+  names·choose-below t,
+  names·choose.Post,
 )
 
 abbrev parser·variant-callees : ℕ → parser·variant-lts.Claims
@@ -416,10 +416,10 @@ left-recursion·enter-returns t c =
     let if1 = c .if1 in
     enter-over _ _ _ _ _ _ _ _ _ _ _ _ (begin-use .ensures) (not-true _ (if1 .taken))
 
-left-recursion·enter-run-call-requires : (t : ℕ) →
-    left-recursion·enter-lts.Need-run-call-requires (left-recursion·enter-callees t) (left-recursion·enter-at t)
+left-recursion·enter-call-requires : (t : ℕ) →
+    left-recursion·enter-lts.Need-call-requires (left-recursion·enter-callees t) (left-recursion·enter-at t)
     left-recursion·enter.Post
-left-recursion·enter-run-call-requires t c κs =
+left-recursion·enter-call-requires t c κs =
     let start = c .before .before .before .before .before .before .before .before .before .before .before .before
     .before .before .before .before .before in
     let begin-use = c .before .before .before .before .before .before .before .before .before .begin-use in
@@ -439,8 +439,8 @@ left-recursion·enter-same-length-3 : (t : ℕ) →
 left-recursion·enter-same-length-3 t c =
     let begin-use = c .before .before .before .before .before .before .before .before .before .before .before .before
     .before .before .begin-use in
-    let run-call = c .before .before .before .before .run-call in
-    run-call .kept .1 .1 .1 .0 ∙ begin-use .kept .1 .1 .1 .0
+    let call = c .before .before .before .before .call in
+    call .kept .1 .1 .1 .0 ∙ begin-use .kept .1 .1 .1 .0
 
 left-recursion·enter-same-length-4 : (t : ℕ) →
     left-recursion·enter-lts.Need-same-length-4 (left-recursion·enter-callees t) (left-recursion·enter-at t)
@@ -448,8 +448,8 @@ left-recursion·enter-same-length-4 : (t : ℕ) →
 left-recursion·enter-same-length-4 t c =
     let begin-use = c .before .before .before .before .before .before .before .before .before .before .before .before
     .before .before .begin-use in
-    let run-call = c .before .before .before .before .run-call in
-    run-call .kept .1 .1 .1 .1 .0 ∙ begin-use .kept .1 .1 .1 .1 .0
+    let call = c .before .before .before .before .call in
+    call .kept .1 .1 .1 .1 .0 ∙ begin-use .kept .1 .1 .1 .1 .0
 
 left-recursion·enter-returns-2 : (t : ℕ) →
     left-recursion·enter-lts.Need-returns-2 (left-recursion·enter-callees t) (left-recursion·enter-at t)
@@ -458,8 +458,8 @@ left-recursion·enter-returns-2 t c =
     let begin-use = c .before .before .before .before .before .before .before .before .before .before .before .before
     .before .before .begin-use in
     let if1 = c .before .before .before .before .before .before .before .if1 in
-    let run-call = c .before .before .before .before .run-call in
-    enter-runs _ _ _ _ _ _ _ _ _ _ _ _ (begin-use .ensures) _ _ _ (not-false _ (if1 .left)) (run-call .ensures)
+    let call = c .before .before .before .before .call in
+    enter-runs _ _ _ _ _ _ _ _ _ _ _ _ (begin-use .ensures) _ _ _ (not-false _ (if1 .left)) (call .ensures)
 
 abbrev left-recursion·rounds-Inv-loop : left-recursion·rounds-lts.InvT-loop
 left-recursion·rounds-Inv-loop book index text store₀ rows₀ left minimum s₀ round₀ store rows s round =
@@ -618,57 +618,57 @@ left-recursion·rounds-returns-2 t c =
     let without-failure = c .without-failure in
     rounds-none _ _ _ _ _ _ _ _ _ _ _ _ (loop .inv .3) _ (without-failure .ensures) (loop-test .left)
 
-left-recursion·run-call-open-call-requires :
+left-recursion·call-open-call-requires :
     (t : ℕ) →
-    left-recursion·run-call-lts.Need-open-call-requires (left-recursion·run-call-callees t)
-    (left-recursion·run-call-at t) left-recursion·run-call.Post
-left-recursion·run-call-open-call-requires t c κs =
+    left-recursion·call-lts.Need-open-call-requires (left-recursion·call-callees t)
+    (left-recursion·call-at t) left-recursion·call.Post
+left-recursion·call-open-call-requires t c κs =
     let start = c .before .before .before .before .before .before in
     (start .pre .1 .0, start .pre .1 .1)
 
-left-recursion·run-call-one-run-requires :
+left-recursion·call-one-run-requires :
     (t : ℕ) →
-    left-recursion·run-call-lts.Need-one-run-requires (left-recursion·run-call-callees t) (left-recursion·run-call-at t)
-    left-recursion·run-call.Post
-left-recursion·run-call-one-run-requires t c κs =
+    left-recursion·call-lts.Need-one-run-requires (left-recursion·call-callees t) (left-recursion·call-at t)
+    left-recursion·call.Post
+left-recursion·call-one-run-requires t c κs =
     let start = c .before .before .before .before .before .before .before .before .before .before .before in
     let open-call = c .before .before .before .before .open-call in (
       omega (arith, start .pre .0),
       (start .pre .1 .0, omega (arith, start .pre .1 .1, open-call .kept .0), start .pre .1 .2, start .pre .1 .3),
     )
 
-left-recursion·run-call-after-first-requires :
+left-recursion·call-after-first-requires :
     (t : ℕ) →
-    left-recursion·run-call-lts.Need-after-first-requires (left-recursion·run-call-callees t)
-    (left-recursion·run-call-at t) left-recursion·run-call.Post
-left-recursion·run-call-after-first-requires t c κs =
+    left-recursion·call-lts.Need-after-first-requires (left-recursion·call-callees t)
+    (left-recursion·call-at t) left-recursion·call.Post
+left-recursion·call-after-first-requires t c κs =
     let start = c .before .before .before .before .before .before .before .before .before .before .before .before
     .before .before .before .before .before in
     let open-call = c .before .before .before .before .before .before .before .before .before .before .open-call in
     let one-run = c .before .before .before .before .before .one-run in
     (start .pre .1 .0, omega (arith, start .pre .1 .1, open-call .kept .0, one-run .kept .1 .1 .1 .1 .0))
 
-left-recursion·run-call-same-length : (t : ℕ) →
-    left-recursion·run-call-lts.Need-same-length (left-recursion·run-call-callees t) (left-recursion·run-call-at t)
-    left-recursion·run-call.Post
-left-recursion·run-call-same-length t c =
+left-recursion·call-same-length : (t : ℕ) →
+    left-recursion·call-lts.Need-same-length (left-recursion·call-callees t) (left-recursion·call-at t)
+    left-recursion·call.Post
+left-recursion·call-same-length t c =
     let one-run = c .before .before .before .before .before .before .before .before .before .before .before .one-run in
     one-run .kept .1 .1 .1 .0
 
-left-recursion·run-call-same-length-2 : (t : ℕ) →
-    left-recursion·run-call-lts.Need-same-length-2 (left-recursion·run-call-callees t) (left-recursion·run-call-at t)
-    left-recursion·run-call.Post
-left-recursion·run-call-same-length-2 t c =
+left-recursion·call-same-length-2 : (t : ℕ) →
+    left-recursion·call-lts.Need-same-length-2 (left-recursion·call-callees t) (left-recursion·call-at t)
+    left-recursion·call.Post
+left-recursion·call-same-length-2 t c =
     let open-call = c .before .before .before .before .before .before .before .before .before .before .before .before
     .before .before .before .before .open-call in
     let one-run = c .before .before .before .before .before .before .before .before .before .before .before .one-run in
     let after-first = c .before .before .before .before .before .after-first in
     after-first .kept .0 ∙ one-run .kept .1 .1 .1 .1 .0 ∙ open-call .kept .0
 
-left-recursion·run-call-returns : (t : ℕ) →
-    left-recursion·run-call-lts.Need-returns (left-recursion·run-call-callees t) (left-recursion·run-call-at t)
-    left-recursion·run-call.Post
-left-recursion·run-call-returns t c =
+left-recursion·call-returns : (t : ℕ) →
+    left-recursion·call-lts.Need-returns (left-recursion·call-callees t) (left-recursion·call-at t)
+    left-recursion·call.Post
+left-recursion·call-returns t c =
     let open-call = c .before .before .before .before .before .before .before .before .before .before .before .before
     .before .before .before .before .open-call in
     let one-run = c .before .before .before .before .before .before .before .before .before .before .before .one-run in
@@ -677,11 +677,11 @@ left-recursion·run-call-returns t c =
     run-call-over _ _ _ _ _ _ _ _ _ _ _ _ _ _ _ _ _ (open-call .ensures) (one-run .ensures) (after-first .ensures)
     (not-true _ (if1 .taken))
 
-left-recursion·run-call-rounds-requires :
+left-recursion·call-rounds-requires :
     (t : ℕ) →
-    left-recursion·run-call-lts.Need-rounds-requires (left-recursion·run-call-callees t) (left-recursion·run-call-at t)
-    left-recursion·run-call.Post
-left-recursion·run-call-rounds-requires t c κs =
+    left-recursion·call-lts.Need-rounds-requires (left-recursion·call-callees t) (left-recursion·call-at t)
+    left-recursion·call.Post
+left-recursion·call-rounds-requires t c κs =
     let start = c .before .before .before .before .before .before .before .before .before .before .before .before
     .before .before .before .before .before .before .before .before .before .before .before .before .before in
     let open-call = c .before .before .before .before .before .before .before .before .before .before .before .before
@@ -698,19 +698,19 @@ left-recursion·run-call-rounds-requires t c κs =
       ),
     )
 
-left-recursion·run-call-same-length-3 : (t : ℕ) →
-    left-recursion·run-call-lts.Need-same-length-3 (left-recursion·run-call-callees t) (left-recursion·run-call-at t)
-    left-recursion·run-call.Post
-left-recursion·run-call-same-length-3 t c =
+left-recursion·call-same-length-3 : (t : ℕ) →
+    left-recursion·call-lts.Need-same-length-3 (left-recursion·call-callees t) (left-recursion·call-at t)
+    left-recursion·call.Post
+left-recursion·call-same-length-3 t c =
     let one-run = c .before .before .before .before .before .before .before .before .before .before .before .before
     .before .before .before .before .before .before .one-run in
     let rounds = c .before .before .before .before .rounds in
     rounds .kept .1 .1 .1 .0 ∙ one-run .kept .1 .1 .1 .0
 
-left-recursion·run-call-same-length-4 : (t : ℕ) →
-    left-recursion·run-call-lts.Need-same-length-4 (left-recursion·run-call-callees t) (left-recursion·run-call-at t)
-    left-recursion·run-call.Post
-left-recursion·run-call-same-length-4 t c =
+left-recursion·call-same-length-4 : (t : ℕ) →
+    left-recursion·call-lts.Need-same-length-4 (left-recursion·call-callees t) (left-recursion·call-at t)
+    left-recursion·call.Post
+left-recursion·call-same-length-4 t c =
     let open-call = c .before .before .before .before .before .before .before .before .before .before .before .before
     .before .before .before .before .before .before .before .before .before .before .before .open-call in
     let one-run = c .before .before .before .before .before .before .before .before .before .before .before .before
@@ -720,10 +720,10 @@ left-recursion·run-call-same-length-4 t c =
     let rounds = c .before .before .before .before .rounds in
     rounds .kept .1 .1 .1 .1 .0 ∙ after-first .kept .0 ∙ one-run .kept .1 .1 .1 .1 .0 ∙ open-call .kept .0
 
-left-recursion·run-call-returns-2 : (t : ℕ) →
-    left-recursion·run-call-lts.Need-returns-2 (left-recursion·run-call-callees t) (left-recursion·run-call-at t)
-    left-recursion·run-call.Post
-left-recursion·run-call-returns-2 t c =
+left-recursion·call-returns-2 : (t : ℕ) →
+    left-recursion·call-lts.Need-returns-2 (left-recursion·call-callees t) (left-recursion·call-at t)
+    left-recursion·call.Post
+left-recursion·call-returns-2 t c =
     let open-call = c .before .before .before .before .before .before .before .before .before .before .before .before
     .before .before .before .before .before .before .before .before .before .before .before .open-call in
     let one-run = c .before .before .before .before .before .before .before .before .before .before .before .before
@@ -735,6 +735,408 @@ left-recursion·run-call-returns-2 t c =
     run-call-rounds _ _ _ _ _ _ _ _ _ _ _ _ _ _ _ _ _ (open-call .ensures) (one-run .ensures) (after-first .ensures) _
     _ _
     (not-false _ (if1 .left)) (rounds .ensures)
+
+names·choose-returns : (t : ℕ) →
+    names·choose-lts.Need-returns (names·choose-callees t) (names·choose-at t) names·choose.Post
+names·choose-returns t c =
+    let start = c .before .before .before .before .before .before .before .before in
+    let spend = c .before .before .spend in
+    let if1 = c .if1 in
+    names-unpaid _ _ _ (start .args .here) _ _ _ _ _ _ (spend .ensures) (if1 .taken)
+
+names·choose-close-requires : (t : ℕ) →
+    names·choose-lts.Need-close-requires (names·choose-callees t) (names·choose-at t) names·choose.Post
+names·choose-close-requires t c κs =
+    let start = c .before .before .before .before .before .before .before .before .before .before .before in
+    (omega (arith, start .pre .0), start .pre .1)
+
+names·choose-same-length : (t : ℕ) →
+    names·choose-lts.Need-same-length (names·choose-callees t) (names·choose-at t) names·choose.Post
+names·choose-same-length t c =
+    let close = c .before .before .before .before .before .before .close in
+    close .kept .1 .1 .1 .0
+
+names·choose-same-length-2 : (t : ℕ) →
+    names·choose-lts.Need-same-length-2 (names·choose-callees t) (names·choose-at t) names·choose.Post
+names·choose-same-length-2 t c =
+    let close = c .before .before .before .before .before .before .close in
+    close .kept .1 .1 .1 .1 .0
+
+names·choose-returns-2 : (t : ℕ) →
+    names·choose-lts.Need-returns-2 (names·choose-callees t) (names·choose-at t) names·choose.Post
+names·choose-returns-2 t c =
+    let start = c .before .before .before .before .before .before .before .before .before .before .before .before
+    .before .before .before .before .before .before in
+    let spend = c .before .before .before .before .before .before .before .before .before .before .before .before
+    .spend in
+    let if1 = c .before .before .before .before .before .before .before .before .before .before .if1 in
+    let close = c .before .before .before .before .before .before .close in
+    let if2 = c .if2 in
+    names-stopped _ _ _ (start .args .here) _ _ _ _ _ _ (spend .ensures) (if1 .left) _ _ _ (close .ensures) (if2 .taken)
+
+names·choose-declare-requires : (t : ℕ) →
+    names·choose-lts.Need-declare-requires (names·choose-callees t) (names·choose-at t) names·choose.Post
+names·choose-declare-requires t c κs =
+    let start = c .before .before .before .before .before .before .before .before .before .before .before .before
+    .before .before .before .before .before .before .before .before in
+    let close = c .before .before .before .before .before .before .before .before .close in (
+      omega (arith, start .pre .0),
+      (
+        (
+          start .pre .1 .0 .0,
+          omega (arith, start .pre .1 .0 .1, close .kept .1 .1 .1 .1 .0),
+          start .pre .1 .0 .2,
+          start .pre .1 .0 .3,
+          start .pre .1 .0 .4,
+        ),
+        start .pre .1 .1,
+      ),
+    )
+
+names·choose-both-sides-requires : (t : ℕ) →
+    names·choose-lts.Need-both-sides-requires (names·choose-callees t) (names·choose-at t) names·choose.Post
+names·choose-both-sides-requires t c κs =
+    let start = c .before .before .before .before .before .before .before .before .before .before .before .before
+    .before .before .before .before .before .before .before .before .before .before .before .before .before .before in
+    let close = c .before .before .before .before .before .before .before .before .before .before .before .before
+    .before .before .close in
+    let declare = c .before .before .before .before .before .declare in (
+      (
+        start .pre .1 .0 .3 .0,
+        omega (arith, start .pre .1 .0 .1, close .kept .1 .1 .1 .1 .0, declare .kept .1 .1 .1 .1 .0),
+      ),
+      start .pre .1 .0 .2 .short,
+    )
+
+names·choose-same-length-3 : (t : ℕ) →
+    names·choose-lts.Need-same-length-3 (names·choose-callees t) (names·choose-at t) names·choose.Post
+names·choose-same-length-3 t c =
+    let close = c .before .before .before .before .before .before .before .before .before .before .before .before
+    .before .before .before .close in
+    let declare = c .before .before .before .before .before .before .declare in
+    declare .kept .1 .1 .1 .0 ∙ close .kept .1 .1 .1 .0
+
+names·choose-same-length-4 : (t : ℕ) →
+    names·choose-lts.Need-same-length-4 (names·choose-callees t) (names·choose-at t) names·choose.Post
+names·choose-same-length-4 t c =
+    let close = c .before .before .before .before .before .before .before .before .before .before .before .before
+    .before .before .before .close in
+    let declare = c .before .before .before .before .before .before .declare in
+    declare .kept .1 .1 .1 .1 .0 ∙ close .kept .1 .1 .1 .1 .0
+
+names·choose-returns-3 : (t : ℕ) →
+    names·choose-lts.Need-returns-3 (names·choose-callees t) (names·choose-at t) names·choose.Post
+names·choose-returns-3 t c =
+    let start = c .before .before .before .before .before .before .before .before .before .before .before .before
+    .before .before .before .before .before .before .before .before .before .before .before .before .before .before
+    .before in
+    let spend = c .before .before .before .before .before .before .before .before .before .before .before .before
+    .before .before .before .before .before .before .before .before .before .spend in
+    let if1 = c .before .before .before .before .before .before .before .before .before .before .before .before
+    .before .before .before .before .before .before .before .if1 in
+    let close = c .before .before .before .before .before .before .before .before .before .before .before .before
+    .before .before .before .close in
+    let if2 = c .before .before .before .before .before .before .before .before .before .if2 in
+    let declare = c .before .before .before .before .before .before .declare in
+    let both-sides = c .both-sides in
+    names-both _ _ _ (start .args .here) _ _ _ _ _ _ (spend .ensures) (if1 .left) _ _ _ (close .ensures) (if2 .left)
+    (start .pre .1 .0 .4) (start .pre .1 .0 .3 .0) (table-length _) _ _ _ _ (declare .ensures) (both-sides .ensures)
+
+names·close-open-body-requires : (t : ℕ) →
+    names·close-lts.Need-open-body-requires (names·close-callees t) (names·close-at t) names·close.Post
+names·close-open-body-requires t c κs =
+    let start = c .before .before .before .before .before .before .before in
+    (start .pre .1 .0 .3 .0, start .pre .1 .0 .1, start .pre .1 .0 .2)
+
+names·close-same-length : (t : ℕ) →
+    names·close-lts.Need-same-length (names·close-callees t) (names·close-at t) names·close.Post
+names·close-same-length t c =
+    let open-body = c .before .before .before .before .before .open-body in
+    open-body .kept .1 .1 .1 .0
+
+names·close-returns : (t : ℕ) →
+    names·close-lts.Need-returns (names·close-callees t) (names·close-at t) names·close.Post
+names·close-returns t c =
+    let open-body = c .before .before .before .before .before .open-body in
+    let goes-on = c .before .goes-on in
+    let if1 = c .if1 in
+    close-ended _ _ _ _ _ _ _ _ _ _ _ (open-body .ensures) (sym (goes-on .ensures) ∙ not-true _ (if1 .taken))
+
+names·close-body-binder-requires : (t : ℕ) →
+    names·close-lts.Need-body-binder-requires (names·close-callees t) (names·close-at t) names·close.Post
+names·close-body-binder-requires t c κs =
+    let start = c .before .before .before .before .before .before .before .before .before .before .before .before
+    .before in
+    omega (arith, start .pre .1 .1)
+
+names·close-begin-child-requires : (t : ℕ) →
+    names·close-lts.Need-begin-child-requires (names·close-callees t) (names·close-at t) names·close.Post
+names·close-begin-child-requires t c κs =
+    let start = c .before .before .before .before .before .before .before .before .before .before .before .before
+    .before .before .before in
+    ((start .pre .1 .0 .3 .0, start .pre .1 .0 .1), start .pre .1 .0 .2 .short)
+
+names·close-enter-requires : (t : ℕ) →
+    names·close-lts.Need-enter-requires (names·close-callees t) (names·close-at t) names·close.Post
+names·close-enter-requires t c κs =
+    let start = c .before .before .before .before .before .before .before .before .before .before .before .before
+    .before .before .before .before .before .before .before .before in
+    let begin-child = c .before .before .before .before .begin-child in (
+      omega (arith, start .pre .0),
+      (
+        start .pre .1 .0 .0,
+        omega (arith, start .pre .1 .0 .1, begin-child .kept .1 .0),
+        start .pre .1 .0 .2,
+      ),
+    )
+
+names·close-follow-requires : (t : ℕ) →
+    names·close-lts.Need-follow-requires (names·close-callees t) (names·close-at t) names·close.Post
+names·close-follow-requires t c κs =
+    let start = c .before .before .before .before .before .before .before .before .before .before .before .before
+    .before .before .before .before .before .before .before .before .before .before .before .before .before .before
+    .before in
+    let begin-child = c .before .before .before .before .before .before .before .before .before .before .before
+    .begin-child in
+    let enter = c .before .before .before .before .before .before .enter in (
+      omega (arith, start .pre .0),
+      (
+        start .pre .1 .0 .0,
+        omega (arith, start .pre .1 .0 .1, begin-child .kept .1 .0, enter .kept .1 .1 .1 .1 .0),
+        start .pre .1 .0 .2,
+        start .pre .1 .0 .3,
+        start .pre .1 .0 .4,
+      ),
+    )
+
+names·close-same-length-3 : (t : ℕ) →
+    names·close-lts.Need-same-length-3 (names·close-callees t) (names·close-at t) names·close.Post
+names·close-same-length-3 t c =
+    let open-body = c .before .before .before .before .before .before .before .before .before .before .before
+    .before .before .before .before .before .before .before .before .before .before .before .before .before
+    .open-body in
+    let enter = c .before .before .before .before .before .before .before .before .before .before .before .enter in
+    let follow = c .before .before .before .before .follow in
+    follow .kept .1 .1 .1 .0 ∙ enter .kept .1 .1 .1 .0 ∙ open-body .kept .1 .1 .1 .0
+
+names·close-same-length-4 : (t : ℕ) →
+    names·close-lts.Need-same-length-4 (names·close-callees t) (names·close-at t) names·close.Post
+names·close-same-length-4 t c =
+    let begin-child = c .before .before .before .before .before .before .before .before .before .before .before
+    .before .before .before .before .before .begin-child in
+    let enter = c .before .before .before .before .before .before .before .before .before .before .before .enter in
+    let follow = c .before .before .before .before .follow in
+    follow .kept .1 .1 .1 .1 .0 ∙ enter .kept .1 .1 .1 .1 .0 ∙ begin-child .kept .1 .0
+
+names·close-returns-2 : (t : ℕ) →
+    names·close-lts.Need-returns-2 (names·close-callees t) (names·close-at t) names·close.Post
+names·close-returns-2 t c =
+    let start = c .before .before .before .before .before .before .before .before .before .before .before .before
+    .before .before .before .before .before .before .before .before .before .before .before .before .before .before
+    .before .before .before .before .before .before in
+    let open-body = c .before .before .before .before .before .before .before .before .before .before .before
+    .before .before .before .before .before .before .before .before .before .before .before .before .before
+    .open-body in
+    let goes-on = c .before .before .before .before .before .before .before .before .before .before .before .before
+    .before .before .before .before .before .before .before .before .goes-on in
+    let if1 = c .before .before .before .before .before .before .before .before .before .before .before .before
+    .before .before .before .before .before .before .before .if1 in
+    let body-binder = c .before .before .before .before .before .before .before .before .before .before .before
+    .before .before .before .before .before .before .before .body-binder in
+    let begin-child = c .before .before .before .before .before .before .before .before .before .before .before
+    .before .before .before .before .before .begin-child in
+    let enter = c .before .before .before .before .before .before .before .before .before .before .before .enter in
+    let follow = c .before .before .before .before .follow in
+    let args = start .args in
+    close-body _ _ _ _ _ _ _ _ _ _ _ (open-body .ensures) (sym (goes-on .ensures) ∙ not-false _ (if1 .left)) _ _ _
+    (descended _ _ _ _ _ _ _ _ _ _ _ _ _ _ _ _ _ _ _ _ _ _ _ _
+    (names-binder (args .text .now) (table (args .rows .now)) (args .free) (args .names .count) _ (args .here .call)
+    (body-binder .ensures)) (begin-child .ensures) (enter .ensures) (follow .ensures))
+
+names·declare-returns : (t : ℕ) →
+    names·declare-lts.Need-returns (names·declare-callees t) (names·declare-at t) names·declare.Post
+names·declare-returns t c =
+    let start = c .before .before .before .before .before .before .before .before in
+    let spend = c .before .before .spend in
+    let if1 = c .if1 in
+    declare-unpaid _ _ _ (start .args .here) _ _ _ _ _ _ (spend .ensures) (if1 .taken)
+
+names·declare-returns-2 : (t : ℕ) →
+    names·declare-lts.Need-returns-2 (names·declare-callees t) (names·declare-at t) names·declare.Post
+names·declare-returns-2 t c =
+    let start = c .before .before .before .before .before .before .before .before .before .before .before in
+    let spend = c .before .before .before .before .before .spend in
+    let if1 = c .before .before .before .if1 in
+    let if2 = c .before .if2 in
+    let without-failure = c .without-failure in
+    declare-deep _ _ _ (start .args .here) _ _ _ _ _ _ (spend .ensures) (if1 .left) _ (if2 .taken) (without-failure .ensures)
+
+names·declare-declare-name-requires : (t : ℕ) →
+    names·declare-lts.Need-declare-name-requires (names·declare-callees t) (names·declare-at t) names·declare.Post
+names·declare-declare-name-requires t c κs =
+    let start = c .before .before .before .before .before .before .before .before .before .before .before .before in
+    let if2 = c .before .before .if2 in (
+      (start .pre .1 .0 .0, start .pre .1 .0 .1, start .pre .1 .0 .2),
+      omega (arith, if2 .left),
+    )
+
+names·declare-same-length : (t : ℕ) →
+    names·declare-lts.Need-same-length (names·declare-callees t) (names·declare-at t) names·declare.Post
+names·declare-same-length t c =
+    let declare-name = c .before .before .before .before .before .before .before .declare-name in
+    declare-name .kept .1 .1 .1 .0
+
+names·declare-same-length-2 : (t : ℕ) →
+    names·declare-lts.Need-same-length-2 (names·declare-callees t) (names·declare-at t) names·declare.Post
+names·declare-same-length-2 t c =
+    let declare-name = c .before .before .before .before .before .before .before .declare-name in
+    declare-name .kept .1 .1 .1 .1 .0
+
+names·declare-returns-3 : (t : ℕ) →
+    names·declare-lts.Need-returns-3 (names·declare-callees t) (names·declare-at t) names·declare.Post
+names·declare-returns-3 t c =
+    let start = c .before .before .before .before .before .before .before .before .before .before .before .before
+    .before .before .before .before .before .before .before .before in
+    let spend = c .before .before .before .before .before .before .before .before .before .before .before .before
+    .before .before .spend in
+    let if1 = c .before .before .before .before .before .before .before .before .before .before .before .before .if1 in
+    let if2 = c .before .before .before .before .before .before .before .before .before .before .if2 in
+    let declare-name = c .before .before .before .before .before .before .before .declare-name in
+    let goes-on = c .before .goes-on in
+    let if3 = c .if3 in
+    declare-ended _ _ _ (start .args .here) _ _ _ _ _ _ (spend .ensures) (if1 .left) (if2 .left) _ _ _ (declare-name .ensures)
+    (sym (goes-on .ensures) ∙ not-true _ (if3 .taken))
+
+names·declare-add-t23 : (t : ℕ) →
+    names·declare-lts.Need-add-t23 (names·declare-callees t) (names·declare-at t) names·declare.Post
+names·declare-add-t23 t c =
+    let start = c .before .before .before .before .before .before .before .before .before .before .before .before
+    .before .before .before .before .before .before .before .before .before in
+    omega (arith, start .pre .1 .1)
+
+names·declare-sub-inner : (t : ℕ) →
+    names·declare-lts.Need-sub-inner (names·declare-callees t) (names·declare-at t) names·declare.Post
+names·declare-sub-inner t c =
+    let if2 = c .before .before .before .before .before .before .before .before .before .before .before .if2 in
+    omega (arith, if2 .left)
+
+names·declare-choose-requires : (t : ℕ) →
+    names·declare-lts.Need-choose-requires (names·declare-callees t) (names·declare-at t) names·declare.Post
+names·declare-choose-requires t c κs =
+    let start = c .before .before .before .before .before .before .before .before .before .before .before .before
+    .before .before .before .before .before .before .before .before .before .before .before .before in
+    let if2 = c .before .before .before .before .before .before .before .before .before .before .before .before
+    .before .before .if2 in
+    let declare-name = c .before .before .before .before .before .before .before .before .before .before .before
+    .declare-name in (
+      omega (arith, start .pre .0, if2 .left),
+      (
+        (
+          omega (arith, start .pre .1 .0 .0),
+          omega (arith, start .pre .1 .0 .1, declare-name .kept .1 .1 .1 .1 .0),
+          start .pre .1 .0 .2,
+          start .pre .1 .0 .3,
+          omega (arith, start .pre .1 .0 .4),
+        ),
+        omega (arith, start .pre .1 .1, if2 .left),
+      ),
+    )
+
+names·declare-close-requires : (t : ℕ) →
+    names·declare-lts.Need-close-requires (names·declare-callees t) (names·declare-at t) names·declare.Post
+names·declare-close-requires t c κs =
+    let start = c .before .before .before .before .before .before .before .before .before .before .before .before
+    .before .before .before .before .before .before .before .before .before .before .before .before in
+    let if2 = c .before .before .before .before .before .before .before .before .before .before .before .before
+    .before .before .if2 in
+    let declare-name = c .before .before .before .before .before .before .before .before .before .before .before
+    .declare-name in (
+      omega (arith, start .pre .0, if2 .left),
+      (
+        (
+          omega (arith, start .pre .1 .0 .0),
+          omega (arith, start .pre .1 .0 .1, declare-name .kept .1 .1 .1 .1 .0),
+          start .pre .1 .0 .2,
+          start .pre .1 .0 .3,
+          omega (arith, start .pre .1 .0 .4),
+        ),
+        omega (arith, start .pre .1 .1, if2 .left),
+      ),
+    )
+
+names·declare-same-length-3 : (t : ℕ) →
+    names·declare-lts.Need-same-length-3 (names·declare-callees t) (names·declare-at t) names·declare.Post
+names·declare-same-length-3 t c =
+    let declare-name = c .before .before .before .before .before .before .before .before .before .before .before
+    .before .before .before .before .before .declare-name in
+    let choose = c .before .before .before .before .choose in
+    choose .kept .1 .1 .1 .0 ∙ declare-name .kept .1 .1 .1 .0
+
+names·declare-same-length-4 : (t : ℕ) →
+    names·declare-lts.Need-same-length-4 (names·declare-callees t) (names·declare-at t) names·declare.Post
+names·declare-same-length-4 t c =
+    let declare-name = c .before .before .before .before .before .before .before .before .before .before .before
+    .before .before .before .before .before .declare-name in
+    let choose = c .before .before .before .before .choose in
+    choose .kept .1 .1 .1 .1 .0 ∙ declare-name .kept .1 .1 .1 .1 .0
+
+names·declare-returns-4 : (t : ℕ) →
+    names·declare-lts.Need-returns-4 (names·declare-callees t) (names·declare-at t) names·declare.Post
+names·declare-returns-4 t c =
+    let start = c .before .before .before .before .before .before .before .before .before .before .before .before
+    .before .before .before .before .before .before .before .before .before .before .before .before .before .before
+    .before .before .before in
+    let spend = c .before .before .before .before .before .before .before .before .before .before .before .before
+    .before .before .before .before .before .before .before .before .before .before .before .spend in
+    let if1 = c .before .before .before .before .before .before .before .before .before .before .before .before
+    .before .before .before .before .before .before .before .before .before .if1 in
+    let if2 = c .before .before .before .before .before .before .before .before .before .before .before .before
+    .before .before .before .before .before .before .before .if2 in
+    let declare-name = c .before .before .before .before .before .before .before .before .before .before .before
+    .before .before .before .before .before .declare-name in
+    let goes-on = c .before .before .before .before .before .before .before .before .before .before .goes-on in
+    let if3 = c .before .before .before .before .before .before .before .before .before .if3 in
+    let if4 = c .before .before .before .before .before .before .before .if4 in
+    let choose = c .before .before .before .before .choose in
+    declare-more _ _ _ (start .args .here) _ _ _ _ _ _ (spend .ensures) (if1 .left) (if2 .left) _ _ _ (declare-name .ensures)
+    (sym (goes-on .ensures) ∙ not-false _ (if3 .left)) _ _ _ (if4 .taken) (choose .ensures)
+
+names·declare-same-length-5 : (t : ℕ) →
+    names·declare-lts.Need-same-length-5 (names·declare-callees t) (names·declare-at t) names·declare.Post
+names·declare-same-length-5 t c =
+    let declare-name = c .before .before .before .before .before .before .before .before .before .before .before
+    .before .before .before .before .before .declare-name in
+    let close = c .before .before .before .before .close in
+    close .kept .1 .1 .1 .0 ∙ declare-name .kept .1 .1 .1 .0
+
+names·declare-same-length-6 : (t : ℕ) →
+    names·declare-lts.Need-same-length-6 (names·declare-callees t) (names·declare-at t) names·declare.Post
+names·declare-same-length-6 t c =
+    let declare-name = c .before .before .before .before .before .before .before .before .before .before .before
+    .before .before .before .before .before .declare-name in
+    let close = c .before .before .before .before .close in
+    close .kept .1 .1 .1 .1 .0 ∙ declare-name .kept .1 .1 .1 .1 .0
+
+names·declare-returns-5 : (t : ℕ) →
+    names·declare-lts.Need-returns-5 (names·declare-callees t) (names·declare-at t) names·declare.Post
+names·declare-returns-5 t c =
+    let start = c .before .before .before .before .before .before .before .before .before .before .before .before
+    .before .before .before .before .before .before .before .before .before .before .before .before .before .before
+    .before .before .before in
+    let spend = c .before .before .before .before .before .before .before .before .before .before .before .before
+    .before .before .before .before .before .before .before .before .before .before .before .spend in
+    let if1 = c .before .before .before .before .before .before .before .before .before .before .before .before
+    .before .before .before .before .before .before .before .before .before .if1 in
+    let if2 = c .before .before .before .before .before .before .before .before .before .before .before .before
+    .before .before .before .before .before .before .before .if2 in
+    let declare-name = c .before .before .before .before .before .before .before .before .before .before .before
+    .before .before .before .before .before .declare-name in
+    let goes-on = c .before .before .before .before .before .before .before .before .before .before .goes-on in
+    let if3 = c .before .before .before .before .before .before .before .before .before .if3 in
+    let if4 = c .before .before .before .before .before .before .before .if4 in
+    let close = c .before .before .before .before .close in
+    declare-last _ _ _ (start .args .here) _ _ _ _ _ _ (spend .ensures) (if1 .left) (if2 .left) _ _ _ (declare-name .ensures)
+    (sym (goes-on .ensures) ∙ not-false _ (if3 .left)) _ _ _ (if4 .left) (close .ensures)
 
 parser·choice-first-side-requires : (t : ℕ) →
     parser·choice-lts.Need-first-side-requires (parser·choice-callees t) (parser·choice-at t) parser·choice.Post
@@ -827,315 +1229,6 @@ parser·choice-returns-2 t c =
     let both-sides = c .both-sides in
     choice-both _ _ _ _ _ _ _ _ _ _ _ _ _ _ _ _ _ _ _ (first-side .ensures) (steps .ensures) (if1 .left) _ _ _ _
     (descend .ensures) (both-sides .ensures)
-
-parser·close-names-open-body-requires : (t : ℕ) →
-    parser·close-names-lts.Need-open-body-requires (parser·close-names-callees t) (parser·close-names-at t)
-    parser·close-names.Post
-parser·close-names-open-body-requires t c κs =
-    let start = c .before .before .before .before .before .before .before in
-    (start .pre .1 .0 .3 .0, start .pre .1 .0 .1, start .pre .1 .0 .2)
-
-parser·close-names-same-length : (t : ℕ) →
-    parser·close-names-lts.Need-same-length (parser·close-names-callees t) (parser·close-names-at t)
-    parser·close-names.Post
-parser·close-names-same-length t c =
-    let open-body = c .before .before .before .before .before .open-body in
-    open-body .kept .1 .1 .1 .0
-
-parser·close-names-returns : (t : ℕ) →
-    parser·close-names-lts.Need-returns (parser·close-names-callees t) (parser·close-names-at t)
-    parser·close-names.Post
-parser·close-names-returns t c =
-    let open-body = c .before .before .before .before .before .open-body in
-    let goes-on = c .before .goes-on in
-    let if1 = c .if1 in
-    close-ended _ _ _ _ _ _ _ _ _ _ _ (open-body .ensures) (sym (goes-on .ensures) ∙ not-true _ (if1 .taken))
-
-parser·close-names-body-binder-requires : (t : ℕ) →
-    parser·close-names-lts.Need-body-binder-requires (parser·close-names-callees t) (parser·close-names-at t)
-    parser·close-names.Post
-parser·close-names-body-binder-requires t c κs =
-    let start = c .before .before .before .before .before .before .before .before .before .before .before .before
-    .before in
-    omega (arith, start .pre .1 .1)
-
-parser·close-names-begin-child-requires : (t : ℕ) →
-    parser·close-names-lts.Need-begin-child-requires (parser·close-names-callees t) (parser·close-names-at t)
-    parser·close-names.Post
-parser·close-names-begin-child-requires t c κs =
-    let start = c .before .before .before .before .before .before .before .before .before .before .before .before
-    .before .before .before in
-    ((start .pre .1 .0 .3 .0, start .pre .1 .0 .1), start .pre .1 .0 .2 .short)
-
-parser·close-names-enter-requires : (t : ℕ) →
-    parser·close-names-lts.Need-enter-requires (parser·close-names-callees t) (parser·close-names-at t)
-    parser·close-names.Post
-parser·close-names-enter-requires t c κs =
-    let start = c .before .before .before .before .before .before .before .before .before .before .before .before
-    .before .before .before .before .before .before .before .before in
-    let begin-child = c .before .before .before .before .begin-child in (
-      omega (arith, start .pre .0),
-      (
-        start .pre .1 .0 .0,
-        omega (arith, start .pre .1 .0 .1, begin-child .kept .1 .0),
-        start .pre .1 .0 .2,
-      ),
-    )
-
-parser·close-names-follow-requires : (t : ℕ) →
-    parser·close-names-lts.Need-follow-requires (parser·close-names-callees t) (parser·close-names-at t)
-    parser·close-names.Post
-parser·close-names-follow-requires t c κs =
-    let start = c .before .before .before .before .before .before .before .before .before .before .before .before
-    .before .before .before .before .before .before .before .before .before .before .before .before .before .before
-    .before in
-    let begin-child = c .before .before .before .before .before .before .before .before .before .before .before
-    .begin-child in
-    let enter = c .before .before .before .before .before .before .enter in (
-      omega (arith, start .pre .0),
-      (
-        start .pre .1 .0 .0,
-        omega (arith, start .pre .1 .0 .1, begin-child .kept .1 .0, enter .kept .1 .1 .1 .1 .0),
-        start .pre .1 .0 .2,
-        start .pre .1 .0 .3,
-        start .pre .1 .0 .4,
-      ),
-    )
-
-parser·close-names-same-length-3 : (t : ℕ) →
-    parser·close-names-lts.Need-same-length-3 (parser·close-names-callees t) (parser·close-names-at t)
-    parser·close-names.Post
-parser·close-names-same-length-3 t c =
-    let open-body = c .before .before .before .before .before .before .before .before .before .before .before
-    .before .before .before .before .before .before .before .before .before .before .before .before .before
-    .open-body in
-    let enter = c .before .before .before .before .before .before .before .before .before .before .before .enter in
-    let follow = c .before .before .before .before .follow in
-    follow .kept .1 .1 .1 .0 ∙ enter .kept .1 .1 .1 .0 ∙ open-body .kept .1 .1 .1 .0
-
-parser·close-names-same-length-4 : (t : ℕ) →
-    parser·close-names-lts.Need-same-length-4 (parser·close-names-callees t) (parser·close-names-at t)
-    parser·close-names.Post
-parser·close-names-same-length-4 t c =
-    let begin-child = c .before .before .before .before .before .before .before .before .before .before .before
-    .before .before .before .before .before .begin-child in
-    let enter = c .before .before .before .before .before .before .before .before .before .before .before .enter in
-    let follow = c .before .before .before .before .follow in
-    follow .kept .1 .1 .1 .1 .0 ∙ enter .kept .1 .1 .1 .1 .0 ∙ begin-child .kept .1 .0
-
-parser·close-names-returns-2 : (t : ℕ) →
-    parser·close-names-lts.Need-returns-2 (parser·close-names-callees t) (parser·close-names-at t)
-    parser·close-names.Post
-parser·close-names-returns-2 t c =
-    let start = c .before .before .before .before .before .before .before .before .before .before .before .before
-    .before .before .before .before .before .before .before .before .before .before .before .before .before .before
-    .before .before .before .before .before .before in
-    let open-body = c .before .before .before .before .before .before .before .before .before .before .before
-    .before .before .before .before .before .before .before .before .before .before .before .before .before
-    .open-body in
-    let goes-on = c .before .before .before .before .before .before .before .before .before .before .before .before
-    .before .before .before .before .before .before .before .before .goes-on in
-    let if1 = c .before .before .before .before .before .before .before .before .before .before .before .before
-    .before .before .before .before .before .before .before .if1 in
-    let body-binder = c .before .before .before .before .before .before .before .before .before .before .before
-    .before .before .before .before .before .before .before .body-binder in
-    let begin-child = c .before .before .before .before .before .before .before .before .before .before .before
-    .before .before .before .before .before .begin-child in
-    let enter = c .before .before .before .before .before .before .before .before .before .before .before .enter in
-    let follow = c .before .before .before .before .follow in
-    let args = start .args in
-    close-body _ _ _ _ _ _ _ _ _ _ _ (open-body .ensures) (sym (goes-on .ensures) ∙ not-false _ (if1 .left)) _ _ _
-    (descended _ _ _ _ _ _ _ _ _ _ _ _ _ _ _ _ _ _ _ _ _ _ _ _
-    (names-binder (args .text .now) (table (args .rows .now)) (args .free) (args .names .count) _ (args .here .call)
-    (body-binder .ensures)) (begin-child .ensures) (enter .ensures) (follow .ensures))
-
-parser·declare-returns : (t : ℕ) →
-    parser·declare-lts.Need-returns (parser·declare-callees t) (parser·declare-at t) parser·declare.Post
-parser·declare-returns t c =
-    let start = c .before .before .before .before .before .before .before .before in
-    let spend = c .before .before .spend in
-    let if1 = c .if1 in
-    declare-unpaid _ _ _ (start .args .here) _ _ _ _ _ _ (spend .ensures) (if1 .taken)
-
-parser·declare-returns-2 : (t : ℕ) →
-    parser·declare-lts.Need-returns-2 (parser·declare-callees t) (parser·declare-at t) parser·declare.Post
-parser·declare-returns-2 t c =
-    let start = c .before .before .before .before .before .before .before .before .before .before .before in
-    let spend = c .before .before .before .before .before .spend in
-    let if1 = c .before .before .before .if1 in
-    let if2 = c .before .if2 in
-    let without-failure = c .without-failure in
-    declare-deep _ _ _ (start .args .here) _ _ _ _ _ _ (spend .ensures) (if1 .left) _ (if2 .taken) (without-failure .ensures)
-
-parser·declare-declare-name-requires : (t : ℕ) →
-    parser·declare-lts.Need-declare-name-requires (parser·declare-callees t) (parser·declare-at t)
-    parser·declare.Post
-parser·declare-declare-name-requires t c κs =
-    let start = c .before .before .before .before .before .before .before .before .before .before .before .before in
-    let if2 = c .before .before .if2 in (
-      (start .pre .1 .0 .0, start .pre .1 .0 .1, start .pre .1 .0 .2),
-      omega (arith, if2 .left),
-    )
-
-parser·declare-same-length : (t : ℕ) →
-    parser·declare-lts.Need-same-length (parser·declare-callees t) (parser·declare-at t) parser·declare.Post
-parser·declare-same-length t c =
-    let declare-name = c .before .before .before .before .before .before .before .declare-name in
-    declare-name .kept .1 .1 .1 .0
-
-parser·declare-same-length-2 : (t : ℕ) →
-    parser·declare-lts.Need-same-length-2 (parser·declare-callees t) (parser·declare-at t) parser·declare.Post
-parser·declare-same-length-2 t c =
-    let declare-name = c .before .before .before .before .before .before .before .declare-name in
-    declare-name .kept .1 .1 .1 .1 .0
-
-parser·declare-returns-3 : (t : ℕ) →
-    parser·declare-lts.Need-returns-3 (parser·declare-callees t) (parser·declare-at t) parser·declare.Post
-parser·declare-returns-3 t c =
-    let start = c .before .before .before .before .before .before .before .before .before .before .before .before
-    .before .before .before .before .before .before .before .before in
-    let spend = c .before .before .before .before .before .before .before .before .before .before .before .before
-    .before .before .spend in
-    let if1 = c .before .before .before .before .before .before .before .before .before .before .before .before .if1 in
-    let if2 = c .before .before .before .before .before .before .before .before .before .before .if2 in
-    let declare-name = c .before .before .before .before .before .before .before .declare-name in
-    let goes-on = c .before .goes-on in
-    let if3 = c .if3 in
-    declare-ended _ _ _ (start .args .here) _ _ _ _ _ _ (spend .ensures) (if1 .left) (if2 .left) _ _ _ (declare-name .ensures)
-    (sym (goes-on .ensures) ∙ not-true _ (if3 .taken))
-
-parser·declare-add-t23 : (t : ℕ) →
-    parser·declare-lts.Need-add-t23 (parser·declare-callees t) (parser·declare-at t) parser·declare.Post
-parser·declare-add-t23 t c =
-    let start = c .before .before .before .before .before .before .before .before .before .before .before .before
-    .before .before .before .before .before .before .before .before .before in
-    omega (arith, start .pre .1 .1)
-
-parser·declare-sub-inner : (t : ℕ) →
-    parser·declare-lts.Need-sub-inner (parser·declare-callees t) (parser·declare-at t) parser·declare.Post
-parser·declare-sub-inner t c =
-    let if2 = c .before .before .before .before .before .before .before .before .before .before .before .if2 in
-    omega (arith, if2 .left)
-
-parser·declare-name-choice-requires : (t : ℕ) →
-    parser·declare-lts.Need-name-choice-requires (parser·declare-callees t) (parser·declare-at t)
-    parser·declare.Post
-parser·declare-name-choice-requires t c κs =
-    let start = c .before .before .before .before .before .before .before .before .before .before .before .before
-    .before .before .before .before .before .before .before .before .before .before .before .before in
-    let if2 = c .before .before .before .before .before .before .before .before .before .before .before .before
-    .before .before .if2 in
-    let declare-name = c .before .before .before .before .before .before .before .before .before .before .before
-    .declare-name in (
-      omega (arith, start .pre .0, if2 .left),
-      (
-        (
-          omega (arith, start .pre .1 .0 .0),
-          omega (arith, start .pre .1 .0 .1, declare-name .kept .1 .1 .1 .1 .0),
-          start .pre .1 .0 .2,
-          start .pre .1 .0 .3,
-          omega (arith, start .pre .1 .0 .4),
-        ),
-        omega (arith, start .pre .1 .1, if2 .left),
-      ),
-    )
-
-parser·declare-close-names-requires : (t : ℕ) →
-    parser·declare-lts.Need-close-names-requires (parser·declare-callees t) (parser·declare-at t)
-    parser·declare.Post
-parser·declare-close-names-requires t c κs =
-    let start = c .before .before .before .before .before .before .before .before .before .before .before .before
-    .before .before .before .before .before .before .before .before .before .before .before .before in
-    let if2 = c .before .before .before .before .before .before .before .before .before .before .before .before
-    .before .before .if2 in
-    let declare-name = c .before .before .before .before .before .before .before .before .before .before .before
-    .declare-name in (
-      omega (arith, start .pre .0, if2 .left),
-      (
-        (
-          omega (arith, start .pre .1 .0 .0),
-          omega (arith, start .pre .1 .0 .1, declare-name .kept .1 .1 .1 .1 .0),
-          start .pre .1 .0 .2,
-          start .pre .1 .0 .3,
-          omega (arith, start .pre .1 .0 .4),
-        ),
-        omega (arith, start .pre .1 .1, if2 .left),
-      ),
-    )
-
-parser·declare-same-length-3 : (t : ℕ) →
-    parser·declare-lts.Need-same-length-3 (parser·declare-callees t) (parser·declare-at t) parser·declare.Post
-parser·declare-same-length-3 t c =
-    let declare-name = c .before .before .before .before .before .before .before .before .before .before .before
-    .before .before .before .before .before .declare-name in
-    let name-choice = c .before .before .before .before .name-choice in
-    name-choice .kept .1 .1 .1 .0 ∙ declare-name .kept .1 .1 .1 .0
-
-parser·declare-same-length-4 : (t : ℕ) →
-    parser·declare-lts.Need-same-length-4 (parser·declare-callees t) (parser·declare-at t) parser·declare.Post
-parser·declare-same-length-4 t c =
-    let declare-name = c .before .before .before .before .before .before .before .before .before .before .before
-    .before .before .before .before .before .declare-name in
-    let name-choice = c .before .before .before .before .name-choice in
-    name-choice .kept .1 .1 .1 .1 .0 ∙ declare-name .kept .1 .1 .1 .1 .0
-
-parser·declare-returns-4 : (t : ℕ) →
-    parser·declare-lts.Need-returns-4 (parser·declare-callees t) (parser·declare-at t) parser·declare.Post
-parser·declare-returns-4 t c =
-    let start = c .before .before .before .before .before .before .before .before .before .before .before .before
-    .before .before .before .before .before .before .before .before .before .before .before .before .before .before
-    .before .before .before in
-    let spend = c .before .before .before .before .before .before .before .before .before .before .before .before
-    .before .before .before .before .before .before .before .before .before .before .before .spend in
-    let if1 = c .before .before .before .before .before .before .before .before .before .before .before .before
-    .before .before .before .before .before .before .before .before .before .if1 in
-    let if2 = c .before .before .before .before .before .before .before .before .before .before .before .before
-    .before .before .before .before .before .before .before .if2 in
-    let declare-name = c .before .before .before .before .before .before .before .before .before .before .before
-    .before .before .before .before .before .declare-name in
-    let goes-on = c .before .before .before .before .before .before .before .before .before .before .goes-on in
-    let if3 = c .before .before .before .before .before .before .before .before .before .if3 in
-    let if4 = c .before .before .before .before .before .before .before .if4 in
-    let name-choice = c .before .before .before .before .name-choice in
-    declare-more _ _ _ (start .args .here) _ _ _ _ _ _ (spend .ensures) (if1 .left) (if2 .left) _ _ _ (declare-name .ensures)
-    (sym (goes-on .ensures) ∙ not-false _ (if3 .left)) _ _ _ (if4 .taken) (name-choice .ensures)
-
-parser·declare-same-length-5 : (t : ℕ) →
-    parser·declare-lts.Need-same-length-5 (parser·declare-callees t) (parser·declare-at t) parser·declare.Post
-parser·declare-same-length-5 t c =
-    let declare-name = c .before .before .before .before .before .before .before .before .before .before .before
-    .before .before .before .before .before .declare-name in
-    let close-names = c .before .before .before .before .close-names in
-    close-names .kept .1 .1 .1 .0 ∙ declare-name .kept .1 .1 .1 .0
-
-parser·declare-same-length-6 : (t : ℕ) →
-    parser·declare-lts.Need-same-length-6 (parser·declare-callees t) (parser·declare-at t) parser·declare.Post
-parser·declare-same-length-6 t c =
-    let declare-name = c .before .before .before .before .before .before .before .before .before .before .before
-    .before .before .before .before .before .declare-name in
-    let close-names = c .before .before .before .before .close-names in
-    close-names .kept .1 .1 .1 .1 .0 ∙ declare-name .kept .1 .1 .1 .1 .0
-
-parser·declare-returns-5 : (t : ℕ) →
-    parser·declare-lts.Need-returns-5 (parser·declare-callees t) (parser·declare-at t) parser·declare.Post
-parser·declare-returns-5 t c =
-    let start = c .before .before .before .before .before .before .before .before .before .before .before .before
-    .before .before .before .before .before .before .before .before .before .before .before .before .before .before
-    .before .before .before in
-    let spend = c .before .before .before .before .before .before .before .before .before .before .before .before
-    .before .before .before .before .before .before .before .before .before .before .before .spend in
-    let if1 = c .before .before .before .before .before .before .before .before .before .before .before .before
-    .before .before .before .before .before .before .before .before .before .if1 in
-    let if2 = c .before .before .before .before .before .before .before .before .before .before .before .before
-    .before .before .before .before .before .before .before .if2 in
-    let declare-name = c .before .before .before .before .before .before .before .before .before .before .before
-    .before .before .before .before .before .declare-name in
-    let goes-on = c .before .before .before .before .before .before .before .before .before .before .goes-on in
-    let if3 = c .before .before .before .before .before .before .before .before .before .if3 in
-    let if4 = c .before .before .before .before .before .before .before .if4 in
-    let close-names = c .before .before .before .before .close-names in
-    declare-last _ _ _ (start .args .here) _ _ _ _ _ _ (spend .ensures) (if1 .left) (if2 .left) _ _ _ (declare-name .ensures)
-    (sym (goes-on .ensures) ∙ not-false _ (if3 .left)) _ _ _ (if4 .left) (close-names .ensures)
 
 parser·descend-inherited-binder-requires : (t : ℕ) →
     parser·descend-lts.Need-inherited-binder-requires (parser·descend-callees t) (parser·descend-at t)
@@ -1433,122 +1526,6 @@ parser·follow-returns-4 t c =
     (sym (goes-on .ensures) ∙ not-false _ (if1 .left)) (parse-count .ensures)
     (follow-end _ _ _ _ _ _ _ _ _ _ _ _ _ _ (table (loop .rows)) (loop .all) (loop .inv .4)
     (loop-test .left) (loop .inv .3))
-
-parser·name-choice-returns : (t : ℕ) →
-    parser·name-choice-lts.Need-returns (parser·name-choice-callees t) (parser·name-choice-at t)
-    parser·name-choice.Post
-parser·name-choice-returns t c =
-    let start = c .before .before .before .before .before .before .before .before in
-    let spend = c .before .before .spend in
-    let if1 = c .if1 in
-    names-unpaid _ _ _ (start .args .here) _ _ _ _ _ _ (spend .ensures) (if1 .taken)
-
-parser·name-choice-close-names-requires : (t : ℕ) →
-    parser·name-choice-lts.Need-close-names-requires (parser·name-choice-callees t) (parser·name-choice-at t)
-    parser·name-choice.Post
-parser·name-choice-close-names-requires t c κs =
-    let start = c .before .before .before .before .before .before .before .before .before .before .before in
-    (omega (arith, start .pre .0), start .pre .1)
-
-parser·name-choice-same-length : (t : ℕ) →
-    parser·name-choice-lts.Need-same-length (parser·name-choice-callees t) (parser·name-choice-at t)
-    parser·name-choice.Post
-parser·name-choice-same-length t c =
-    let close-names = c .before .before .before .before .before .before .close-names in
-    close-names .kept .1 .1 .1 .0
-
-parser·name-choice-same-length-2 : (t : ℕ) →
-    parser·name-choice-lts.Need-same-length-2 (parser·name-choice-callees t) (parser·name-choice-at t)
-    parser·name-choice.Post
-parser·name-choice-same-length-2 t c =
-    let close-names = c .before .before .before .before .before .before .close-names in
-    close-names .kept .1 .1 .1 .1 .0
-
-parser·name-choice-returns-2 : (t : ℕ) →
-    parser·name-choice-lts.Need-returns-2 (parser·name-choice-callees t) (parser·name-choice-at t)
-    parser·name-choice.Post
-parser·name-choice-returns-2 t c =
-    let start = c .before .before .before .before .before .before .before .before .before .before .before .before
-    .before .before .before .before .before .before in
-    let spend = c .before .before .before .before .before .before .before .before .before .before .before .before
-    .spend in
-    let if1 = c .before .before .before .before .before .before .before .before .before .before .if1 in
-    let close-names = c .before .before .before .before .before .before .close-names in
-    let if2 = c .if2 in
-    names-stopped _ _ _ (start .args .here) _ _ _ _ _ _ (spend .ensures) (if1 .left) _ _ _ (close-names .ensures) (if2 .taken)
-
-parser·name-choice-declare-requires : (t : ℕ) →
-    parser·name-choice-lts.Need-declare-requires (parser·name-choice-callees t) (parser·name-choice-at t)
-    parser·name-choice.Post
-parser·name-choice-declare-requires t c κs =
-    let start = c .before .before .before .before .before .before .before .before .before .before .before .before
-    .before .before .before .before .before .before .before .before in
-    let close-names = c .before .before .before .before .before .before .before .before .close-names in (
-      omega (arith, start .pre .0),
-      (
-        (
-          start .pre .1 .0 .0,
-          omega (arith, start .pre .1 .0 .1, close-names .kept .1 .1 .1 .1 .0),
-          start .pre .1 .0 .2,
-          start .pre .1 .0 .3,
-          start .pre .1 .0 .4,
-        ),
-        start .pre .1 .1,
-      ),
-    )
-
-parser·name-choice-both-sides-requires : (t : ℕ) →
-    parser·name-choice-lts.Need-both-sides-requires (parser·name-choice-callees t) (parser·name-choice-at t)
-    parser·name-choice.Post
-parser·name-choice-both-sides-requires t c κs =
-    let start = c .before .before .before .before .before .before .before .before .before .before .before .before
-    .before .before .before .before .before .before .before .before .before .before .before .before .before .before in
-    let close-names = c .before .before .before .before .before .before .before .before .before .before .before
-    .before .before .before .close-names in
-    let declare = c .before .before .before .before .before .declare in (
-      (
-        start .pre .1 .0 .3 .0,
-        omega (arith, start .pre .1 .0 .1, close-names .kept .1 .1 .1 .1 .0, declare .kept .1 .1 .1 .1 .0),
-      ),
-      start .pre .1 .0 .2 .short,
-    )
-
-parser·name-choice-same-length-3 : (t : ℕ) →
-    parser·name-choice-lts.Need-same-length-3 (parser·name-choice-callees t) (parser·name-choice-at t)
-    parser·name-choice.Post
-parser·name-choice-same-length-3 t c =
-    let close-names = c .before .before .before .before .before .before .before .before .before .before .before
-    .before .before .before .before .close-names in
-    let declare = c .before .before .before .before .before .before .declare in
-    declare .kept .1 .1 .1 .0 ∙ close-names .kept .1 .1 .1 .0
-
-parser·name-choice-same-length-4 : (t : ℕ) →
-    parser·name-choice-lts.Need-same-length-4 (parser·name-choice-callees t) (parser·name-choice-at t)
-    parser·name-choice.Post
-parser·name-choice-same-length-4 t c =
-    let close-names = c .before .before .before .before .before .before .before .before .before .before .before
-    .before .before .before .before .close-names in
-    let declare = c .before .before .before .before .before .before .declare in
-    declare .kept .1 .1 .1 .1 .0 ∙ close-names .kept .1 .1 .1 .1 .0
-
-parser·name-choice-returns-3 : (t : ℕ) →
-    parser·name-choice-lts.Need-returns-3 (parser·name-choice-callees t) (parser·name-choice-at t)
-    parser·name-choice.Post
-parser·name-choice-returns-3 t c =
-    let start = c .before .before .before .before .before .before .before .before .before .before .before .before
-    .before .before .before .before .before .before .before .before .before .before .before .before .before .before
-    .before in
-    let spend = c .before .before .before .before .before .before .before .before .before .before .before .before
-    .before .before .before .before .before .before .before .before .before .spend in
-    let if1 = c .before .before .before .before .before .before .before .before .before .before .before .before
-    .before .before .before .before .before .before .before .if1 in
-    let close-names = c .before .before .before .before .before .before .before .before .before .before .before
-    .before .before .before .before .close-names in
-    let if2 = c .before .before .before .before .before .before .before .before .before .if2 in
-    let declare = c .before .before .before .before .before .before .declare in
-    let both-sides = c .both-sides in
-    names-both _ _ _ (start .args .here) _ _ _ _ _ _ (spend .ensures) (if1 .left) _ _ _ (close-names .ensures) (if2 .left)
-    (start .pre .1 .0 .4) (start .pre .1 .0 .3 .0) (table-length _) _ _ _ _ (declare .ensures) (both-sides .ensures)
 
 abbrev parser·one-run-Inv-loop : parser·one-run-lts.InvT-loop
 parser·one-run-Inv-loop book index text store₀ rows₀ left minimum nonterminal called o₀ k₀ store rows o k =
@@ -1943,10 +1920,10 @@ parser·steps-returns-3 t c =
     path-optional _ _ _ _ _ _ (loop .step) (loop .remaining) _ _ _ (loop .o) _ _ _ _ (table (loop .rows)) (loop .inv .4)
     (sym (goes-on .ensures) ∙ if1 .taken) _ _ _ _ (doing2 .given .1) (choice .ensures)
 
-parser·steps-name-choice-requires : (t : ℕ) →
-    parser·steps-lts.Need-name-choice-requires (parser·steps-callees t) (parser·steps-at t) parser·steps.Post
+parser·steps-choose-requires : (t : ℕ) →
+    parser·steps-lts.Need-choose-requires (parser·steps-callees t) (parser·steps-at t) parser·steps.Post
     parser·steps-Inv-loop parser·steps-μ-loop
-parser·steps-name-choice-requires t c κs =
+parser·steps-choose-requires t c κs =
     let start = c .before .before .before .before .before .before .before .before .before .before .before .before
     .before .before .before in
     let loop = c .before .before .before .before .before .before .before .before .before .loop in
@@ -1971,8 +1948,8 @@ parser·steps-same-length-7 : (t : ℕ) →
 parser·steps-same-length-7 t c =
     let loop = c .before .before .before .before .before .before .before .before .before .before .before .before
     .before .before .loop in
-    let name-choice = c .before .before .before .before .name-choice in
-    name-choice .kept .1 .1 .1 .0 ∙ loop .inv .0
+    let choose = c .before .before .before .before .choose in
+    choose .kept .1 .1 .1 .0 ∙ loop .inv .0
 
 parser·steps-same-length-8 : (t : ℕ) →
     parser·steps-lts.Need-same-length-8 (parser·steps-callees t) (parser·steps-at t) parser·steps.Post
@@ -1980,8 +1957,8 @@ parser·steps-same-length-8 : (t : ℕ) →
 parser·steps-same-length-8 t c =
     let loop = c .before .before .before .before .before .before .before .before .before .before .before .before
     .before .before .loop in
-    let name-choice = c .before .before .before .before .name-choice in
-    name-choice .kept .1 .1 .1 .1 .0 ∙ loop .inv .1
+    let choose = c .before .before .before .before .choose in
+    choose .kept .1 .1 .1 .1 .0 ∙ loop .inv .1
 
 parser·steps-returns-4 : (t : ℕ) →
     parser·steps-lts.Need-returns-4 (parser·steps-callees t) (parser·steps-at t) parser·steps.Post
@@ -1995,10 +1972,10 @@ parser·steps-returns-4 t c =
     let doing3 = c .before .before .before .before .before .before .before .before .before .before .doing3 in
     let if3 = c .before .before .before .before .before .before .before .before .if3 in
     let no-names = c .before .before .before .before .before .before .before .no-names in
-    let name-choice = c .before .before .before .before .name-choice in
+    let choose = c .before .before .before .before .choose in
     path-names _ _ _ _ _ _ (loop .step) (loop .remaining) _ _ _ (loop .o) _ _ _ _ (table (loop .rows)) (loop .inv .4)
     (sym (goes-on .ensures) ∙ if1 .taken) _ _ _ _ _ (doing3 .given .1) (if3 .taken) (no-names .ensures)
-    (name-choice .ensures)
+    (choose .ensures)
 
 parser·steps-choice-requires-2 : (t : ℕ) →
     parser·steps-lts.Need-choice-requires-2 (parser·steps-callees t) (parser·steps-at t) parser·steps.Post
@@ -2164,26 +2141,33 @@ parser·variant-returns-2 t c =
     variant-ran _ _ _ _ _ _ _ (variant .ensures) _ _ (if1 .left) _ _ _ _ _ _ _ (begin-variant .ensures)
     (steps .ensures) (after-variant .ensures)
 
-pub +left-recursion·enter+left-recursion·rounds+left-recursion·run-call+parser·choice+parser·close-names+parser·declare+parser·descend+parser·follow+parser·name-choice+parser·one-run+parser·steps+parser·variant-spec :
+pub +left-recursion·call+left-recursion·enter+left-recursion·rounds+names·choose+names·close+names·declare+parser·choice+parser·descend+parser·follow+parser·one-run+parser·steps+parser·variant-spec :
     {M : Type 1} → statement M
-+left-recursion·enter+left-recursion·rounds+left-recursion·run-call+parser·choice+parser·close-names+parser·declare+parser·descend+parser·follow+parser·name-choice+parser·one-run+parser·steps+parser·variant-spec =
++left-recursion·call+left-recursion·enter+left-recursion·rounds+names·choose+names·close+names·declare+parser·choice+parser·descend+parser·follow+parser·one-run+parser·steps+parser·variant-spec =
     close
+    μ-left-recursion·call
     μ-left-recursion·enter
     μ-left-recursion·rounds
-    μ-left-recursion·run-call
+    μ-names·choose
+    μ-names·close
+    μ-names·declare
     μ-parser·choice
-    μ-parser·close-names
-    μ-parser·declare
     μ-parser·descend
     μ-parser·follow
-    μ-parser·name-choice
     μ-parser·one-run
     μ-parser·steps
     μ-parser·variant
+    (λ t. left-recursion·call-lts.spec (left-recursion·call-callees t) (left-recursion·call-at t)
+    left-recursion·call.Post (left-recursion·call-open-call-requires t)
+    (left-recursion·call-one-run-requires t) (left-recursion·call-after-first-requires t)
+    (left-recursion·call-same-length t) (left-recursion·call-same-length-2 t)
+    (left-recursion·call-returns t) (left-recursion·call-rounds-requires t)
+    (left-recursion·call-same-length-3 t) (left-recursion·call-same-length-4 t)
+    (left-recursion·call-returns-2 t))
     (λ t. left-recursion·enter-lts.spec (left-recursion·enter-callees t)
     (left-recursion·enter-at t) left-recursion·enter.Post (left-recursion·enter-begin-use-requires t)
     (left-recursion·enter-same-length t) (left-recursion·enter-same-length-2 t) (left-recursion·enter-returns t)
-    (left-recursion·enter-run-call-requires t) (left-recursion·enter-same-length-3 t)
+    (left-recursion·enter-call-requires t) (left-recursion·enter-same-length-3 t)
     (left-recursion·enter-same-length-4 t) (left-recursion·enter-returns-2 t))
     (λ t. left-recursion·rounds-lts.spec (left-recursion·rounds-callees t) (left-recursion·rounds-at t)
     left-recursion·rounds.Post left-recursion·rounds-Inv-loop left-recursion·rounds-μ-loop
@@ -2193,30 +2177,28 @@ pub +left-recursion·enter+left-recursion·rounds+left-recursion·run-call+parse
     (left-recursion·rounds-loop-less t) (left-recursion·rounds-loop-again t)
     (left-recursion·rounds-without-failure-requires t) (left-recursion·rounds-same-length-3 t)
     (left-recursion·rounds-same-length-4 t) (left-recursion·rounds-returns-2 t))
-    (λ t. left-recursion·run-call-lts.spec (left-recursion·run-call-callees t) (left-recursion·run-call-at t)
-    left-recursion·run-call.Post (left-recursion·run-call-open-call-requires t)
-    (left-recursion·run-call-one-run-requires t) (left-recursion·run-call-after-first-requires t)
-    (left-recursion·run-call-same-length t) (left-recursion·run-call-same-length-2 t)
-    (left-recursion·run-call-returns t) (left-recursion·run-call-rounds-requires t)
-    (left-recursion·run-call-same-length-3 t) (left-recursion·run-call-same-length-4 t)
-    (left-recursion·run-call-returns-2 t)) (λ t. parser·choice-lts.spec (parser·choice-callees t) (parser·choice-at t)
+    (λ t. names·choose-lts.spec (names·choose-callees t) (names·choose-at t) names·choose.Post (λ c κs. search
+    needs) (names·choose-returns t) (names·choose-close-requires t) (names·choose-same-length t)
+    (names·choose-same-length-2 t) (names·choose-returns-2 t) (names·choose-declare-requires t)
+    (names·choose-both-sides-requires t) (names·choose-same-length-3 t) (names·choose-same-length-4 t)
+    (names·choose-returns-3 t))
+    (λ t. names·close-lts.spec (names·close-callees t) (names·close-at t) names·close.Post
+    (names·close-open-body-requires t) (λ c κs. search needs) (names·close-same-length t) (λ c. search needs)
+    (names·close-returns t) (names·close-body-binder-requires t) (names·close-begin-child-requires t)
+    (names·close-enter-requires t) (names·close-follow-requires t) (names·close-same-length-3 t)
+    (names·close-same-length-4 t) (names·close-returns-2 t))
+    (λ t. names·declare-lts.spec (names·declare-callees t) (names·declare-at t) names·declare.Post (λ c κs. search
+    needs) (names·declare-returns t) (λ c κs. search needs) (names·declare-returns-2 t)
+    (names·declare-declare-name-requires t) (λ c κs. search needs) (names·declare-same-length t)
+    (names·declare-same-length-2 t) (names·declare-returns-3 t) (names·declare-add-t23 t) (names·declare-sub-inner
+    t) (names·declare-choose-requires t) (names·declare-close-requires t) (names·declare-same-length-3 t)
+    (names·declare-same-length-4 t) (names·declare-returns-4 t) (names·declare-same-length-5 t)
+    (names·declare-same-length-6 t) (names·declare-returns-5 t))
+    (λ t. parser·choice-lts.spec (parser·choice-callees t) (parser·choice-at t)
     parser·choice.Post (parser·choice-first-side-requires t) (parser·choice-steps-requires t)
     (parser·choice-same-length t) (parser·choice-same-length-2 t) (parser·choice-returns t)
     (parser·choice-descend-requires t) (parser·choice-both-sides-requires t) (parser·choice-same-length-3 t)
     (parser·choice-same-length-4 t) (parser·choice-returns-2 t))
-    (λ t. parser·close-names-lts.spec (parser·close-names-callees t) (parser·close-names-at t)
-    parser·close-names.Post (parser·close-names-open-body-requires t) (λ c κs. search needs)
-    (parser·close-names-same-length t) (λ c. search needs) (parser·close-names-returns t)
-    (parser·close-names-body-binder-requires t) (parser·close-names-begin-child-requires t)
-    (parser·close-names-enter-requires t) (parser·close-names-follow-requires t) (parser·close-names-same-length-3
-    t) (parser·close-names-same-length-4 t) (parser·close-names-returns-2 t))
-    (λ t. parser·declare-lts.spec (parser·declare-callees t) (parser·declare-at t) parser·declare.Post (λ c κs.
-    search needs) (parser·declare-returns t) (λ c κs. search needs) (parser·declare-returns-2 t)
-    (parser·declare-declare-name-requires t) (λ c κs. search needs) (parser·declare-same-length t)
-    (parser·declare-same-length-2 t) (parser·declare-returns-3 t) (parser·declare-add-t23 t)
-    (parser·declare-sub-inner t) (parser·declare-name-choice-requires t) (parser·declare-close-names-requires t)
-    (parser·declare-same-length-3 t) (parser·declare-same-length-4 t) (parser·declare-returns-4 t)
-    (parser·declare-same-length-5 t) (parser·declare-same-length-6 t) (parser·declare-returns-5 t))
     (λ t. parser·descend-lts.spec (parser·descend-callees t) (parser·descend-at t) parser·descend.Post
     (parser·descend-inherited-binder-requires t) (parser·descend-begin-child-requires t)
     (parser·descend-enter-requires t) (parser·descend-follow-requires t)
@@ -2229,13 +2211,7 @@ pub +left-recursion·enter+left-recursion·rounds+left-recursion·run-call+parse
     (parser·follow-steps-requires t) (λ c κs. search needs) (parser·follow-same-length-3 t)
     (parser·follow-same-length-4 t) (parser·follow-returns-3 t) (parser·follow-add-i t) (parser·follow-loop-less t)
     (parser·follow-loop-again t) (parser·follow-same-length-5 t) (parser·follow-same-length-6 t)
-    (parser·follow-returns-4 t)) (λ t. parser·name-choice-lts.spec (parser·name-choice-callees t) (parser·name-choice-at t)
-    parser·name-choice.Post (λ c κs. search needs) (parser·name-choice-returns t)
-    (parser·name-choice-close-names-requires t) (parser·name-choice-same-length t) (parser·name-choice-same-length-2
-    t) (parser·name-choice-returns-2 t) (parser·name-choice-declare-requires t)
-    (parser·name-choice-both-sides-requires t) (parser·name-choice-same-length-3 t)
-    (parser·name-choice-same-length-4 t) (parser·name-choice-returns-3 t))
-    (λ t. parser·one-run-lts.spec (parser·one-run-callees t) (parser·one-run-at t)
+    (parser·follow-returns-4 t)) (λ t. parser·one-run-lts.spec (parser·one-run-callees t) (parser·one-run-at t)
     parser·one-run.Post parser·one-run-Inv-loop parser·one-run-μ-loop (parser·one-run-nonterminal-of-requires t)
     (parser·one-run-clear-run-requires t) (λ c. search needs) (λ c κs. search needs) (λ c κs. search needs)
     (parser·one-run-loop-holds t) (parser·one-run-add-j t) (parser·one-run-cast-j t) (parser·one-run-variant-requires t)
@@ -2249,7 +2225,7 @@ pub +left-recursion·enter+left-recursion·rounds+left-recursion·run-call+parse
     (parser·steps-descend-requires t) (parser·steps-same-length-3 t) (parser·steps-same-length-4 t)
     (parser·steps-returns-2 t) (λ c. search needs) (parser·steps-choice-requires t) (parser·steps-same-length-5 t)
     (parser·steps-same-length-6 t) (parser·steps-returns-3 t) (λ c. search needs) (λ c κs. search needs)
-    (parser·steps-name-choice-requires t) (parser·steps-same-length-7 t) (parser·steps-same-length-8 t)
+    (parser·steps-choose-requires t) (parser·steps-same-length-7 t) (parser·steps-same-length-8 t)
     (parser·steps-returns-4 t) (parser·steps-choice-requires-2 t) (parser·steps-same-length-9 t)
     (parser·steps-same-length-10 t) (parser·steps-returns-5 t) (parser·steps-same-length-11 t)
     (parser·steps-same-length-12 t) (parser·steps-returns-6 t))
