@@ -26,7 +26,7 @@ use Rattle.book.specs.declared.names.Found.{Found}
 use Rattle.semantics.specs.Uses.{Path, scopeOf}
 use Rattle.semantics.specs.Tokens.{Item, Variable, variableIn, isSome}
 use Rattle.semantics.specs.Run.{declaredNames}
-use Rattle.run_model.specs.Rows.{Row, noRow, rowOf, isBody, entryAt, namesAbove, behindNames, withinRow, pathFrom}
+use Rattle.run_model.specs.Rows.{Row, rowOf, isBody, entryAt, namesAbove, behindNames, withinRow, pathFrom}
 use Rattle.run_model.specs.Rows.{pathOf, pathAt, scopeAt, scopeIn}
 use Rattle.calls.specs.TableLaws.{row-past}
 use Rattle.calls.specs.Names.{openBinder, nameCount, depthPast, nameIn, ownName}

@@ -16,7 +16,7 @@ use Rattle.semantics.specs.Values.{Parse, absentParse}
 use Rattle.semantics.specs.Steps.{Todo}
 use Rattle.semantics.specs.Errors.{Error}
 use Rattle.semantics.specs.Cells.{Cell}
-use Rattle.semantics.specs.Run.{Result, met, _>>=_}
+use Rattle.semantics.specs.Run.{Result, _>>=_}
 use Rattle.run_model.specs.Rows.{Row, rowOf, onRow, withChild, binderFor}
 use Rattle.run_model.specs.Model as model
 use Rattle.run_model.specs.Model.{RowState, rowState, outcome, RowRunner, RowNext, together}

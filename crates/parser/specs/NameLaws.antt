@@ -5,24 +5,23 @@
 -- - they stop: names-binder, close-ended, close-body
 -- - one more: declare-unpaid, declare-deep, declare-ended, declare-more, declare-last
 -- - both: names-unpaid, names-stopped, names-both
-use mathlib.Core.Path.{_≡_, refl, sym, ap, subst, _∙_}
-use mathlib.Core.Bool.{Bool, true, false}
+use mathlib.Core.Path.{_≡_, sym, ap, subst, _∙_}
+use mathlib.Core.Bool.{true, false}
 use mathlib.Core.List.{List, _∷_}
-use mathlib.Core.Option.{Option, none, some}
-use Prim.Native.Nat.{ℕ, zero, suc, _+_, _-_, _<_, _≤_}
+use mathlib.Core.Option.{some}
+use Prim.Native.Nat.{ℕ, suc, _+_, _-_, _<_, _≤_}
 use native.Mathlib.Omega.{arith}
 use lib.ListN.{length}
 use Rattle.characters.specs.Skipping.{skipFrom}
 use Rattle.book.specs.Book.{Book, Entry}
 use Rattle.semantics.specs.Steps.{Todo}
-use Rattle.semantics.specs.Cells.{Cell}
-use Rattle.semantics.specs.Run.{Result, met, ok, _>>=_}
+use Rattle.semantics.specs.Run.{Result, ok, _>>=_}
 use Rattle.run_model.specs.Rows.{Row, rowOf, namesAbove, binderFor}
 use Rattle.run_model.specs.Model as model
 use Rattle.run_model.specs.Model.{RowState, rowState, outcome, RowRunner, spendRows, nestedRows, opensRows, declaresRows}
 use Rattle.run_model.specs.Model.{nameChoiceRows, chosenRows, stepsRows, runnerRows}
 use Rattle.run_model.specs.Named.{names-length}
-use Rattle.run_model.specs.Keeps.{KeepsAt, Beside, On}
+use Rattle.run_model.specs.Keeps.{KeepsAt, On}
 use Rattle.run_model.specs.KeepsBinders.{keeps-opens}
 use Rattle.run_model.specs.KeepsRun.{keeps-runner}
 use Rattle.run_model.specs.SimChild.{names-still}

@@ -9,7 +9,7 @@
 use mathlib.Core.Path.{_≡_, refl, sym, ap, subst, _∙_}
 use mathlib.Core.Bool.{true, false, cond}
 use mathlib.Core.List.{List, _∷_}
-use mathlib.Core.Option.{Option, none, some}
+use mathlib.Core.Option.{Option, none}
 use Prim.Native.Nat.{ℕ, zero, suc, _+_, _-_, _≤_}
 use native.Mathlib.Omega.{arith}
 use native.Mathlib.Numerals.{sub-one}
@@ -41,7 +41,7 @@ use Rattle.transitions.specs.Steps.{todoFrom, nextRows, omitsRows, descendsRows
 use Rattle.transitions.specs.Steps.{resumes, firstSideRows, StagedIn, ReachedFrom, Chosen}
 use Rattle.transitions.specs.Names.{namesAt, noNames}
 use Rattle.parser.specs.Cycle.{bothSidesRows, rankOf}
-use Rattle.transitions.specs.ResumeLaws.{goes-on, limit-ends, goes-nowhere, goes-there}
+use Rattle.transitions.specs.ResumeLaws.{limit-ends, goes-nowhere, goes-there}
 use Rattle.parser.specs.ResultLaws.{Going, bind-assoc, bind-assoc-in, goes-to}
 
 -- ---- Choices

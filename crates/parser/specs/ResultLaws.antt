@@ -3,26 +3,19 @@
 -- Contents:
 -- - Going, sub-turn, sub-end
 -- - one part after another: bind-assoc, bind-map, bind-assoc-in, bind-map-in, goes-to
-use mathlib.Core.Path.{_≡_, refl, sym, ap, _∙_}
-use mathlib.Core.Bool.{Bool, true, false, _&&_}
+use mathlib.Core.Path.{_≡_, refl}
 use mathlib.Core.List.{List}
-use mathlib.Core.Option.{none, some}
 use Prim.Native.Nat.{ℕ, suc, _+_, _-_, _<_, _≤_}
 use native.Mathlib.Omega.{arith}
-use lib.Dec.{eqb}
-use borrow.Author.Tests.{eqb-true, eqb-false}
-use Rattle.characters.specs.Cases.{by-test}
-use Rattle.semantics.specs.Errors.{Error}
 use Rattle.semantics.specs.Cells.{Cell}
 use Rattle.semantics.specs.Run.{Result, met, ok, _>>=_}
 use Rattle.run_model.specs.Rows.{Row}
 use Rattle.run_model.specs.Model as model
-use Rattle.run_model.specs.Model.{RowState, rowState, outcome}
+use Rattle.run_model.specs.Model.{rowState, outcome}
 use Rattle.errors.specs.Maps.{failureOf}
-use Rattle.errors.specs.declared.Failure.{Failure}
 use Rattle.transitions.specs.declared.outcomes.Outcome.{Outcome}
-use Rattle.transitions.specs.Outcomes.{Held, given, goesOn, failureAt}
-use Rattle.transitions.specs.OutcomeLaws.{given-ok, given-met}
+use Rattle.transitions.specs.Outcomes.{Held, given, failureAt}
+use Rattle.transitions.specs.OutcomeLaws.{given-ok}
 
 -- a loop has gone on: the store holds its cells, and the model from here is the model of the whole
 pub record Going (text store : List ℕ) (count : ℕ) (x y : Result model.Outcome) : Type 0 where

@@ -3,7 +3,7 @@
 --   kind-none, kind-there, kind-other          the word for a kind
 --   declares-nothing, -unnamed, -name          a declared name, by what stands behind that word
 --   place-within, name-place-within, name-within   where its spelling stands
-use mathlib.Core.Path.{_≡_, refl, sym, ap, subst, _∙_}
+use mathlib.Core.Path.{_≡_, sym, ap, subst}
 use mathlib.Core.List.{List}
 use mathlib.Core.Option.{Option, none, some}
 use Prim.Native.Nat.{ℕ, _≤_}
@@ -15,7 +15,7 @@ use Rattle.book.specs.Book.{Book, Entry, kindWord}
 use Rattle.book.specs.declared.names.KindWord.{KindWord}
 use Rattle.semantics.specs.Numbers.{identifierWanted, nonterminalWanted, declaredName}
 use Rattle.semantics.specs.Tokens.{Read, identifierEnd, spelled, freeEnd, kindAt, nameOfKind, declarationAt}
-use Rattle.semantics.specs.Errors.{Error, error, identifierError, declarationError}
+use Rattle.semantics.specs.Errors.{error, identifierError, declarationError}
 use Rattle.semantics.specs.Theorem.Results.{none-some, some-inj, option-cases}
 use Rattle.semantics.specs.Theorem.Tokens.{identifier-within, free-end-within}
 use Rattle.run_model.specs.Model.{namePlace}

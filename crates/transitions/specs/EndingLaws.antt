@@ -34,7 +34,7 @@ use Rattle.transitions.specs.declared.outcomes.State.{State}
 use Rattle.transitions.specs.declared.items.CellOutcome.{CellOutcome}
 use Rattle.transitions.specs.declared.runs.RunEnd.{RunEnd}
 use Rattle.transitions.specs.declared.stages.Reached.{Reached}
-use Rattle.transitions.specs.Outcomes.{cellsOf, given, Runs, MadeBy, withoutFailure, doneWith, failureAt}
+use Rattle.transitions.specs.Outcomes.{cellsOf, given, MadeBy, withoutFailure, doneWith, failureAt}
 use Rattle.transitions.specs.Steps.{reachedWith, goesWith, resumes, doesRows}
 use Rattle.transitions.specs.Entering.{goesAgain, SettledAs, FirstEnded, RoundEnded, Begins, VariantEnded}
 use Rattle.transitions.specs.OutcomeLaws.{given-ok, given-met, cell-ok, cell-met}

@@ -1,7 +1,5 @@
 -- Numbers of a book and of a text that fit into 32 bits. An accepted book's do (FitLaws).
-use mathlib.Core.Bool.{Bool}
 use mathlib.Core.List.{List}
-use mathlib.Core.Option.{Option, none, some}
 use Prim.Native.Nat.{ℕ, _+_, _≤_, _<_}
 use lib.ListN.{length}
 use Rattle.semantics.specs.Numbers.{longestText}

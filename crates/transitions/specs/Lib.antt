@@ -6,6 +6,7 @@ pub mod OutcomeLaws
 pub mod Steps
 pub mod Names
 pub mod ResumeLaws
+pub mod StopLaws
 pub mod StepsLaws
 pub mod NextLaws
 pub mod NamesLaws

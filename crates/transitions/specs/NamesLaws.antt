@@ -7,26 +7,24 @@
 use mathlib.Core.Path.{_≡_, refl, sym, ap, subst, _∙_}
 use mathlib.Core.Bool.{Bool, true, false}
 use mathlib.Core.List.{List, [], _∷_, _++_}
-use mathlib.Core.Option.{Option, none, some}
-use Prim.Native.Nat.{ℕ, zero, suc, _+_, _-_, _/_, _%_, _<_, _≤_}
+use mathlib.Core.Option.{Option, some}
+use Prim.Native.Nat.{ℕ, suc, _+_, _-_, _/_, _%_, _<_, _≤_}
 use native.Mathlib.Omega.{arith}
 use lib.Dec.{leb}
 use lib.ListN.{length}
 use Rattle.characters.specs.Skipping.{skipFrom}
 use Rattle.book.specs.Book.{Book, Entry}
-use Rattle.semantics.specs.Tokens.{Read, declarationAt}
+use Rattle.semantics.specs.Tokens.{declarationAt}
 use Rattle.semantics.specs.Theorem.Tokens.{declared-kind}
 use Rattle.semantics.specs.Steps.{Todo, After, goes, halts, naming, closing, afterElement, closed}
-use Rattle.semantics.specs.Errors.{declarationError}
 use Rattle.semantics.specs.Cells.{Cell, numbersOf}
 use Rattle.semantics.specs.Run as run
-use Rattle.semantics.specs.Run.{Result, met, ok, _>>=_, make, closingCode, declaredNames}
-use Rattle.run_model.specs.Rows.{Row, declared, onRow, scopeIn, namesAbove}
+use Rattle.semantics.specs.Run.{Result, met, _>>=_, make, closingCode, declaredNames}
+use Rattle.run_model.specs.Rows.{Row, declared, onRow, scopeIn}
 use Rattle.run_model.specs.Named.{names-with}
 use Rattle.run_model.specs.Model as model
 use Rattle.run_model.specs.Model.{RowState, rowState, outcome, RowRunner, RowMade, rowMade, makes, namePlace, withDeclared}
 use Rattle.run_model.specs.Model.{stopsRows, openRows, bodyRows, opensRows}
-use Rattle.errors.specs.Maps.{errorOf}
 use Rattle.errors.specs.declared.Error as code
 use Rattle.errors.specs.declared.Failure.{Failure}
 use Rattle.tokens.specs.Maps.{afterOf}
@@ -44,7 +42,7 @@ use Rattle.transitions.specs.declared.stages.Reached.{Reached}
 use Rattle.transitions.specs.declared.names.Named.{Named}
 use Rattle.transitions.specs.Outcomes.{cellsOf, Held, given, goesOn, MadeBy, withoutFailure, doneWith}
 use Rattle.transitions.specs.Steps.{endedBy, goesWith, descendsRows, nextRows, GoneFrom}
-use Rattle.transitions.specs.StepsLaws.{stopsPart}
+use Rattle.transitions.specs.StopLaws.{stopsPart}
 use Rattle.transitions.specs.Names.{namesAt, OpensFrom, notNamed, afterName, IsNamed, behindName, declaringRows}
 use Rattle.transitions.specs.Names.{DeclaresFrom}
 use Rattle.transitions.specs.ResumeLaws.{stateIn, bind-met, bind-ok, makes-ok, makes-met, goes-met, goes-further}

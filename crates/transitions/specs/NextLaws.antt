@@ -20,7 +20,6 @@ use Rattle.semantics.specs.Run.{met, ok, _>>=_, either}
 use Rattle.run_model.specs.Rows.{Row, rowOf}
 use Rattle.run_model.specs.Model.{RowState, rowState, outcome, RowRunner, RowMade, rowMade, makes, spendRows, together}
 use Rattle.run_model.specs.Model.{plainNextRows, listNextRows, stopsRows, choiceRows, stepsRows}
-use Rattle.sets.specs.Sets.{parse}
 use Rattle.errors.specs.Maps.{failureOf}
 use Rattle.tokens.specs.Maps.{closingIn, afterOf}
 use Rattle.errors.specs.declared.Failure.{Failure}
@@ -41,7 +40,7 @@ use Rattle.transitions.specs.Steps.{ParseEnded}
 use Rattle.transitions.specs.Steps.{endedBy, reachedWith, thenSteps}
 use Rattle.transitions.specs.ResumeLaws.{stateIn, bind-met, bind-ok, unit-met, unit-ok, makes-ok, makes-met}
 use Rattle.transitions.specs.ResumeLaws.{resumes-met, resumes-on, made-resumes, gone-reached}
-use Rattle.transitions.specs.StepsLaws.{stopsPart, omitsPart}
+use Rattle.transitions.specs.StopLaws.{stopsPart, omitsPart}
 
 -- ---- What follows a parse
 abbrev nextPart : Book → List ℕ → ℕ → Next → ℕ → Parse ℕ → ModelPart

@@ -5,18 +5,17 @@
 -- that whatever does that next (`resumes`) gives what the model gives for the whole.
 use mathlib.Core.Path.{_≡_}
 use mathlib.Core.Bool.{Bool, true, false, cond}
-use mathlib.Core.List.{List, [], _∷_, map}
+use mathlib.Core.List.{List, [], map}
 use mathlib.Core.Option.{Option, none, some}
 use Prim.Native.Nat.{ℕ}
 use lib.ListN.{take, drop}
 use Rattle.characters.specs.Skipping.{skipFrom}
-use Rattle.book.specs.Book.{Book, Entry, nthStep}
+use Rattle.book.specs.Book.{Book, Entry}
 use Rattle.book.specs.declared.records.Step.{Step}
-use Rattle.semantics.specs.Values.{Parse}
 use Rattle.semantics.specs.Tokens.{Item}
 use Rattle.semantics.specs.Steps.{Todo, taking}
 use Rattle.semantics.specs.Cells.{Cell}
-use Rattle.semantics.specs.Run.{Result, met, ok, _>>=_, make, withCell, withToken, closingCode}
+use Rattle.semantics.specs.Run.{Result, ok, _>>=_, make, withCell, withToken, closingCode}
 use Rattle.run_model.specs.Rows.{Row}
 use Rattle.run_model.specs.Model.{RowState, rowState, Outcome, outcome, RowRunner, RowGo, RowNext, makes, spendRows}
 use Rattle.run_model.specs.Model.{together, plainNextRows, listNextRows, stopsRows, enterChildRows, followedRows}

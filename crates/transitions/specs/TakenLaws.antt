@@ -24,7 +24,7 @@ use Rattle.characters.specs.Lexemes.{numberAt}
 use Rattle.characters.specs.LexemeLaws.{number-bounds}
 use Rattle.characters.specs.declared.lexemes.Number.{Number}
 use Rattle.characters.specs.Spelling.{same}
-use Rattle.book.specs.Book.{Book, Entry, nthEntry, lookupFrom, lookupName, nthStep}
+use Rattle.book.specs.Book.{Book, Entry, nthEntry, lookupFrom, lookupName}
 use Rattle.book.specs.declared.names.Found.{Found}
 use Rattle.book.specs.declared.records.Step.{Step}
 use Rattle.semantics.specs.Uses.{Scope}

@@ -2,7 +2,7 @@
 use borrow.Author.Needs.{needs}
 use Rattle.book.specs.Index.{bookIn}
 use Rattle.semantics.specs.Cells.{Cell}
-use Rattle.transitions.specs.StepsLaws.{absent-limit, absent-goes}
+use Rattle.transitions.specs.StopLaws.{absent-limit, absent-goes}
 use Rattle.transitions.proofs.steps.absent.Statement.{statement}
 use Rattle.transitions.proofs.steps.absent.Tie as tie
 

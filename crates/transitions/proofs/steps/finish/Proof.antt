@@ -2,7 +2,7 @@
 use borrow.Author.Needs.{needs}
 use Rattle.book.specs.Index.{bookIn}
 use Rattle.calls.specs.Table.{table}
-use Rattle.transitions.specs.StepsLaws.{level-fits, parse-of-variant, finish-limit, finish-added, finish-full}
+use Rattle.transitions.specs.StopLaws.{level-fits, parse-of-variant, finish-limit, finish-added, finish-full}
 use Rattle.transitions.proofs.steps.finish.Statement.{statement}
 use Rattle.transitions.proofs.steps.finish.Tie as tie
 

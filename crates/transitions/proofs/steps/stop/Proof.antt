@@ -7,7 +7,7 @@ use Rattle.book.specs.Index.{bookIn}
 use Rattle.semantics.specs.Cells.{Cell}
 use Rattle.tokens.specs.Maps.{endOf, closingIn}
 use Rattle.transitions.specs.TakenLaws.{closed-fits}
-use Rattle.transitions.specs.StepsLaws.{stop-limit, stop-unclosed, stop-closed}
+use Rattle.transitions.specs.StopLaws.{stop-limit, stop-unclosed, stop-closed}
 use borrow.Author.Needs.{needs}
 use Rattle.transitions.proofs.steps.stop.Statement.{statement}
 use Rattle.transitions.proofs.steps.stop.Tie as tie
