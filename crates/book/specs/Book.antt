@@ -74,7 +74,7 @@ leastWord i (w ∷ ws) spelling =
 abbrev pub kindWord : List Entry → List ℕ → KindWord
 kindWord words spelling = leastWord 0 (take kinds words) spelling
 
--- ---- Numbers of document 01
+-- ---- Numbers of the documents
 -- "Mark 0 plain; 1 calls `try_claim_as_var` first; 2 is `identifier_nonterminal`"; document 02 d, "the binder of
 -- `CoreBinder::parse` as mark 3"
 abbrev pub markNumber : Mark → ℕ
@@ -90,7 +90,7 @@ associativityNumber Associativity.Right = 1
 associativityNumber Associativity.None = 2
 associativityNumber Associativity.Both = 3
 
--- "Kinds: 0 character a; 1 word a; 2 identifier; .."
+-- "Kinds: 0 character a; 1 word a; 2 identifier; .."; document 02 d, "a step of kind 14: body, opening, closing"
 abbrev pub stepNumber : Step → ℕ
 stepNumber (Step.Character a) = 0
 stepNumber (Step.Word a) = 1

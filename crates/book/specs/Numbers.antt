@@ -1,4 +1,5 @@
--- Document 01's numbers of a book, each named once: its refusals, and the limits of its sections and fields.
+-- The documents' numbers of a book, each named once: its refusals, and the limits of its sections and fields. Document
+-- 01, and document 02 d of binders.
 use Prim.Native.Nat.{ℕ}
 
 -- ---- Refusals, in the table's order
@@ -80,6 +81,7 @@ identifierMark = 2
 abbrev pub binderMark : ℕ
 binderMark = 3
 
+-- the last mark is a binder's
 abbrev pub lastMark : ℕ
 lastMark = 3
 
@@ -109,7 +111,7 @@ lastFlags = 3
 abbrev pub stepsEach : ℕ
 stepsEach = 8
 
--- "Kinds: 0 character a; .. 13 the same, optional"
+-- outside a binder: "Kinds: 0 character a; .. 13 the same, optional"
 abbrev pub lastStepKind : ℕ
 lastStepKind = 13
 

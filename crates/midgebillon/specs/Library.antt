@@ -46,7 +46,7 @@ pub record AnswersInto (book text : Lent) (start : ℕ) (expected : Answered) (c
       (record { answer = answerAt (atExit answer); cells = atExit cells; parses = atExit parses })
   pub behind : drop answerSize (atExit answer) ≡ drop answerSize (atEntry answer)
 
--- `midgebillon_read`: what is expected is what document 01 says
+-- `midgebillon_read`: what is expected is what the documents say
 abbrev pub ReadInto : Lent → Lent → ℕ → ℕ → Lent → Lent → Lent → Type 0
 ReadInto book text start allowance cells parses answer =
     AnswersInto book text start

@@ -1,6 +1,6 @@
 -- What a user of the call has to read: the promise of `read` and of `read_in`. It is stated over the definitions of
--- document 01 (`answerOf` of semantics, specs/Answer.antt) and over the derivations (`Exact` of specs/Exact.antt
--- there), and over nothing of how the call works.
+-- document 01 and of what document 02 changed in it, d and f (`answerOf` of semantics, specs/Answer.antt), and over the
+-- derivations (`Exact` of specs/Exact.antt there), and over nothing of how the call works.
 use mathlib.Core.Path.{_≡_}
 use mathlib.Core.Bool.{Bool, false, cond, _||_}
 use mathlib.Core.List.{List}
@@ -38,7 +38,7 @@ pub record Reads (bytes text : List ℕ) (start : ℕ) (expected a : Answered) :
   pub exact : (book : Book) → checkBook bytes ≡ check.Outcome.book book →
       notAccepted (a .answer .refusal) ≡ false → isLimit (a .answer .refusal) ≡ false → Exact book text start a
 
--- `read`: what is expected is what document 01 says
+-- `read`: what is expected is what the documents say
 abbrev pub Read : Lent → Lent → ℕ → ℕ → Lent → Lent → code.Answer → Type 0
 Read book text start allowance cells parses r =
     Reads (atEntry book) (atEntry text) start

@@ -1,4 +1,4 @@
--- Document 01, "The answer".
+-- Document 01, "The answer"; document 02 d, 41.
 use mathlib.Core.Bool.{Bool, true, cond, _&&_, _||_}
 use mathlib.Core.List.{List, [], _∷_, _++_}
 use mathlib.Core.Option.{Option, none, some}

@@ -1,4 +1,4 @@
--- Document 01, "The run", its last paragraph: cells, and what they stand for.
+-- Document 01, "The run", its last paragraph, and document 02 d, cell 9: cells, and what they stand for.
 use mathlib.Core.Bool.{true, false}
 use mathlib.Core.List.{List, [], _∷_, _++_}
 use Prim.Native.Nat.{ℕ, zero, suc, _+_, _-_, _*_}

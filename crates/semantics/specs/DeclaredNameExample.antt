@@ -14,9 +14,10 @@ use Rattle.book.specs.declared.records.Variant.{Variant}
 use Rattle.book.specs.declared.records.Step.{Step}
 use Rattle.semantics.specs.Values.{Tree, no-trees, _▸_}
 use Rattle.semantics.specs.Uses.{Use, useOf, within, behind, Path, scopeOf, minimum, same-start, governor}
-use Rattle.semantics.specs.Tokens.{Item, Variable, Read, variableIn, hasClaimant, declarationAt}
+use Rattle.semantics.specs.Tokens.{Item, Variable, Read, variableIn, hasClaimant, claimed, declarationAt}
+use Rattle.semantics.specs.Steps.{Taken, stepAt}
 use Rattle.semantics.specs.Cells.{Cell}
-use Rattle.semantics.specs.Errors.{error, declarationError}
+use Rattle.semantics.specs.Errors.{error, stepError, declarationError}
 use Rattle.semantics.specs.Run.{Result, met, ok, State, Parsed, parsed, call, openScope, bodyAfter, nameChoice}
 use Rattle.semantics.specs.Run.{parseBy, runner}
 use Rattle.semantics.specs.ExampleBook.{computing, value, refused, reads, readsWithin}
@@ -73,6 +74,13 @@ path = behind inner ∷ within f ∷ behind [] ∷ within f ∷ behind outer ∷
 abbrev names : ℕ → Option Variable
 names letter = variableIn (book .names) 0 (scopeOf path) (letter ∷ [])
 
+-- what a step takes there of the letter `a`, at the place 4
+abbrev letter : List ℕ
+letter = 32 ∷ 32 ∷ 32 ∷ 32 ∷ 97 ∷ []
+
+abbrev takes : Step → Taken
+takes step = stepAt book letter (scopeOf path) step 4
+
 abbrev variable : ℕ → Item → Option Variable
 variable kind item = some (record { kind = kind; item = item })
 
@@ -90,9 +98,9 @@ state units cells = record { units = units; cells = cells; asked = false ∷ [] 
 abbrev text : List ℕ
 text = 60 ∷ 117 ∷ 32 ∷ 97 ∷ 62 ∷ 97 ∷ []
 
-abbrev behindOpening : Result Parsed
-behindOpening =
-    nameChoice book text (runner book text 9) (call [] [] 0 0 []) 0 [] 1 62 1 [] 1 1 [] (state 5 (Cell.empty ∷ []))
+abbrev behindOpening : ℕ → Result Parsed
+behindOpening levels =
+    nameChoice book text (runner book text levels) (call [] [] 0 0 []) 0 [] 1 62 1 [] 1 1 [] (state 5 (Cell.empty ∷ []))
 
 -- n names are declared in a scope that has 32
 abbrev opens : ℕ → Result State
@@ -129,6 +137,12 @@ pub record DeclaredNameAnswers : Type 0 where
   pub ungoverned : governor path 1 4 ≡ minimum 0
   pub claims : hasClaimant book text (within f ∷ path) 4 ≡ true
   pub unclaimed : hasClaimant book text path 4 ≡ false
+  -- kinds 5 and 6 and the claim look in the scope, too: `a` is of kind 1 there, and no starting name
+  pub of-kind : takes (Step.VariableOfKind 1) ≡ Taken.token (record { next = 5; item = some (Item.declared 0 1) })
+  pub of-no-kind : takes (Step.VariableOfKind 0) ≡ Taken.nothing
+  pub wrong-kind : stepError book letter (scopeOf path) (Step.VariableOfKind 0) 4 ≡ error 4 8 0
+  pub no-variable : takes Step.RejectVariable ≡ Taken.nothing
+  pub declared-claimed : claimed book letter (within f ∷ path) 4 ≡ true
   -- "A declared name is the word whose number is its kind, 0 to 7 (the least if alike), then an identifier": `t x`, by
   -- a reserved word; `u x`; `w x`; and `u t`, a reserved identifier
   pub reserved-kind : declares (116 ∷ 32 ∷ 120 ∷ []) ≡ declared 3 0
@@ -143,15 +157,21 @@ pub record DeclaredNameAnswers : Type 0 where
   -- "41, .. when a body's scope opens, .. and a 65th declared name would be open": those of all binders
   pub open-64 : opens 32 ≡ ok (state 7 [])
   pub open-65 : opens 33 ≡ met 41 7
+  pub nested-65 :
+      bodyAfter book text none (some (replicate 33 (entry 0 97)))
+      (call (behind (replicate 32 (entry 0 97)) ∷ []) [] 0 0 []) 0 1 2 [] 5 1 [] (state 0 (Cell.empty ∷ []))
+      ≡ met 41 0
   -- behind the cells of the kinds, and "before the body's unit"
   pub after-the-cells : body (replicate 4096 Cell.absent) ≡ met 23 0
   pub before-the-unit : body (Cell.empty ∷ []) ≡ met 41 0
-  -- a unit for the choice, the name, the body's call and each first step of it; the name's kind "is made last"; "Its
-  -- items are the kinds as a list of numbers, .. and the body"
+  -- a unit for the choice, the name, the body's call and the first step of each of the body's two variants; the name's
+  -- kind "is made last"; "Its items are the kinds as a list of numbers, .. and the body"
   pub read :
-      behindOpening ≡ ok (parsed (parseBy book text 0 6 11 ∷ []) none (state 0
+      behindOpening 2 ≡ ok (parsed (parseBy book text 0 6 11 ∷ []) none (state 0
       (Cell.empty ∷ Cell.list 1 ∷ Cell.number 0 1 ∷ Cell.chain 1 3 ∷ Cell.list 4 ∷ Cell.chain 1 5 ∷ Cell.declared 0 0
       ∷ Cell.chain 1 7 ∷ Cell.variant 1 8 ∷ Cell.chain 6 9 ∷ Cell.variant 0 10 ∷ [])))
+  -- what follows a name is one level further in, and so is the body's call
+  pub too-deep : behindOpening 1 ≡ met 21 2
   -- a book with a binder is accepted
   pub accepted : checkBook bytes ≡ Outcome.book book
   -- "an opening character, a comma list of names, a closing character, and a body": `<u a>a`; `< u a , >a`, as a comma
@@ -189,6 +209,11 @@ declared-name-answers = record {
   ungoverned = refl;
   claims = refl;
   unclaimed = refl;
+  of-kind = refl;
+  of-no-kind = refl;
+  wrong-kind = refl;
+  no-variable = refl;
+  declared-claimed = refl;
   reserved-kind = refl;
   least = refl;
   above-7 = refl;
@@ -199,9 +224,11 @@ declared-name-answers = record {
   no-identifier = refl;
   open-64 = refl;
   open-65 = refl;
+  nested-65 = refl;
   after-the-cells = refl;
   before-the-unit = refl;
   read = refl;
+  too-deep = refl;
   accepted = refl;
   one = refl;
   last-comma = refl;

@@ -367,7 +367,7 @@ module _ (book : Book) (text : List ℕ) (inner : Option Runner) where
   followed next set r =
       elim (r .failure) [ some e ↦ ok (parsed set (some e) (r .state)) | none ↦ follow next (r .set) set (r .state) ]
 
-  -- "one per step"; "for 10 and 11 the choices replace the step's unit"
+  -- "one per step"; "for 10 and 11 the choices replace the step's unit"; a binder's has its own, "the step as kind 12"
   unfoldable pub stepUnit : Step → State → Result State
   stepUnit step s = when (between 10 11 (stepNumber step)) (λ _. ok s) (λ _. spend s)
 

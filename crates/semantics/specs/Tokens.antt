@@ -76,8 +76,8 @@ module _ (book : Book) (text : List ℕ) where
   reservedAt at =
       elim (identifierEnd text at) [ some end ↦ isReserved (book .words) (spelled text at end) | none ↦ false ]
 
-  -- an identifier that is not reserved, of kind 2 and of a mark-2 use: "2, 4, 5 and a mark-2 use refuse a reserved
-  -- word", and by document 02 f "Identifiers still refuse reserved words"
+  -- an identifier that is not reserved, of kind 2, of a mark-2 use and of a declared name: "2, 4, 5 and a mark-2 use
+  -- refuse a reserved word", and by document 02 f "Identifiers still refuse reserved words"
   unfoldable pub freeEnd : ℕ → Option ℕ
   freeEnd at = when (reservedAt at) (λ _. none) (λ _. identifierEnd text at)
 
