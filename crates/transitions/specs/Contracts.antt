@@ -41,7 +41,7 @@ use Rattle.transitions.specs.Fit.{Fit}
 use Rattle.transitions.specs.Entering as entering
 use Rattle.transitions.specs.Steps as steps
 use Rattle.transitions.specs.Steps.{ModelPart, GoPart, nextRows, firstSideRows, listsRows, omitsRows}
-use Rattle.transitions.specs.Steps.{unopenedRows, tokenRows}
+use Rattle.transitions.specs.Steps.{bodyAloneRows, unopenedRows, tokenRows}
 use Rattle.transitions.specs.Names as opening
 
 -- ---- What is asked
@@ -164,6 +164,11 @@ reads item next here book text inner n c rest s =
 abbrev pub lists : Bool → Bool → ℕ → Closing → ℕ → Progress → Book → List ℕ → ModelPart
 lists comma names M closing place here book text inner n c rest s =
     listsRows book text inner n c (here .variant) rest comma names M closing place (here .items) s
+
+-- kind 14 without its opening
+abbrev pub standsAlone : ℕ → Progress → Book → List ℕ → ModelPart
+standsAlone M here book text inner n c rest s =
+    bodyAloneRows book text inner n c (here .variant) rest M (here .place) (here .items) s
 
 -- kind 13 without its opening
 abbrev pub unopens : ℕ → Progress → Book → List ℕ → ModelPart

@@ -4,8 +4,8 @@
 -- - a step's unit: free-many, free-list, paid-unit
 -- - a list begins, or has no opening: list-begun, unopened-limit, unopened-stops
 -- - a token was read: token-taken
--- - a step: step-limit, step-fails, step-reads, step-descends, step-chooses, step-lists, step-unopens, step-omits,
---   at-step
+-- - a step: body-stands, step-limit, step-fails, step-reads, step-descends, step-chooses, step-lists, step-unopens,
+--   step-omits, at-step
 use mathlib.Core.Path.{_≡_, refl, sym, ap, _∙_}
 use mathlib.Core.Bool.{Bool, true, false}
 use mathlib.Core.List.{List, _∷_}
@@ -244,6 +244,19 @@ omits-body : (book : Book) (text : List ℕ) (inner : Option RowRunner) (n c j :
 unfolding omitsRows bodyAloneRows bodyRows openRows descendsRows nextRows _>>=_
 omits-body book text inner n c j rest M x items s = refl
 
+pub body-stands : (book : Book) (text before after : List ℕ) (j x items : ℕ) (s : State) (r : Reached) (M : ℕ) →
+    GoneFrom text before s after r (omitsPart book text j x items) →
+    StagedFrom book text before s after j (thenChild r M)
+    (λ inner n c rest s. bodyAloneRows book text inner n c j rest M x items s)
+body-stands book text before after j x items s r M w h =
+    let u = gone-child book text before after j s r (omitsPart book text j x items) w M (thenChild r M) refl h in
+    record {
+      is = λ inner n c rest T.
+          u .is inner n c rest T
+          ∙ omits-body book text inner n c j rest M x items (rowState (s .units) (cellsOf before (s .cells)) T);
+      held = u .held;
+    }
+
 module _ (book : Book) (text store : List ℕ) (T : List Row) (c j : ℕ) (s : State) (x items : ℕ) (step : Step)
     (spent : Outcome) (p : StepSpent spent step s) where
   same-cells : cellsOf store (spent .state .cells) ≡ cellsOf store (s .cells)
@@ -361,16 +374,15 @@ module _ (book : Book) (text store : List ℕ) (T : List Row) (c j : ℕ) (s : S
         })
 
     -- kind 14 without its opening
-    pub step-omits : (after : List ℕ) (M : ℕ) (r : Reached) (g : Stage) → t ≡ Taken.Body M →
-        GoneFrom text store (spent .state) after r (omitsPart book text j x items) → g ≡ thenChild r M →
+    pub step-omits : (after : List ℕ) (M : ℕ) (g : Stage) → t ≡ Taken.Body M →
+        StagedFrom book text store (spent .state) after j g
+        (λ inner n c rest s. bodyAloneRows book text inner n c j rest M x items s) →
         StagedIn book text store s after T c j g (stepPart book text j step x items)
-    step-omits after M r g k w eg h =
-        let u = gone-child book text store after j (spent .state) r (omitsPart book text j x items) w M g eg
-        (spent-held h) in
+    step-omits after M g k w h =
+        let u = w (spent-held h) in
         record {
           is = λ inner n rest.
               u .is inner n c rest T
-              ∙ omits-body book text inner n c j rest M x items (stateIn (spent .state) store T)
               ∙ sym (step-body book text inner n c j rest step x items
               (rowState (s .units) (cellsOf store (s .cells)) T) (stateIn (spent .state) store T)
               (spends inner n) M (sym et ∙ ap takenOf k));

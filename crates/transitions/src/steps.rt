@@ -4,9 +4,10 @@ ghost use Prim.Native.Nat.{_<_};
 ghost use Rattle.sets.specs.Sets.{parse, parseOf};
 ghost use Rattle.tokens.specs.Maps.{itemOf};
 ghost use Rattle.transitions.specs.Fit.{Fits, ItemFits};
-ghost use Rattle.transitions.specs.Steps.{thenDoes, thenChild, StepSpent};
-ghost use Rattle.transitions.specs.Contracts.{Fitting, Ready, Does, StagesIn, StagesAll, Reaches, GoesOn};
-ghost use Rattle.transitions.specs.Contracts.{completes, takes, reads, lists, unopens, stops, omits};
+ghost use Rattle.transitions.specs.Steps.{thenDoes, StepSpent};
+ghost use Rattle.transitions.specs.Contracts.{Fitting, Ready, Does, Stages, StagesIn, StagesAll, Reaches};
+ghost use Rattle.transitions.specs.Contracts.{GoesOn};
+ghost use Rattle.transitions.specs.Contracts.{completes, takes, reads, lists, unopens, stops, omits, standsAlone};
 use crate::items::make;
 use crate::items::value;
 use crate::items::with_cell;
@@ -175,10 +176,19 @@ fn then_child(here: Progress, doing: Doing, state: State) -> Stage
     }
 }
 
-// A binder's body, from where the absent opening left the path.
-fn then_body(r: Reached, body: u32) -> Stage
-    ensures { λ g. ⌜ g ≡ thenChild r body ⌝ }
+// Kind 14 without its opening: an absent item, then the body. A call of its own, which keeps it out of other steps' way.
+fn body_alone(
+    book: &[u8],
+    index: &[usize],
+    text: &[u8],
+    store: &mut [u32],
+    here: Progress,
+    body: u32,
+    state: State,
+) -> Stage
+    ensures { λ r. ⌜ Stages book index text store here state r (standsAlone body here) ⌝ }
 {
+    let r = absent(book, index, text, store, here, state);
     let outcome = r.outcome;
     Stage {
         outcome,
@@ -337,6 +347,6 @@ pub fn take_step(
         Taken::Unopened(place) => {
             then_steps(unopened(book, index, text, store, here, place as u32, s))
         }
-        Taken::Body(body) => then_body(absent(book, index, text, store, here, s), body),
+        Taken::Body(body) => body_alone(book, index, text, store, here, body, s),
     }
 }

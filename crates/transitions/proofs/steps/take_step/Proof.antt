@@ -206,26 +206,25 @@ returns-7 c =
 returns-8 : tie.Need-returns-8
 returns-8 c =
     let start = c .before .before .before .before .before .before .before .before .before .before .before .before
-    .before .before .before .before .before .before .before .before .before in
+    .before .before .before .before .before .before .before .before in
     let step = c .before .before .before .before .before .before .before .before .before .before .before .before
-    .before .before .step in
+    .before .step in
     let step-unit = c .before .before .before .before .before .before .before .before .before .before .before
-    .before .before .step-unit in
-    let if1 = c .before .before .before .before .before .before .before .before .before .before .before .if1 in
-    let step-at = c .before .before .before .before .before .before .before .before .step-at in
-    let body = c .before .before .before .before .before .before .body in
-    let absent = c .before .before .before .absent in
-    let then-body = c .then-body in
+    .before .step-unit in
+    let if1 = c .before .before .before .before .before .before .before .before .before .before .if1 in
+    let step-at = c .before .before .before .before .before .before .before .step-at in
+    let body = c .before .before .before .before .before .body in
+    let body-alone = c .before .before .body-alone in
     let args = start .args in
     let here = args .here in
     at-step _ _ _ _ (table (args .rows .now)) (here .call) (here .variant) (args .state) _ (here .place) (here .items)
     _ _ (step .ensures)
     (step-omits _ _ _ (table (args .rows .now)) (here .call) (here .variant) (args .state) (here .place) (here .items)
     _ _ (step-unit .ensures)
-    (if1 .left) _ (step-at .ensures) _ _ _ _ (body .given .1) (absent .ensures) (then-body .ensures))
+    (if1 .left) _ (step-at .ensures) _ _ _ (body .given .1) (body-alone .ensures))
 
 pub take-step-spec : {M : Type 1} → statement M
 take-step-spec =
     tie.close
     (tie.spec
-    (λ c. search needs) (λ c κs. search needs) (λ c κs. search needs) (λ c κs. search needs) (λ c κs. search needs) returns (λ c. search needs) (λ c κs. search needs) (λ c. search needs) skipped-requires step-error-requires (λ c κs. search needs) (λ c κs. search needs) (λ c κs. search needs) (λ c. search needs) cast-take-token take-token-requires (λ c κs. search needs) (λ c. search needs) (λ c κs. search needs) (λ c. search needs) (λ c κs. search needs) (λ c. search needs) cast-begin-list (λ c κs. search needs) (λ c. search needs) cast-unopened unopened-requires (λ c κs. search needs) (λ c. search needs) (λ c κs. search needs) (λ c κs. search needs) returns-2 (λ c. search needs) returns-3 returns-4 returns-5 (λ c. search needs) returns-6 (λ c. search needs) returns-7 (λ c. search needs) returns-8)
+    (λ c. search needs) (λ c κs. search needs) (λ c κs. search needs) (λ c κs. search needs) (λ c κs. search needs) returns (λ c. search needs) (λ c κs. search needs) (λ c. search needs) skipped-requires step-error-requires (λ c κs. search needs) (λ c κs. search needs) (λ c κs. search needs) (λ c. search needs) cast-take-token take-token-requires (λ c κs. search needs) (λ c. search needs) (λ c κs. search needs) (λ c. search needs) (λ c κs. search needs) (λ c. search needs) cast-begin-list (λ c κs. search needs) (λ c. search needs) cast-unopened unopened-requires (λ c κs. search needs) (λ c. search needs) (λ c κs. search needs) returns-2 (λ c. search needs) returns-3 returns-4 returns-5 (λ c. search needs) returns-6 (λ c. search needs) returns-7 (λ c. search needs) returns-8)
