@@ -39,7 +39,8 @@ use Rattle.parser.specs.CallLaws.{runner-some}
 -- ---- Children
 module _ (book : Book) (text : List ℕ) (inner : Option RowRunner) (n c j : ℕ) (rest : List (Todo ℕ)) (next : Next)
     (opening : Option (List Entry)) (M x items : ℕ) (s : State) (st0 st1 st2 : List ℕ) (T T1 U U1 : List Row) (b u : ℕ)
-    (o r : Outcome) (binder : b ≡ binderFor opening (rowOf T c .binder)) (child : (u ≡ skipFrom text x) × (T1 ≡ onRow T c (withChild u)))
+    (o r : Outcome) (binder : b ≡ binderFor opening (rowOf T c .binder))
+    (child : (u ≡ skipFrom text x) × (T1 ≡ onRow T c (withChild u)))
     (E : Runs text st0 (s .cells) st1 U o (λ cells. enterRows book text inner n b M u (rowState (s .units) cells T1)))
     (F : Runs text st1 (o .state .cells) st2 U1 r
     (λ cells. followsRows book text inner n c j rest next items (given o cells U))) where

@@ -18,7 +18,8 @@ use Rattle.semantics.specs.Steps.{Todo}
 use Rattle.semantics.specs.Run.{Result, ok, _>>=_}
 use Rattle.run_model.specs.Rows.{Row, rowOf, namesAbove, binderFor}
 use Rattle.run_model.specs.Model as model
-use Rattle.run_model.specs.Model.{RowState, rowState, outcome, RowRunner, spendRows, nestedRows, opensRows, declaresRows}
+use Rattle.run_model.specs.Model.{RowState, rowState, outcome, RowRunner, spendRows, nestedRows, opensRows}
+use Rattle.run_model.specs.Model.{declaresRows}
 use Rattle.run_model.specs.Model.{nameChoiceRows, chosenRows, stepsRows, runnerRows}
 use Rattle.run_model.specs.Named.{names-length}
 use Rattle.run_model.specs.Keeps.{KeepsAt, On}
@@ -262,7 +263,8 @@ module _ (book : Book) (text : List ℕ) (n : ℕ) (here : Progress) (names : Na
               ∙ names-still text n (here .call) T U (read T) (keeps held) is
 
           pub names-both : (st2 : List ℕ) (W : List Row) (b r : Outcome) →
-              Runs text st1 (a .state .cells) st2 W b (λ cells. declares (read U) (rowState (a .state .units) cells U)) →
+              Runs text st1 (a .state .cells) st2 W b
+              (λ cells. declares (read U) (rowState (a .state .units) cells U)) →
               Chosen text W (here .call) (here .place) a b r →
               Runs text st0 (s .cells) st2 W r (λ cells. chooses (read T) (rowState (s .units) cells T))
           names-both st2 W b r B C held =

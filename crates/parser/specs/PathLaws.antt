@@ -164,7 +164,8 @@ module _ (book : Book) (text : List ℕ) (inner : Option RowRunner) (n c j : ℕ
 
   resume-child : (M : ℕ) → doing ≡ Doing.Child M →
       Runs text st0 (o .state .cells) st1 U r
-      (λ cells. descendsRows book text inner n c j rest none Next.Steps M at items (rowState (o .state .units) cells T)) →
+      (λ cells.
+      descendsRows book text inner n c j rest none Next.Steps M at items (rowState (o .state .units) cells T)) →
       Runs text st0 (o .state .cells) st1 U r
       (λ cells. resumes book text inner n c j rest doing at items (given o cells T))
   unfolding doesRows
@@ -204,8 +205,8 @@ module _ (book : Book) (text : List ℕ) (inner : Option RowRunner) (n c j : ℕ
   unfolding doesRows namesRows namesAbove
   resume-names l e are k =
       by-part (λ s. namesRows book text inner n c j rest (l .values) (l .closing) (l .nonterminal) at items s)
-      (λ s. sym (ap (λ b. cond b (namesRows book text inner n c j rest (l .values) (l .closing) (l .nonterminal) at items
-      s) (choosesRows book text inner n c j rest (Next.Elements l) (l .nonterminal) at items s)) are)
+      (λ s. sym (ap (λ b. cond b
+      (namesRows book text inner n c j rest (l .values) (l .closing) (l .nonterminal) at items s) (choosesRows book text inner n c j rest (Next.Elements l) (l .nonterminal) at items s)) are)
       ∙ ap (λ d. doesRows book text inner n c j rest d at items s) (sym e)) k
 
 -- ---- Steps

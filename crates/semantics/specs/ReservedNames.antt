@@ -1,6 +1,6 @@
 -- Document 02 f, "A starting name that is also reserved": both definitions that it has changed, as they were, and what
--- it is that nothing else moves: "Old answers that change, for such a word only". They stand in no other file. All of it
--- is outside every opening (the scope []): names declared inside a rule came later.
+-- it is that nothing else moves: "Old answers that change, for such a word only". They stand in no other file. All is
+-- outside every opening (the scope []): names declared inside a rule came later.
 use mathlib.Core.Path.{_≡_}
 use mathlib.Core.Bool.{true, false}
 use mathlib.Core.List.{List, []}

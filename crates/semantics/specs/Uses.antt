@@ -23,7 +23,8 @@ useOf book N u j x =
     let v = nthVariant book j in
     record { nonterminal = N; start = u; level = v .level; associativity = v .associativity; child = x }
 
--- "Mark 0 plain; 1 calls `try_claim_as_var` first; 2 is `identifier_nonterminal`"; document 02 d, the binder "as mark 3"
+-- "Mark 0 plain; 1 calls `try_claim_as_var` first; 2 is `identifier_nonterminal`"; document 02 d, the binder "as mark
+-- 3"
 abbrev pub hasMark : Book → ℕ → ℕ → Bool
 hasMark book mark N = eqb (markNumber (nthNonterminal book N .mark)) mark
 

@@ -4,8 +4,8 @@
 --
 -- What is asked: Short, Fitting, Ready. What is promised: MakesCell of a cell, Does of a part of the run, Continues of
 -- one that goes on from an outcome, BeginsUse and Opens of a use, Begins of a variant, Stages, StagesIn, StagesAll,
--- Reaches and GoesOn of a part that calls nothing, OpensBody and DeclaresName of the names of an opening. Then the parts
--- of the model, from where a path is.
+-- Reaches and GoesOn of a part that calls nothing, OpensBody and DeclaresName of the names of an opening. Then the
+-- parts of the model, from where a path is.
 use mathlib.Core.Bool.{Bool}
 use mathlib.Core.List.{List, _∷_}
 use mathlib.Core.Option.{Option}

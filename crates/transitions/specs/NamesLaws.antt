@@ -23,7 +23,8 @@ use Rattle.semantics.specs.Run.{Result, met, _>>=_, make, closingCode, declared
 use Rattle.run_model.specs.Rows.{Row, declared, onRow, scopeIn}
 use Rattle.run_model.specs.Named.{names-with}
 use Rattle.run_model.specs.Model as model
-use Rattle.run_model.specs.Model.{RowState, rowState, outcome, RowRunner, RowMade, rowMade, makes, namePlace, withDeclared}
+use Rattle.run_model.specs.Model.{RowState, rowState, outcome, RowRunner, RowMade, rowMade, makes, namePlace}
+use Rattle.run_model.specs.Model.{withDeclared}
 use Rattle.run_model.specs.Model.{stopsRows, openRows, bodyRows, opensRows}
 use Rattle.errors.specs.declared.Error as code
 use Rattle.errors.specs.declared.Failure.{Failure}
@@ -100,8 +101,8 @@ module _ (book : Book) (text before after : List ℕ) (T : List Row) (here : Pro
         record {
           is = λ inner n rest l few.
               goes-there _ (r .outcome) cells T h
-              ∙ sym (opens-room book text inner n (here .call) (here .variant) rest l (names .body) (r .place) (r .items)
-              (r .outcome .state .units) cells T room (rw few e) y)
+              ∙ sym (opens-room book text inner n (here .call) (here .variant) rest l (names .body) (r .place)
+              (r .items) (r .outcome .state .units) cells T room (rw few e) y)
               ∙ sym (goes-there _ (r .outcome) cells T h)
               ∙ u .is (opens book text inner n (here .call) (here .variant) rest l (names .body)) T
               ∙ opens-stops book text inner n (here .call) (here .variant) rest l (names .body) (names .kinds)
@@ -117,8 +118,8 @@ module _ (book : Book) (text before after : List ℕ) (T : List Row) (here : Pro
         rw (eg, eo) (record {
           is = λ inner n rest l few.
               goes-met _ (withoutFailure 41 (r .outcome .state)) cells T (λ z. omega (arith, z))
-              ∙ sym (opens-full book text inner n (here .call) (here .variant) rest l (names .body) (r .place) (r .items)
-              (r .outcome .state .units) cells T room (rw few e) y)
+              ∙ sym (opens-full book text inner n (here .call) (here .variant) rest l (names .body) (r .place)
+              (r .items) (r .outcome .state .units) cells T room (rw few e) y)
               ∙ sym (goes-there _ (r .outcome) cells T h)
               ∙ u .is (opens book text inner n (here .call) (here .variant) rest l (names .body)) T
               ∙ opens-stops book text inner n (here .call) (here .variant) rest l (names .body) (names .kinds)

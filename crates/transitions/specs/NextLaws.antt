@@ -128,7 +128,8 @@ module _ (book : Book) (text before middle : List ℕ) (j items : ℕ) (l : list
         let v = w h in
         rw eo (record {
           is = λ inner n c rest T.
-              resumes-on book text inner n c j rest (Doing.Elements (longer l (m .cell))) y items 0 (m .state) (cellsOf middle (m .state .cells)) T refl
+              resumes-on book text inner n c j rest (Doing.Elements (longer l (m .cell))) y items 0 (m .state)
+              (cellsOf middle (m .state .cells)) T refl
               ∙ sym (element-goes book text inner n c j rest l items q
               (rowState (s .units) (cellsOf before (s .cells)) T) (rowMade (m .cell) (stateIn (m .state) middle T))
               (makes-ok text middle m (run.make text (Cell.chain (l .values) (q .value))) (s .units)
@@ -203,7 +204,8 @@ module _ (s : State) (spent : Outcome) (p : Spent spent s) (cells : List Cell) (
       unit-met (spendRows (rowState (s .units) cells T)) (spent .limit) (spent .state .units)
       (sym (given-met spent cells T l) ∙ p .is cells T)
 
-  pub spend-goes : spent .limit ≡ 0 → spendRows (rowState (s .units) cells T) ≡ ok (rowState (spent .state .units) cells T)
+  pub spend-goes : spent .limit ≡ 0 →
+      spendRows (rowState (s .units) cells T) ≡ ok (rowState (spent .state .units) cells T)
   spend-goes l =
       unit-ok (spendRows (rowState (s .units) cells T)) (failureOf (failureAt spent))
       (rowState (spent .state .units) cells T) (sym (given-ok spent cells T l) ∙ p .is cells T)

@@ -124,7 +124,8 @@ module _ (book : Book) (text : List ℕ) (inner : Option RowRunner) (n c j : ℕ
   listsRows comma true M closing x items s =
       makes (make text Cell.empty) s >>= (λ e. namesRows (e .cell) closing M x items (e .state))
   listsRows comma false M closing x items s =
-      listingRows book text inner n c j comma M (closingIn closing) rest (stepsRows book text inner n c j rest) x items s
+      listingRows book text inner n c j comma M (closingIn closing) rest (stepsRows book text inner n c j rest) x items
+      s
 
   -- kind 14 without its opening: an absent item, then the body
   unfoldable pub bodyAloneRows : ℕ → ℕ → ℕ → RowState → Result Outcome

@@ -133,7 +133,8 @@ module _ (book : Book) (text before middle : List ℕ) (j values : ℕ) (closing
       let v = w h in
       rw e (record {
         is = λ go T.
-            goes-met (λ s. go 0 (m .cell) s) (withoutFailure (m .limit) (m .state)) (cellsOf middle (m .state .cells)) T l
+            goes-met (λ s. go 0 (m .cell) s) (withoutFailure (m .limit) (m .state)) (cellsOf middle (m .state .cells)) T
+            l
             ∙ sym (bind-met _
             (makes-met text middle m (run.make text (Cell.list values)) (s .units) (cellsOf before (s .cells)) v T l));
         held = v .held;
@@ -189,7 +190,8 @@ module _ (book : Book) (text before middle : List ℕ) (j at items : ℕ) (s : S
       let v = w h in
       rw e (record {
         is = λ go T.
-            goes-met (λ s. go 0 (m .cell) s) (withoutFailure (m .limit) (m .state)) (cellsOf middle (m .state .cells)) T l
+            goes-met (λ s. go 0 (m .cell) s) (withoutFailure (m .limit) (m .state)) (cellsOf middle (m .state .cells)) T
+            l
             ∙ sym (bind-met _
             (makes-met text middle m (run.make text Cell.absent) (s .units) (cellsOf before (s .cells)) v T l));
         held = v .held;

@@ -176,7 +176,7 @@ fn then_child(here: Progress, doing: Doing, state: State) -> Stage
     }
 }
 
-// Kind 14 without its opening: an absent item, then the body. A call of its own, which keeps it out of other steps' way.
+// Kind 14 without its opening: an absent item, then the body. In the code of `take_step` itself it slows other steps.
 fn body_alone(
     book: &[u8],
     index: &[usize],

@@ -47,4 +47,6 @@ pub declaration-at-spec : {M : Type 1} → statement M
 declaration-at-spec =
     tie.close
     (tie.spec
-    (λ c κs. search needs) (λ c. search needs) (λ c. search needs) (λ c κs. search needs) returns (λ c κs. search needs) (λ c κs. search needs) (λ c. search needs) (λ c. search needs) cast-name-error (λ c κs. search needs) returns-2 returns-3)
+    (λ c κs. search needs) (λ c. search needs) (λ c. search needs) (λ c κs. search needs) returns
+    (λ c κs. search needs) (λ c κs. search needs) (λ c. search needs) (λ c. search needs) cast-name-error
+    (λ c κs. search needs) returns-2 returns-3)

@@ -41,4 +41,5 @@ pub behind-name-spec : {M : Type 1} → statement M
 behind-name-spec =
     tie.close
     (tie.spec
-    (λ c κs. search needs) (λ c κs. search needs) (λ c. search needs) cast-t11 (λ c. search needs) cast-t12 returns returns-2)
+    (λ c κs. search needs) (λ c κs. search needs) (λ c. search needs) cast-t11 (λ c. search needs) cast-t12 returns
+    returns-2)
