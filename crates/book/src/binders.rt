@@ -11,7 +11,7 @@ use crate::reading::nonterminal;
 use crate::records::Mark;
 
 // The binder that is looked for.
-#[derive(Drop)]
+#[derive(Clone, Copy)]
 pub enum Sought {
     Any,
     OfVariant(usize),

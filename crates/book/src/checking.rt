@@ -19,7 +19,7 @@ use crate::reading::{NONTERMINAL_STEP, step, step_number, variant};
 use crate::refusals::{BAD_PASSING, BYTES_LEFT_OVER, SHORT_LISTS};
 use crate::sections::{Sort, section};
 
-#[derive(Drop)]
+#[derive(Clone, Copy)]
 pub enum Verdict {
     Accepted,
     Refused { number: usize, place: usize },

@@ -9,6 +9,8 @@
 //
 // The crate relies on the promises of `characters`, and assumes nothing. specs/ has the definitions (Numbers, Book,
 // Check), the index (Index), and laws.
+#![tactic(auto)]
+
 mod binders;
 mod checking;
 mod index;

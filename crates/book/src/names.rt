@@ -12,13 +12,13 @@ use crate::limits::KINDS;
 use crate::reading::number_after;
 use characters::{part, same_bytes};
 
-#[derive(Drop)]
+#[derive(Clone, Copy)]
 pub enum Found {
     Name { number: usize, kind: usize },
     Nothing,
 }
 
-#[derive(Drop)]
+#[derive(Clone, Copy)]
 pub enum KindWord {
     Kind(usize),
     Nothing,

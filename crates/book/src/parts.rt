@@ -9,7 +9,7 @@ ghost use Rattle.book.specs.Numbers.{bad_field};
 use crate::refusals::{BAD_FIELD, BOOK_ENDS_EARLY};
 use characters::byte_at;
 
-#[derive(Drop)]
+#[derive(Clone, Copy)]
 pub enum Part {
     // a value, where the part has one, and the next place
     Read { value: usize, next: usize },

@@ -1,5 +1,5 @@
 // What a book's records hold.
-#[derive(Drop)]
+#[derive(Clone, Copy)]
 pub enum Mark {
     Plain,
     // its uses call `try_claim_as_var` first
@@ -10,7 +10,7 @@ pub enum Mark {
     Binder,
 }
 
-#[derive(Drop)]
+#[derive(Clone, Copy)]
 pub enum Associativity {
     Left,
     Right,
@@ -18,7 +18,7 @@ pub enum Associativity {
     Both,
 }
 
-#[derive(Drop)]
+#[derive(Clone, Copy)]
 pub struct Nonterminal {
     pub mark: Mark,
     // its first variant, numbered over the book, and how many it has
@@ -26,7 +26,7 @@ pub struct Nonterminal {
     pub count: usize,
 }
 
-#[derive(Drop)]
+#[derive(Clone, Copy)]
 pub struct Variant {
     pub level: usize,
     pub associativity: Associativity,
@@ -38,7 +38,7 @@ pub struct Variant {
 }
 
 // Its numbers are bytes of the book; the run keeps them as u32.
-#[derive(Drop)]
+#[derive(Clone, Copy)]
 pub enum Step {
     Character(u32),
     Word(u32),

@@ -71,14 +71,14 @@ fn variant(book: &[u8], place: usize, binder: bool) -> Part
     fixed(book, number_at, binder, 1, STEPS_EACH)
 }
 
-#[derive(Drop)]
+#[derive(Clone, Copy)]
 pub struct Range {
     pub low: usize,
     pub high: usize,
 }
 
 // What a step's a, and its b and c, may be.
-#[derive(Drop)]
+#[derive(Clone, Copy)]
 pub enum Allowed {
     Ranges(Range, Range),
     // no such kind
@@ -197,7 +197,7 @@ fn step(book: &[u8], place: usize, words: usize, nonterminals: usize, binder: bo
 }
 
 // The sorts of records.
-#[derive(Drop)]
+#[derive(Clone, Copy)]
 pub enum Sort {
     // with the greatest label
     Entry(usize),

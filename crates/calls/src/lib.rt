@@ -15,6 +15,8 @@
 //
 // The crate relies on the promises of characters, book, cells and sets and on the definitions of book, semantics and
 // run_model, and assumes nothing. specs/ has the definitions (Table, Names) and laws.
+#![tactic(auto)]
+
 mod names;
 
 ghost use Rattle.std.specs.Prelude.{◌≡◌, [], ◌∷◌, suc, ◌-◌, ◌≤◌, get_or, length};
@@ -82,14 +84,14 @@ const AROUND: u32 = 1;
 const BODY: u32 = 2;
 
 // What the governor of a use says: the minimum, or, for a child at the governor's own start, the governor's row.
-#[derive(Drop)]
+#[derive(Clone, Copy)]
 pub enum Governor {
     Minimum(usize),
     SameStart(usize),
 }
 
 // How a run leaves its call.
-#[derive(Drop)]
+#[derive(Clone, Copy)]
 pub enum Settled {
     // with no parse
     Failed,

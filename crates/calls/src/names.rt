@@ -20,7 +20,7 @@ use characters::{part, same_bytes};
 const MOST_DECLARED: u32 = 64;
 
 // A declared name: its binder's depth outwards, its index within that binder, and its kind.
-#[derive(Drop)]
+#[derive(Clone, Copy)]
 pub enum Declared {
     Nothing,
     Name {

@@ -10,6 +10,8 @@
 //
 // The crate relies on the promises of `characters` and on the definitions of `semantics`, and assumes nothing. specs/
 // has the store and what it holds (Store), and laws.
+#![tactic(auto)]
+
 mod numbers;
 mod store;
 

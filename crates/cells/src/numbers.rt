@@ -7,7 +7,7 @@ ghost use Rattle.cells.specs.Store.{hashes, listed, same_in, mixed, hash_from, h
 
 use characters::{part, same_spelling};
 
-#[derive(Drop)]
+#[derive(Clone, Copy)]
 pub struct CellNumbers {
     pub form: u32,
     pub a: u32,
@@ -16,10 +16,10 @@ pub struct CellNumbers {
 
 // A declared variable's binder, by its depth outwards, and the variable's index within that binder. They are "separate
 // counts" (document 02 d), so each has a type of its own, and neither can be given for the other.
-#[derive(Drop)]
+#[derive(Clone, Copy)]
 pub struct DebruijnIndex(pub u32);
 
-#[derive(Drop)]
+#[derive(Clone, Copy)]
 pub struct VarIndex(pub u32);
 
 // ---- The forms

@@ -23,7 +23,7 @@ const HEADS: usize = 16384;
 pub const STORE_SIZE: usize = HEADS + HASHES;
 
 // A cell that was asked for: its number, and how many cells there are now; or limit 23.
-#[derive(Drop)]
+#[derive(Clone, Copy)]
 pub enum Made {
     At { cell: u32, count: u32 },
     Full,

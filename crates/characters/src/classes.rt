@@ -7,7 +7,7 @@ ghost use Rattle.characters.specs.ClassLaws.{class_table};
 
 use crate::table::CLASSES;
 
-#[derive(Drop)]
+#[derive(Clone, Copy)]
 pub enum Class {
     Other,
     Whitespace,

@@ -7,14 +7,14 @@ use crate::classes::{Class, byte_at, is_of};
 use crate::skipping::{Span, span_end};
 use crate::spelling::part;
 
-#[derive(Drop)]
+#[derive(Clone, Copy)]
 pub enum Identifier {
     // the place behind its last byte
     Ends(usize),
     Nothing,
 }
 
-#[derive(Drop)]
+#[derive(Clone, Copy)]
 pub enum Number {
     Nothing,
     TooLarge,

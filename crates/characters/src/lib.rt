@@ -6,6 +6,8 @@
 //
 // specs/ has the definitions (Classes, Skipping, Lexemes, Spelling) and, in files of their own, the laws that the
 // layers above cite; and the words in which the contracts of all crates speak of a lent slice (Slices).
+#![tactic(auto)]
+
 mod classes;
 mod lexemes;
 mod skipping;

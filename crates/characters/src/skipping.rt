@@ -9,7 +9,7 @@ ghost use Rattle.characters.specs.declared.skipping.Span.{Span};
 use crate::classes::{Class, byte_at, class_table, is_in};
 
 // The spans of text that are read to their longest end.
-#[derive(Drop)]
+#[derive(Clone, Copy)]
 pub enum Span {
     // whitespace
     Spaces,

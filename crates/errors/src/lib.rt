@@ -6,6 +6,8 @@
 // (specs/Lists.antt). No public function has a `requires`. The error of a step that takes nothing is made in `tokens`.
 //
 // The crate relies on the definitions of `semantics`, and assumes nothing.
+#![tactic(auto)]
+
 ghost use Rattle.std.specs.Prelude.{◌≡◌};
 ghost use Rattle.semantics.specs.Errors.{wins as winsOver, beyond as errorBeyond};
 ghost use Rattle.semantics.specs.Errors.{join_with, choice_error, chosen_failure};
@@ -45,7 +47,7 @@ pub const MORE_WANTED: u32 = 12;
 
 // The place, which is compared, stands between the two numbers that are only handed on: side by side these would be
 // read as one number of 64 bits, and the reading waits until both were written (docs/PERFORMANCE.md).
-#[derive(Drop)]
+#[derive(Clone, Copy)]
 pub struct Error {
     pub kind: u32,
     pub place: u32,
@@ -53,7 +55,7 @@ pub struct Error {
 }
 
 // `Option Error`: an error, or none where something was found.
-#[derive(Drop)]
+#[derive(Clone, Copy)]
 pub enum Failure {
     None,
     At(Error),

@@ -10,7 +10,7 @@ use crate::{Error, join};
 // An error's numbers in a list: place, kind and argument.
 pub const ERROR_SIZE: usize = 3;
 
-#[derive(Drop)]
+#[derive(Clone, Copy)]
 pub enum Joined {
     At(Error),
     // there is no error in the list

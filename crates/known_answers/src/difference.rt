@@ -1,7 +1,7 @@
 // The first number in which an answer differs from the known one.
 
 // What the number is one of. `Room` is room of one byte too few for the line.
-#[derive(Drop)]
+#[derive(Clone, Copy)]
 pub enum Part {
     Answer,
     Cells,
@@ -11,7 +11,7 @@ pub enum Part {
     Room,
 }
 
-#[derive(Drop)]
+#[derive(Clone, Copy)]
 pub struct At {
     pub part: Part,
     pub place: usize,
@@ -19,7 +19,7 @@ pub struct At {
     pub got: usize,
 }
 
-#[derive(Drop)]
+#[derive(Clone, Copy)]
 pub enum Difference {
     Nothing,
     First(At),

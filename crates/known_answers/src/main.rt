@@ -9,6 +9,8 @@
 //
 // What is proved of this program is that it is safe and ends, whatever the lists hold; no contract can say what a file
 // holds. It calls `read` of `run` and `print` of `printing`, and relies on `io`, `os` and `libc` of the kit.
+#![tactic(auto)]
+
 mod difference;
 mod line;
 mod numbers;

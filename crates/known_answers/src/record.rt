@@ -17,7 +17,7 @@ pub const RECORD_ROOM: usize = 131072;
 pub const SIZES: usize = 3;
 
 // The places at which the parts begin.
-#[derive(Drop)]
+#[derive(Clone, Copy)]
 pub struct Record {
     pub book: usize,
     pub text: usize,

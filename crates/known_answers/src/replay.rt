@@ -6,13 +6,13 @@ use crate::tally::{MOST_CASES, Tally};
 use crate::{rust, tally, vector};
 use characters::part;
 
-#[derive(Drop)]
+#[derive(Clone, Copy)]
 pub enum Kind {
     Vector,
     Rust,
 }
 
-#[derive(Drop)]
+#[derive(Clone, Copy)]
 enum Next {
     // A record of so many bytes.
     Bytes(usize),

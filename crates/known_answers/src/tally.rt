@@ -5,7 +5,7 @@ use libc::STDOUT_FILENO;
 // No list has more; so the counts fit.
 pub const MOST_CASES: u32 = 1000000;
 
-#[derive(Drop)]
+#[derive(Clone, Copy)]
 pub struct Tally {
     pub cases: u32,
     pub differ: u32,

@@ -50,7 +50,7 @@ pub fn size(bytes: &[u8]) -> usize {
 }
 
 // A list after a call: the numbers that are given, zeros up to `size`, and what it held before.
-#[derive(Drop)]
+#[derive(Clone, Copy)]
 struct Known {
     written: bool,
     first: usize,

@@ -5,7 +5,7 @@ use book::{Associativity, INDEX_SIZE, Mark, Step, Verdict};
 use characters::{byte_at, part, same_bytes};
 
 // Where the comparison stands in the file, and whether all was the same so far.
-#[derive(Drop)]
+#[derive(Clone, Copy)]
 pub struct Cursor {
     pub at: usize,
     pub same: bool,
@@ -113,7 +113,7 @@ fn step(file: &[u8], start: Cursor, s: Step) -> Cursor {
     }
 }
 
-#[derive(Drop)]
+#[derive(Clone, Copy)]
 enum Section {
     Words,
     Names,

@@ -4,6 +4,8 @@
 // Characters: classes, skipping, tokens, spellings. Books: those of data/books.bin, whose form, and how it was made, is
 // told in tools/cases/layer_books.py: each refusal, and each field of an accepted book. Questions: words and names of a
 // book.
+#![tactic(auto)]
+
 mod classes;
 mod compare;
 mod questions;

@@ -1,7 +1,7 @@
 // Counts cases, and writes the number of each that differs.
 use libc::STDOUT_FILENO;
 
-#[derive(Drop)]
+#[derive(Clone, Copy)]
 pub struct Tally {
     pub cases: u32,
     pub differ: u32,

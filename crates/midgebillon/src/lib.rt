@@ -16,6 +16,8 @@
 // specs/ has what the functions promise (Library, Joining) and laws: one for each way out of the first three, and that
 // with enough working memory the second promises what the first does (LibraryLaws); that what run says of two calls
 // holds of the library's (TwoCallLaws).
+#![tactic(auto)]
+
 mod answer;
 mod joining;
 

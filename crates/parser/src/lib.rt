@@ -12,6 +12,8 @@
 //
 // The crate relies on the promises of transitions, calls, errors and book and on the model of run_model, and assumes
 // nothing. specs/ has what the functions equal (Cycle) and the laws by which they do.
+#![tactic(auto)]
+
 mod left_recursion;
 mod names;
 mod parser;

@@ -7,7 +7,7 @@ ghost use Rattle.printing.specs.Printing.{decimal};
 ghost use Rattle.printing.specs.Laying.{full, Lays};
 
 // How far the line has come.
-#[derive(Drop)]
+#[derive(Clone, Copy)]
 pub struct Laid {
     // how many of its bytes are still to be skipped
     pub skip: usize,

@@ -19,6 +19,8 @@
 // definitions of `semantics`, and assumes nothing. specs/ has the line (Printing, with worked examples in Worked), what
 // the public functions answer (Lines), bytes laid into a slice (Laying), what is printed of a cell (Cells),
 // and laws.
+#![tactic(auto)]
+
 mod cell;
 mod laying;
 mod line;

@@ -14,7 +14,7 @@ use cells::CELLS_SIZE;
 use run::{Answer, HIGH_BYTE, NO_PARSE};
 
 // How many bytes the line has, or that there are more than asked for.
-#[derive(Drop)]
+#[derive(Clone, Copy)]
 pub enum Length {
     Bytes(usize),
     Longer,

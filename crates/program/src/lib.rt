@@ -7,6 +7,8 @@
 //
 // The crate relies on the promises of `run`, `printing` and `book`, and on `io`, `os` and `libc` of the kit, whose
 // contracts say nothing of what a file holds or of what is written.
+#![tactic(auto)]
+
 mod files;
 mod output;
 

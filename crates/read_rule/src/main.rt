@@ -1,5 +1,7 @@
 // Reads `rules.book` and `rule.txt` in its folder and writes one line: the value of the rule, or its refusal. Document
 // 01, "Printing". A missing file counts as empty.
+#![tactic(auto)]
+
 use program::{BOOK_ROOM, TEXT_ROOM, answer_line, load};
 
 fn main() {

@@ -9,6 +9,8 @@
 // theorems of semantics and run_model, and assumes nothing. specs/ has the promise (Promise), what is said of two calls
 // (TwoCalls), what the parts of the call equal (Reading), and laws: of the lists (ListLaws), of the call (ReadingLaws)
 // and of two calls (TwoCallLaws).
+#![tactic(auto)]
+
 mod lists;
 mod reader;
 mod refusals;

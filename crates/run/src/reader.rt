@@ -29,7 +29,7 @@ use sets::PARSES_SIZE;
 use transitions::{Outcome, State, failure_of};
 
 // "refusal (0 if none), place, kind, argument, work, number of parses, value cell"
-#[derive(Drop)]
+#[derive(Clone, Copy)]
 pub struct Answer {
     pub refusal: u32,
     pub place: u32,

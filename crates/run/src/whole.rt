@@ -14,7 +14,7 @@ use characters::skip;
 use sets::Parse;
 
 // The values of the whole parses: none, one, or different ones.
-#[derive(Drop)]
+#[derive(Clone, Copy)]
 pub enum Values {
     Nothing,
     One(u32),

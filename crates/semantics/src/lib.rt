@@ -7,3 +7,4 @@
 // adding a variant to a book loses nothing (specs/Extension.antt); from 1 to 1,000,000, a larger allowance changes no
 // answer but 20 (specs/Allowance.antt); where no starting name stands that is reserved, a variable is what
 // it was before document 02 f (specs/ReservedNames.antt).
+#![tactic(auto)]

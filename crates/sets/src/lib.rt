@@ -10,6 +10,8 @@
 //
 // The crate relies on the definitions of book and semantics, and assumes nothing. specs/ has the definitions (Sets) and
 // laws.
+#![tactic(auto)]
+
 ghost use Rattle.std.specs.Prelude.{◌≡◌, [], ◌+◌, ◌≤◌, get_or, length};
 ghost use Rattle.characters.specs.Slices.{at_entry, at_exit};
 ghost use Rattle.book.specs.Book.{associativity_number};
@@ -23,7 +25,7 @@ ghost use Rattle.sets.specs.Sets.{Apart, Becomes, Appended, Added, AllAdded, Kep
 
 use book::Associativity;
 
-#[derive(Drop)]
+#[derive(Clone, Copy)]
 pub struct Parse {
     pub rest: u32,
     pub level: u32,

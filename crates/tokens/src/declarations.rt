@@ -18,14 +18,14 @@ use errors::{Error, NONTERMINAL_WANTED};
 const DECLARED_NAME: u32 = 32;
 
 // The word for a kind: where it ends, and which kind it is for.
-#[derive(Drop)]
+#[derive(Clone, Copy)]
 enum Kind {
     Nothing,
     At { end: usize, kind: usize },
 }
 
 // A declared name: its kind, where its spelling begins and where it ends; or the error where none is there.
-#[derive(Drop)]
+#[derive(Clone, Copy)]
 pub enum Declaration {
     Missing(Error),
     Name {

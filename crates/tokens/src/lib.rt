@@ -10,6 +10,8 @@
 //
 // The crate relies on the promises of `characters`, `book`, `errors` and `calls` and on the definitions of `semantics`
 // and `run_model`, and assumes nothing.
+#![tactic(auto)]
+
 mod declarations;
 mod step_errors;
 mod steps;

@@ -25,7 +25,7 @@ use characters::{Number, number_at, part, same_bytes, skip};
 
 // What a token adds, if anything: an identifier by the place and length of its spelling, a number, a variable by its
 // name's number and kind, or, if it is declared, by its binder's depth and its index within that.
-#[derive(Drop)]
+#[derive(Clone, Copy)]
 pub enum Item {
     Nothing,
     Name { place: usize, size: usize },
@@ -35,7 +35,7 @@ pub enum Item {
 }
 
 // What a step takes at a place.
-#[derive(Drop)]
+#[derive(Clone, Copy)]
 pub enum Taken {
     // no such token, or no opening of kind 12
     Nothing,
@@ -63,14 +63,14 @@ pub enum Taken {
 }
 
 // `Option ℕ`: the character that closes a list, if one does.
-#[derive(Drop)]
+#[derive(Clone, Copy)]
 pub enum Closing {
     Nothing,
     Character(u32),
 }
 
 // After an element a list goes on at a place, or halts there.
-#[derive(Drop)]
+#[derive(Clone, Copy)]
 pub enum After {
     Goes(usize),
     Halts(usize),

@@ -13,7 +13,7 @@ use cells::{DebruijnIndex, VarIndex};
 use characters::{Identifier, byte_at, identifier_at, skip};
 
 // `Option ℕ`: where something ends, if it is there.
-#[derive(Drop)]
+#[derive(Clone, Copy)]
 pub enum End {
     Nothing,
     At(usize),
@@ -21,7 +21,7 @@ pub enum End {
 
 // A variable: where it ends, its kind, and which name it is: a starting name by its number, a declared one by its
 // binder's depth outwards and its index within that binder.
-#[derive(Drop)]
+#[derive(Clone, Copy)]
 pub enum Variable {
     Nothing,
     Starting {

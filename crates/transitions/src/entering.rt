@@ -22,7 +22,7 @@ use sets::Parse;
 use tokens::End;
 
 // A use of a nonterminal, up to its runs: it is to be run, with a minimum, or over.
-#[derive(Drop)]
+#[derive(Clone, Copy)]
 pub struct Entered {
     pub runs: bool,
     pub minimum: usize,

@@ -19,7 +19,7 @@ use cells::CellNumbers;
 use tokens::Item;
 
 // A cell that was asked for, or the limit.
-#[derive(Drop)]
+#[derive(Clone, Copy)]
 pub struct CellOutcome {
     pub limit: u32,
     pub cell: u32,

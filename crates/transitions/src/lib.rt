@@ -11,6 +11,8 @@
 // A row's number is the levels of nesting left, and so also the first row that is free.
 //
 // The crate relies on the promises of calls, sets, cells, tokens, errors, book and characters, and assumes nothing.
+#![tactic(auto)]
+
 mod choices;
 mod entering;
 mod items;

@@ -66,7 +66,7 @@ pub fn open_body(
 
 // How the reading of a name ended; where neither a limit nor a failure ended it, the place reached, the chain of the
 // kinds, and whether a comma came behind the name.
-#[derive(Drop)]
+#[derive(Clone, Copy)]
 pub struct Named {
     pub outcome: Outcome,
     pub place: u32,

@@ -16,7 +16,7 @@ pub const TOO_MANY_CELLS: u32 = 23;
 pub const TOO_MANY_NAMES: u32 = 41;
 
 // Units left, and cells so far. The cells are in the store, the marks of the open calls in the rows.
-#[derive(Drop)]
+#[derive(Clone, Copy)]
 pub struct State {
     pub units: u32,
     pub cells: u32,
@@ -24,7 +24,7 @@ pub struct State {
 
 // The limit, or 0 and the rest; what was found is in a row. With a limit only the units count. Numbers alone, so that
 // it is copied quickly.
-#[derive(Drop)]
+#[derive(Clone, Copy)]
 pub struct Outcome {
     pub limit: u32,
     // 0 where there is no failure

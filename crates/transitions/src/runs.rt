@@ -8,7 +8,7 @@ use calls::Settled;
 use errors::Failure;
 
 // How a call stands after a run: it is to be run again, or it is over.
-#[derive(Drop)]
+#[derive(Clone, Copy)]
 pub struct RunEnd {
     pub again: bool,
     pub outcome: Outcome,

@@ -14,7 +14,7 @@ use tokens::Closing;
 
 // How far a path through a variant is: the row of its call, the variant's number, its next step and how many remain,
 // the place reached, and the chain of the items so far (of a passing variant, its value).
-#[derive(Drop)]
+#[derive(Clone, Copy)]
 pub struct Progress {
     pub call: usize,
     pub variant: u32,
@@ -27,7 +27,7 @@ pub struct Progress {
 // A list that is being read: of a nonterminal, the chain of the elements already read, the closing, and with commas or
 // not. Or it is one of declared names, with the body's nonterminal and the chain of their kinds. The nonterminal comes
 // first, so that in `Doing` it lies where a child's does.
-#[derive(Drop)]
+#[derive(Clone, Copy)]
 pub struct List {
     pub nonterminal: u32,
     pub values: u32,
@@ -38,7 +38,7 @@ pub struct List {
 
 // The names of an opening that is being read: the body behind them, the chain of their kinds, how many there are, and
 // the character that closes them. Each stands in the row of its level, the last one next above the first free row.
-#[derive(Drop)]
+#[derive(Clone, Copy)]
 pub struct Names {
     pub body: u32,
     pub kinds: u32,
@@ -47,7 +47,7 @@ pub struct Names {
 }
 
 // What a path does next: the steps that are left, a child, perhaps a child, or the elements of a list.
-#[derive(Drop)]
+#[derive(Clone, Copy)]
 pub enum Doing {
     Steps,
     Child(u32),
@@ -56,14 +56,14 @@ pub enum Doing {
 }
 
 // What follows each parse of a child: the steps that are left, or the list, whose elements are no names.
-#[derive(Drop)]
+#[derive(Clone, Copy)]
 pub enum Next {
     Steps,
     Elements(List),
 }
 
 // How a part ended and, where neither a limit nor a failure ended it, the place reached and the items so far.
-#[derive(Drop)]
+#[derive(Clone, Copy)]
 pub struct Reached {
     pub outcome: Outcome,
     pub place: u32,
@@ -71,7 +71,7 @@ pub struct Reached {
 }
 
 // The same, and what the path does next.
-#[derive(Drop)]
+#[derive(Clone, Copy)]
 pub struct Stage {
     pub outcome: Outcome,
     pub place: u32,
