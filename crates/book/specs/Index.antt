@@ -2,7 +2,7 @@
 -- 01 says: the contract of `check_into` equates the book that its index gives with the one of `check_book`, and the
 -- reading functions are stated over the former.
 use Rattle.std.specs.Prelude.{Bool, false, cond, ◌&&◌, List, [], ◌∷◌, ◌++◌, ◌≡◌, ℕ, zero, suc, ◌+◌, ◌-◌, ◌*◌, ◌%◌, ◌≤◌, ◌<◌, leb, ltb, eqb, length, get_or}
-use Rattle.characters.specs.Slices.{Lent, at_entry}
+use Rattle.characters.specs.Slices.{Slice}
 use Rattle.characters.specs.Classes.{between}
 use Rattle.characters.specs.Spelling.{part_of}
 use Rattle.book.specs.Book.{Entry, Book, mark_number}
@@ -141,8 +141,8 @@ book_in book index =
     }
 
 -- the book of two slices that a function is lent
-abbrev pub book_at : Lent → Lent → Book
-book_at book index = book_in (at_entry book) (at_entry index)
+abbrev pub book_at : Slice → Slice → Book
+book_at book index = book_in book index
 
 -- ---- Records of a binder
 -- the number that is looked for, and a nonterminal's: where any will do, all have number 0

@@ -1,7 +1,6 @@
 // The nonterminals of mark 3. Such a one has one variant, with one step, so its first variant and that variant's first
 // step are its only ones.
 ghost use Rattle.std.specs.Prelude.{◌≡◌, List, ℕ, eqb, get_or};
-ghost use Rattle.characters.specs.Slices.{at_entry};
 ghost use Rattle.book.specs.Book.{mark_number, no_variant, nth_nonterminal};
 ghost use Rattle.book.specs.Numbers.{binder_mark};
 ghost use Rattle.book.specs.Index.{placed_in, book_at, is_sought, has_binder};
@@ -31,7 +30,7 @@ fn is_binder(mark: Mark) -> bool
 
 // The number of a variant's first step, whatever the bytes are.
 fn first_step(index: &[usize], j: usize) -> usize
-    ensures { (book : List ℕ) → result ≡ (get_or (placed_in book (at_entry index)) j (0, no_variant)).1.first }
+    ensures { (book : List ℕ) → result ≡ (get_or (placed_in book index.now) j (0, no_variant)).1.first }
 {
     if j < count(index, VARIANTS) {
         first(index, VARIANTS, j)
@@ -42,7 +41,7 @@ fn first_step(index: &[usize], j: usize) -> usize
 
 // Whether nonterminal n is the binder that is looked for.
 fn is_sought(book: &[u8], index: &[usize], sought: Sought, n: usize) -> bool
-    ensures { result ≡ is_sought sought (at_entry book) (at_entry index) (nth_nonterminal (book_at book index) n) }
+    ensures { result ≡ is_sought sought book.now index.now (nth_nonterminal (book_at book.now index.now) n) }
 {
     let own = nonterminal(book, index, n);
     let mark = own.mark;
@@ -58,7 +57,7 @@ fn is_sought(book: &[u8], index: &[usize], sought: Sought, n: usize) -> bool
 
 // Whether there is the binder that is looked for.
 pub fn has_binder(book: &[u8], index: &[usize], sought: Sought) -> bool
-    ensures { result ≡ has_binder sought (at_entry book) (at_entry index) }
+    ensures { result ≡ has_binder sought book.now index.now }
 {
     let nonterminals = count(index, NONTERMINALS);
     let mut n = 0;

@@ -1,6 +1,5 @@
 // The check of a book, section after section.
 ghost use Rattle.std.specs.Prelude.{◌≡◌, cond, ℕ, ◌+◌, ◌*◌, ◌≤◌, ◌<◌, ltb, eqb, length, get_or};
-ghost use Rattle.characters.specs.Slices.{at_entry, at_exit};
 ghost use Rattle.book.specs.Book.{step_number, nth_variant};
 ghost use Rattle.book.specs.Numbers.{most_nonterminals, most_variants, largest_byte};
 ghost use Rattle.book.specs.Check.{passes as passesIn, all_pass, check_book, variants_fit};
@@ -28,7 +27,7 @@ pub enum Verdict {
 // Words, names and nonterminals; the value is the number of variants.
 fn heads(book: &[u8], index: &mut [usize]) -> Part
     requires { index_size ≤ length index.old }
-    ensures { HeadsRead (at_entry book) (at_entry index) (at_exit index) result }
+    ensures { HeadsRead book.now index.old index.new result }
 {
     let words = section(book, 0, 0, MOST_WORDS, Sort::Entry(RESERVED), index, WORDS);
     let Part::Read {
@@ -68,8 +67,8 @@ fn heads(book: &[u8], index: &mut [usize]) -> Part
 // The variants, `total` of them and at most 128; the value is the number of steps.
 fn variants(book: &[u8], at: usize, total: usize, binders: bool, index: &mut [usize]) -> Part
     requires { (index_size ≤ length index.old) × (count_in index.old nonterminals_at ≤ most_nonterminals) }
-    ensures { Section (Sort.Variant binders) (variants_fit total) (at_entry book) at most_variants variants_at
-        (at_entry index) (at_exit index) result }
+    ensures { Section (Sort.Variant binders) (variants_fit total) book.now at most_variants variants_at
+        index.old index.new result }
 {
     let sort = Sort::Variant(binders);
     if total <= MOST_VARIANTS {
@@ -85,8 +84,8 @@ fn steps(book: &[u8], at: usize, total: usize, binders: bool, index: &mut [usize
     requires { (index_size ≤ length index.old) × (count_in index.old nonterminals_at ≤ most_nonterminals) ×
         (count_in index.old variants_at ≤ most_variants) }
     ensures { Section
-        (Sort.Step (count_in (at_entry index) words_at) (count_in (at_entry index) nonterminals_at) binders) (eqb total)
-        (at_entry book) at largest_byte steps_at (at_entry index) (at_exit index) result }
+        (Sort.Step (count_in index.old words_at) (count_in index.old nonterminals_at) binders) (eqb total)
+        book.now at largest_byte steps_at index.old index.new result }
 {
     let words = count(index, WORDS);
     let nonterminals = count(index, NONTERMINALS);
@@ -101,7 +100,7 @@ fn steps(book: &[u8], at: usize, total: usize, binders: bool, index: &mut [usize
 
 fn five_sections(book: &[u8], index: &mut [usize]) -> Part
     requires { index_size ≤ length index.old }
-    ensures { SectionsRead (at_entry book) (at_entry index) (at_exit index) result }
+    ensures { SectionsRead book.now index.old index.new result }
 {
     let head = heads(book, index);
     let Part::Read {
@@ -125,7 +124,7 @@ fn five_sections(book: &[u8], index: &mut [usize]) -> Part
 
 // A passing variant is one step of kind 8.
 fn passes(book: &[u8], index: &[usize], j: usize) -> bool
-    ensures { result ≡ passesIn (book_at book index).steps (nth_variant (book_at book index) j) }
+    ensures { result ≡ passesIn (book_at book.now index.now).steps (nth_variant (book_at book.now index.now) j) }
 {
     let v = variant(book, index, j);
     if v.passing {
@@ -139,8 +138,8 @@ fn passes(book: &[u8], index: &[usize], j: usize) -> bool
 
 // The first variant that doesn't pass, as a refusal, or `next`.
 fn all_pass(book: &[u8], index: &[usize], next: usize) -> Part
-    ensures { all_pass (book_at book index).steps
-        (placed_in (at_entry book) (at_entry index)) (at_entry book) next ≡ reading_of result (λ v. tt) }
+    ensures { all_pass (book_at book.now index.now).steps
+        (placed_in book.now index.now) book.now next ≡ reading_of result (λ v. tt) }
 {
     let variants = count(index, VARIANTS);
     let mut j = 0;
@@ -159,7 +158,7 @@ fn all_pass(book: &[u8], index: &[usize], next: usize) -> Part
 // The check with an index that is long enough.
 fn checked(book: &[u8], index: &mut [usize]) -> Verdict
     requires { index_size ≤ length index.old }
-    ensures { Checks (at_entry book) (at_entry index) (at_exit index) result }
+    ensures { Checks book.now index.old index.new result }
 {
     let sections = five_sections(book, index);
     let Part::Read { value: _, next } = sections else {
@@ -196,7 +195,7 @@ fn refusal(part: Part) -> Verdict
 // book is refused, the index holds the places of what was read before, and the contract says nothing of them: no book
 // is there to be read by them.
 pub fn check_into(book: &[u8], index: &mut [usize]) -> Verdict
-    ensures { CheckedInto (at_entry book) (at_entry index) (at_exit index) result }
+    ensures { CheckedInto book.now index.old index.new result }
 {
     if index.len() < INDEX_SIZE {
         return Verdict::Refused {
@@ -209,7 +208,7 @@ pub fn check_into(book: &[u8], index: &mut [usize]) -> Verdict
 
 // The check alone, for a caller who wants the verdict and reads no book by the index.
 pub fn check(book: &[u8]) -> Verdict
-    ensures { Says (check_book (at_entry book)) result }
+    ensures { Says (check_book book.now) result }
 {
     let mut index = [0usize; INDEX_SIZE];
     check_into(book, &mut index)

@@ -2,7 +2,6 @@
 // each section: the count, and then two numbers for each record, its place in the book and the sum of the numbers of
 // variants, or of steps, of the records before it in the section.
 ghost use Rattle.std.specs.Prelude.{◌≡◌, ◌≤◌, get_or, set};
-ghost use Rattle.characters.specs.Slices.{at_entry, at_exit};
 ghost use Rattle.book.specs.Index.{steps_at, count_in, place_in, first_in, SameRecord};
 
 use crate::limits::{LARGEST_BYTE, MOST_NAMES, MOST_NONTERMINALS, MOST_VARIANTS, MOST_WORDS};
@@ -25,14 +24,14 @@ const WIDE: usize = 4294967296;
 
 // The number at i, and 0 past the end.
 fn get(index: &[usize], i: usize) -> usize
-    ensures { result ≡ get_or (at_entry index) i 0 }
+    ensures { result ≡ get_or index.now i 0 }
 {
     if i < index.len() { index[i] } else { 0 }
 }
 
 // Writes a number; past the end it does nothing.
 pub fn put(index: &mut [usize], i: usize, number: usize)
-    ensures { at_exit index ≡ set (at_entry index) i number }
+    ensures { index.new ≡ set index.old i number }
 {
     if i < index.len() {
         index[i] = number;
@@ -42,7 +41,7 @@ pub fn put(index: &mut [usize], i: usize, number: usize)
 // A record's number; of one that lies far past the end the index's length, since twice the number would be too large.
 // Of a number that had 32 bits, as it has in a run, the compiler knows that it is below `WIDE`, and tests nothing.
 fn within(index: &[usize], i: usize) -> usize
-    ensures { SameRecord (at_entry index) i result }
+    ensures { SameRecord index.now i result }
 {
     if i < WIDE {
         return i;
@@ -52,7 +51,7 @@ fn within(index: &[usize], i: usize) -> usize
 
 // How many records a section has.
 pub fn count(index: &[usize], base: usize) -> usize
-    ensures { result ≡ count_in (at_entry index) base }
+    ensures { result ≡ count_in index.now base }
 {
     get(index, base)
 }
@@ -60,7 +59,7 @@ pub fn count(index: &[usize], base: usize) -> usize
 // Where record i of a section begins.
 pub fn place(index: &[usize], base: usize, i: usize) -> usize
     requires { base ≤ steps_at }
-    ensures { result ≡ place_in (at_entry index) base i }
+    ensures { result ≡ place_in index.now base i }
 {
     let i = within(index, i);
     get(index, base + 1 + 2 * i)
@@ -69,7 +68,7 @@ pub fn place(index: &[usize], base: usize, i: usize) -> usize
 // The number of record i's first variant, or step: how many the records before it have.
 pub fn first(index: &[usize], base: usize, i: usize) -> usize
     requires { base ≤ steps_at }
-    ensures { result ≡ first_in (at_entry index) base i }
+    ensures { result ≡ first_in index.now base i }
 {
     let i = within(index, i);
     get(index, base + 2 + 2 * i)

@@ -1,7 +1,6 @@
 // Words and starting names by their numbers, whether a spelling is reserved, which starting name it is, and which
 // kind's word.
 ghost use Rattle.std.specs.Prelude.{◌≡◌, List, ℕ, ◌+◌, ◌≤◌, get_or, length, take};
-ghost use Rattle.characters.specs.Slices.{at_entry};
 ghost use Rattle.characters.specs.Spelling.{part_of, same};
 ghost use Rattle.book.specs.Book.{nth_entry, reserved_as, is_reserved, lookup_name, kind_word};
 ghost use Rattle.book.specs.Index.{steps_at, entries_in, entry_from, book_in, book_at};
@@ -26,7 +25,7 @@ pub enum KindWord {
 
 // The spelling of the entry at a place of the book.
 fn spelling_from(book: &[u8], at: usize) -> &[u8]
-    ensures { result.now ≡ (entry_from (at_entry book) at).spelling }
+    ensures { result.now ≡ (entry_from book.now at).spelling }
 {
     if at < book.len() {
         part(book, at + 2, number_after(book, at, 1))
@@ -38,7 +37,7 @@ fn spelling_from(book: &[u8], at: usize) -> &[u8]
 // The spelling of entry i of a section, a part of the book.
 fn spelling<'a>(book: &'a [u8], index: &[usize], base: usize, i: usize) -> &'a [u8]
     requires { base ≤ steps_at }
-    ensures { result.now ≡ (nth_entry (entries_in (at_entry book) (at_entry index) base) i).spelling }
+    ensures { result.now ≡ (nth_entry (entries_in book.now index.now base) i).spelling }
 {
     if i < count(index, base) {
         spelling_from(book, place(index, base, i))
@@ -50,7 +49,7 @@ fn spelling<'a>(book: &'a [u8], index: &[usize], base: usize, i: usize) -> &'a [
 // The number that stands before the spelling of entry i.
 fn label(book: &[u8], index: &[usize], base: usize, i: usize) -> usize
     requires { base ≤ steps_at }
-    ensures { result ≡ (nth_entry (entries_in (at_entry book) (at_entry index) base) i).label }
+    ensures { result ≡ (nth_entry (entries_in book.now index.now base) i).label }
 {
     if i < count(index, base) {
         number_after(book, place(index, base, i), 0)
@@ -60,26 +59,26 @@ fn label(book: &[u8], index: &[usize], base: usize, i: usize) -> usize
 }
 
 pub fn word<'a>(book: &'a [u8], index: &[usize], i: usize) -> &'a [u8]
-    ensures { result.now ≡ (nth_entry (book_at book index).words i).spelling }
+    ensures { result.now ≡ (nth_entry (book_at book.now index.now).words i).spelling }
 {
     spelling(book, index, WORDS, i)
 }
 
 // 1 for a reserved word, 0 for another.
 pub fn word_label(book: &[u8], index: &[usize], i: usize) -> usize
-    ensures { result ≡ (nth_entry (book_at book index).words i).label }
+    ensures { result ≡ (nth_entry (book_at book.now index.now).words i).label }
 {
     label(book, index, WORDS, i)
 }
 
 pub fn name<'a>(book: &'a [u8], index: &[usize], i: usize) -> &'a [u8]
-    ensures { result.now ≡ (nth_entry (book_at book index).names i).spelling }
+    ensures { result.now ≡ (nth_entry (book_at book.now index.now).names i).spelling }
 {
     spelling(book, index, NAMES, i)
 }
 
 pub fn name_kind(book: &[u8], index: &[usize], i: usize) -> usize
-    ensures { result ≡ (nth_entry (book_at book index).names i).label }
+    ensures { result ≡ (nth_entry (book_at book.now index.now).names i).label }
 {
     label(book, index, NAMES, i)
 }
@@ -87,15 +86,15 @@ pub fn name_kind(book: &[u8], index: &[usize], i: usize) -> usize
 // Whether entry i is spelled as a part of the text.
 fn spelled(book: &[u8], index: &[usize], base: usize, i: usize, wanted: &[u8]) -> bool
     requires { base ≤ steps_at }
-    ensures { result ≡ same (at_entry wanted)
-        (nth_entry (entries_in (at_entry book) (at_entry index) base) i).spelling }
+    ensures { result ≡ same wanted.now
+        (nth_entry (entries_in book.now index.now base) i).spelling }
 {
     same_bytes(wanted, spelling(book, index, base, i))
 }
 
 // Whether word i is reserved and spelled as a part of the text.
 fn reserved_as(book: &[u8], index: &[usize], i: usize, wanted: &[u8]) -> bool
-    ensures { result ≡ reserved_as (at_entry wanted) (nth_entry (book_at book index).words i) }
+    ensures { result ≡ reserved_as wanted.now (nth_entry (book_at book.now index.now).words i) }
 {
     if label(book, index, WORDS, i) == 1 {
         spelled(book, index, WORDS, i, wanted)
@@ -106,7 +105,7 @@ fn reserved_as(book: &[u8], index: &[usize], i: usize, wanted: &[u8]) -> bool
 
 // Whether a part of the text is reserved: whether an equal word is.
 pub fn is_reserved(book: &[u8], index: &[usize], text: &[u8], start: usize, size: usize) -> bool
-    ensures { result ≡ is_reserved (book_at book index).words (part_of (at_entry text) start size) }
+    ensures { result ≡ is_reserved (book_at book.now index.now).words (part_of text.now start size) }
 {
     let wanted = part(text, start, size);
     let words = count(index, WORDS);
@@ -122,7 +121,7 @@ pub fn is_reserved(book: &[u8], index: &[usize], text: &[u8], start: usize, size
 
 // Which starting name a part of the text is: the last equal one.
 pub fn lookup(book: &[u8], index: &[usize], text: &[u8], start: usize, size: usize) -> Found
-    ensures { result ≡ lookup_name (book_at book index).names (part_of (at_entry text) start size) }
+    ensures { result ≡ lookup_name (book_at book.now index.now).names (part_of text.now start size) }
 {
     let wanted = part(text, start, size);
     let names = count(index, NAMES);
@@ -142,7 +141,7 @@ pub fn lookup(book: &[u8], index: &[usize], text: &[u8], start: usize, size: usi
 
 // How many words name a kind, whatever the bytes are.
 fn kind_words(index: &[usize]) -> usize
-    ensures { (book : List ℕ) → result ≡ length (take kinds (book_in book (at_entry index)).words) }
+    ensures { (book : List ℕ) → result ≡ length (take kinds (book_in book index.now).words) }
 {
     let words = count(index, WORDS);
     if words < KINDS { words } else { KINDS }
@@ -150,7 +149,7 @@ fn kind_words(index: &[usize]) -> usize
 
 // Which kind's word a part of the text is: the first equal one.
 pub fn kind_word(book: &[u8], index: &[usize], text: &[u8], start: usize, size: usize) -> KindWord
-    ensures { result ≡ kind_word (book_at book index).words (part_of (at_entry text) start size) }
+    ensures { result ≡ kind_word (book_at book.now index.now).words (part_of text.now start size) }
 {
     let wanted = part(text, start, size);
     let words = kind_words(index);

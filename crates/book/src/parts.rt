@@ -1,6 +1,5 @@
 // What a part of the book gives, and single bytes.
 ghost use Rattle.std.specs.Prelude.{◌≡◌, cond};
-ghost use Rattle.characters.specs.Slices.{at_entry};
 ghost use Rattle.characters.specs.Classes.{between};
 ghost use Rattle.book.specs.Check.{checked, fixed as isFixed};
 ghost use Rattle.book.specs.Index.{reading_of};
@@ -19,7 +18,7 @@ pub enum Part {
 
 // A byte from `low` to `high`, else the refusal `number` at its place.
 pub fn field(book: &[u8], place: usize, low: usize, high: usize, number: usize) -> Part
-    ensures { checked (between low high) number place (at_entry book) place ≡ reading_of result (λ v. v) }
+    ensures { checked (between low high) number place book.now place ≡ reading_of result (λ v. v) }
 {
     if book.len() <= place {
         return Part::Refused {
@@ -48,7 +47,7 @@ fn chosen(binder: bool, n: usize, other: usize) -> usize
 
 // A binder's byte, which is n, or another's, up to `high`; else 6 at its place.
 pub fn fixed(book: &[u8], place: usize, binder: bool, n: usize, high: usize) -> Part
-    ensures { checked (isFixed binder n (between 0 high)) bad_field place (at_entry book) place ≡
+    ensures { checked (isFixed binder n (between 0 high)) bad_field place book.now place ≡
         reading_of result (λ v. v) }
 {
     field(

@@ -1,6 +1,5 @@
 // Reading an accepted book by its index. A number that the book doesn't have gets a fixed answer.
 ghost use Rattle.std.specs.Prelude.{◌≡◌, List, ℕ, ◌+◌, ◌≤◌, get_or, length};
-ghost use Rattle.characters.specs.Slices.{at_entry};
 ghost use Rattle.book.specs.Book.{nth_nonterminal, nth_variant, nth_step, step_number};
 ghost use Rattle.book.specs.Check.{mark_of, associativity_of, step_of};
 ghost use Rattle.book.specs.Index.{book_in, book_at};
@@ -114,7 +113,7 @@ pub fn step_number(step: Step) -> usize
 // The byte k places after `at`, and 0 past the end.
 fn byte_after(book: &[u8], at: usize, k: usize) -> u8
     requires { k ≤ 3 }
-    ensures { result ≡ get_or (at_entry book) (at + k) 0 }
+    ensures { result ≡ get_or book.now (at + k) 0 }
 {
     if at < book.len() {
         byte_at(book, at + k)
@@ -125,27 +124,27 @@ fn byte_after(book: &[u8], at: usize, k: usize) -> u8
 
 pub fn number_after(book: &[u8], at: usize, k: usize) -> usize
     requires { k ≤ 3 }
-    ensures { result ≡ get_or (at_entry book) (at + k) 0 }
+    ensures { result ≡ get_or book.now (at + k) 0 }
 {
     byte_after(book, at, k) as usize
 }
 
 fn argument_after(book: &[u8], at: usize, k: usize) -> u32
     requires { k ≤ 3 }
-    ensures { result ≡ get_or (at_entry book) (at + k) 0 }
+    ensures { result ≡ get_or book.now (at + k) 0 }
 {
     byte_after(book, at, k) as u32
 }
 
 // How many nonterminals there are, whatever the bytes are.
 pub fn nonterminals(index: &[usize]) -> usize
-    ensures { (book : List ℕ) → result ≡ length (book_in book (at_entry index)).nonterminals }
+    ensures { (book : List ℕ) → result ≡ length (book_in book index.now).nonterminals }
 {
     count(index, NONTERMINALS)
 }
 
 pub fn nonterminal(book: &[u8], index: &[usize], i: usize) -> Nonterminal
-    ensures { result ≡ nth_nonterminal (book_at book index) i }
+    ensures { result ≡ nth_nonterminal (book_at book.now index.now) i }
 {
     if i < count(index, NONTERMINALS) {
         let at = place(index, NONTERMINALS, i);
@@ -164,7 +163,7 @@ pub fn nonterminal(book: &[u8], index: &[usize], i: usize) -> Nonterminal
 }
 
 pub fn variant(book: &[u8], index: &[usize], j: usize) -> Variant
-    ensures { result ≡ nth_variant (book_at book index) j }
+    ensures { result ≡ nth_variant (book_at book.now index.now) j }
 {
     if j < count(index, VARIANTS) {
         let at = place(index, VARIANTS, j);
@@ -190,7 +189,7 @@ pub fn variant(book: &[u8], index: &[usize], j: usize) -> Variant
 }
 
 pub fn step(book: &[u8], index: &[usize], k: usize) -> Step
-    ensures { result ≡ nth_step (book_at book index).steps k }
+    ensures { result ≡ nth_step (book_at book.now index.now).steps k }
 {
     if k < count(index, STEPS) {
         let at = place(index, STEPS, k);

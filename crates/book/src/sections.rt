@@ -1,6 +1,5 @@
 // The records of each section, checked byte by byte, and a section as a whole.
 ghost use Rattle.std.specs.Prelude.{◌≡◌, Bool, false, cond, ◌+◌, ◌*◌, ◌≤◌, eqb, length};
-ghost use Rattle.characters.specs.Slices.{at_entry, at_exit};
 ghost use Rattle.characters.specs.Classes.{between};
 ghost use Rattle.book.specs.Numbers.{identifier_mark, variants_each, default_level, both};
 ghost use Rattle.book.specs.Numbers.{largest_byte};
@@ -29,7 +28,7 @@ fn most_variants(mark: usize) -> usize
 
 // Mark and number of variants; the value is the latter.
 fn nonterminal(book: &[u8], place: usize) -> Part
-    ensures { (binder : Bool) → One Sort.Nonterminal binder (at_entry book) place result }
+    ensures { (binder : Bool) → One Sort.Nonterminal binder book.now place result }
 {
     let mark = field(book, place, 0, LAST_MARK, BAD_FIELD);
     let Part::Read { value, next } = mark else {
@@ -46,7 +45,7 @@ fn least_associativity(level: usize) -> usize
 
 // Level, associativity, flags and number of steps; the value is the last.
 fn variant(book: &[u8], place: usize, binder: bool) -> Part
-    ensures { (binders : Bool) → One (Sort.Variant binders) binder (at_entry book) place result }
+    ensures { (binders : Bool) → One (Sort.Variant binders) binder book.now place result }
 {
     let level = fixed(book, place, binder, DEFAULT_LEVEL, LARGEST_BYTE);
     let Part::Read { value, next } = level else {
@@ -154,7 +153,7 @@ fn step_arguments(kind: usize, words: usize, nonterminals: usize, binder: bool) 
 
 fn step(book: &[u8], place: usize, words: usize, nonterminals: usize, binder: bool) -> Part
     ensures { (binders : Bool) →
-        One (Sort.Step words nonterminals binders) binder (at_entry book) place result }
+        One (Sort.Step words nonterminals binders) binder book.now place result }
 {
     let kind = field(book, place, 0, LARGEST_BYTE, BAD_FIELD);
     let Part::Read { value, next } = kind else {
@@ -211,7 +210,7 @@ pub enum Sort {
 // Record i. Whether it is a binder's is looked for only in a book that has binders; the variants and steps of any other
 // are read by calls that say so, since a check of them takes no longer then.
 fn one_record(book: &[u8], place: usize, sort: Sort, index: &[usize], i: usize) -> Part
-    ensures { One sort (binder_in sort (at_entry book) (at_entry index) i) (at_entry book) place result }
+    ensures { One sort (binder_in sort book.now index.now i) book.now place result }
 {
     match sort {
         Sort::Entry(greatest) => entry(book, place, greatest),
@@ -246,7 +245,7 @@ fn records(
     base: usize,
 ) -> Part
     requires { (base + 1 + 2 * count ≤ length index.old) × (count ≤ largest_byte) × Before sort base index.old }
-    ensures { RecordsRead sort (at_entry book) place count base (at_entry index) (at_exit index) result }
+    ensures { RecordsRead sort book.now place count base index.old index.new result }
 {
     let mut i = 0;
     let mut at = place;
@@ -280,8 +279,8 @@ pub fn section(
     base: usize,
 ) -> Part
     requires { (base + 1 + 2 * high ≤ length index.old) × (high ≤ largest_byte) × Before sort base index.old }
-    ensures { Section sort (between low high) (at_entry book) place high base
-        (at_entry index) (at_exit index) result }
+    ensures { Section sort (between low high) book.now place high base
+        index.old index.new result }
 {
     let count = field(book, place, low, high, BAD_COUNT);
     let Part::Read { value, next } = count else {

@@ -1,6 +1,5 @@
 // Words and starting names: a label and a spelling.
 ghost use Rattle.std.specs.Prelude.{◌≡◌, Bool, get_or, ◌+◌};
-ghost use Rattle.characters.specs.Slices.{at_entry};
 ghost use Rattle.characters.specs.Spelling.{part_of};
 ghost use Rattle.book.specs.Check.{checked, records};
 ghost use Rattle.book.specs.Check.{shaped as isShaped, spelling as spellingAt};
@@ -28,8 +27,8 @@ fn shaped(byte: u8, i: usize) -> bool
 
 // One byte of a spelling whose length stands at `at`.
 fn spelling_byte(book: &[u8], place: usize, i: usize, at: usize) -> Part
-    ensures { checked (isShaped i) bad_spelling at (at_entry book) place ≡
-        reading_of result (λ v. get_or (at_entry book) place 0) }
+    ensures { checked (isShaped i) bad_spelling at book.now place ≡
+        reading_of result (λ v. get_or book.now place 0) }
 {
     if book.len() <= place {
         return Part::Refused {
@@ -50,8 +49,8 @@ fn spelling_byte(book: &[u8], place: usize, i: usize, at: usize) -> Part
 }
 
 fn spelling_bytes(book: &[u8], place: usize, size: usize, at: usize) -> Part
-    ensures { (records (λ b. 0) (λ i sum. checked (isShaped i) bad_spelling at) size 0 0 (at_entry book) place ≡
-        reading_of result (λ v. part_of (at_entry book) place size)) × Valued result 0 }
+    ensures { (records (λ b. 0) (λ i sum. checked (isShaped i) bad_spelling at) size 0 0 book.now place ≡
+        reading_of result (λ v. part_of book.now place size)) × Valued result 0 }
 {
     let mut i = 0;
     let mut next_place = place;
@@ -70,8 +69,8 @@ fn spelling_bytes(book: &[u8], place: usize, size: usize, at: usize) -> Part
 }
 
 fn spelling(book: &[u8], place: usize) -> Part
-    ensures { (spellingAt (at_entry book) place ≡
-        reading_of result (λ v. part_of (at_entry book) (place + 1) (get_or (at_entry book) place 0))) × Valued result 0 }
+    ensures { (spellingAt book.now place ≡
+        reading_of result (λ v. part_of book.now (place + 1) (get_or book.now place 0))) × Valued result 0 }
 {
     let size = field(book, place, 1, LONGEST_SPELLING, BAD_SPELLING);
     let Part::Read { value, next } = size else {
@@ -81,7 +80,7 @@ fn spelling(book: &[u8], place: usize) -> Part
 }
 
 pub fn entry(book: &[u8], place: usize, greatest: usize) -> Part
-    ensures { (binder : Bool) → One (Sort.Entry greatest) binder (at_entry book) place result }
+    ensures { (binder : Bool) → One (Sort.Entry greatest) binder book.now place result }
 {
     let label = field(book, place, 0, greatest, BAD_FIELD);
     let Part::Read { value: _, next } = label else {

@@ -1,7 +1,7 @@
 -- The table of rows in a list of numbers. A row is eleven numbers and two sets, the stored one and the run's.
 use Rattle.std.specs.Prelude.{◌≡◌, Bool, cond, List, [], ◌∷◌, ℕ, zero, suc, ◌+◌, ◌*◌, ◌<◌, ◌≤◌, eqb, get_or, length}
 use Rattle.std.proofs.Math.Option.{Option, none, some}
-use Rattle.characters.specs.Slices.{Slice, Lent, at_entry, at_exit}
+use Rattle.characters.specs.Slices.{Slice}
 use Rattle.book.specs.Book.{Book}
 use Rattle.semantics.specs.Numbers.{most_nesting, too_many_parses}
 use Rattle.semantics.specs.Values.{Parse}
@@ -57,7 +57,7 @@ table numbers = rows_from numbers 0 row_count
 -- ---- The slice that a function is lent
 -- the slice has its table
 abbrev pub HasTable : Slice → Type 0
-HasTable rows = rows_size ≤ length rows.now
+HasTable rows = rows_size ≤ length rows
 
 -- and the row is one of it
 abbrev pub InTable : ℕ → Slice → Type 0
@@ -75,19 +75,19 @@ NumberIn row column rows = (row ≤ most_nesting) × (column < field_count) × H
 abbrev pub Below : ℕ → ℕ → Slice → Type 0
 Below into from rows = (into < from) × (from ≤ most_nesting) × HasTable rows
 
-abbrev pub table_at : Lent → List Row
-table_at rows = table (at_entry rows)
+abbrev pub table_at : Slice → List Row
+table_at rows = table rows
 
-abbrev pub table_after : Lent → List Row
-table_after rows = table (at_exit rows)
+abbrev pub table_after : Slice → List Row
+table_after rows = table rows
 
 -- a row at entry
-abbrev pub row_in : Lent → ℕ → Row
+abbrev pub row_in : Slice → ℕ → Row
 row_in rows row = row_of (table_at rows) row
 
 -- one row changes
-abbrev pub Changes : Lent → ℕ → (Row → Row) → Type 0
-Changes rows row change = table_after rows ≡ on_row (table_at rows) row change
+abbrev pub Changes : Slice → Slice → ℕ → (Row → Row) → Type 0
+Changes rows rows' row change = table_after rows' ≡ on_row (table_at rows) row change
 
 -- ---- The numbers of a row
 -- a row whose j-th number is x

@@ -105,36 +105,36 @@ pub enum Settled {
 
 // ---- Numbers of a row
 fn get(rows: &[u32], row: usize, column: usize) -> u32
-    requires { NumberIn row column rows }
-    ensures { result ≡ field_of column (row_in rows row) }
+    requires { NumberIn row column rows.now }
+    ensures { result ≡ field_of column (row_in rows.now row) }
 {
     rows[row * ROW_SIZE + column]
 }
 
 fn put(rows: &mut [u32], row: usize, column: usize, x: u32)
-    requires { NumberIn row column rows }
-    ensures { Changes rows row (field column x) }
+    requires { NumberIn row column rows.old }
+    ensures { Changes rows.old rows.new row (field column x) }
 {
     rows[row * ROW_SIZE + column] = x;
 }
 
 pub fn nonterminal_of(rows: &[u32], row: usize) -> u32
-    requires { InTable row rows }
-    ensures { result ≡ (row_in rows row).nonterminal }
+    requires { InTable row rows.now }
+    ensures { result ≡ (row_in rows.now row).nonterminal }
 {
     get(rows, row, NONTERMINAL)
 }
 
 pub fn start_of(rows: &[u32], row: usize) -> u32
-    requires { InTable row rows }
-    ensures { result ≡ (row_in rows row).start }
+    requires { InTable row rows.now }
+    ensures { result ≡ (row_in rows.now row).start }
 {
     get(rows, row, START)
 }
 
 pub fn binder_of(rows: &[u32], row: usize) -> u32
-    requires { InTable row rows }
-    ensures { result ≡ (row_in rows row).binder }
+    requires { InTable row rows.now }
+    ensures { result ≡ (row_in rows.now row).binder }
 {
     get(rows, row, BINDER)
 }
@@ -150,8 +150,8 @@ pub fn body_binder(names: u32) -> u32
 
 // The binder of a child of a row's call.
 pub fn inherited_binder(rows: &[u32], row: usize) -> u32
-    requires { InTable row rows }
-    ensures { result ≡ inherited (row_in rows row).binder }
+    requires { InTable row rows.now }
+    ensures { result ≡ inherited (row_in rows.now row).binder }
 {
     if get(rows, row, BINDER) == OUTSIDE {
         OUTSIDE
@@ -169,8 +169,8 @@ fn is_body(binder: u32) -> bool
 
 // The call of a row is open and the body behind an opening: what is around it has another scope.
 fn begins_scope(rows: &[u32], row: usize) -> bool
-    requires { InTable row rows }
-    ensures { result ≡ begins_scope (row_in rows row) }
+    requires { InTable row rows.now }
+    ensures { result ≡ begins_scope (row_in rows.now row) }
 {
     if get(rows, row, LIVE) != 1 {
         return false;
@@ -180,23 +180,23 @@ fn begins_scope(rows: &[u32], row: usize) -> bool
 
 // ---- Sets of a row
 pub fn clear_set(rows: &mut [u32], row: usize)
-    requires { InTable row rows }
-    ensures { Changes rows row (with_set []) }
+    requires { InTable row rows.old }
+    ensures { Changes rows.old rows.new row (with_set []) }
 {
     sets::clear(rows, row * ROW_SIZE + STORED_SET);
 }
 
 pub fn clear_run(rows: &mut [u32], row: usize)
-    requires { InTable row rows }
-    ensures { Changes rows row (model.with_run []) }
+    requires { InTable row rows.old }
+    ensures { Changes rows.old rows.new row (model.with_run []) }
 {
     sets::clear(rows, row * ROW_SIZE + RUN_SET);
 }
 
 // A row's set becomes one parse.
 pub fn put_one(rows: &mut [u32], row: usize, p: Parse)
-    requires { InTable row rows }
-    ensures { Changes rows row (with_set (parse_of p ∷ [])) }
+    requires { InTable row rows.old }
+    ensures { Changes rows.old rows.new row (with_set (parse_of p ∷ [])) }
 {
     sets::clear(rows, row * ROW_SIZE + STORED_SET);
     sets::append(rows, row * ROW_SIZE + STORED_SET, p);
@@ -204,48 +204,48 @@ pub fn put_one(rows: &mut [u32], row: usize, p: Parse)
 
 // The row's set becomes what its run found.
 fn copy_run(rows: &mut [u32], row: usize)
-    requires { InTable row rows }
-    ensures { Changes rows row model.copied }
+    requires { InTable row rows.old }
+    ensures { Changes rows.old rows.new row model.copied }
 {
     sets::copy(rows, row * ROW_SIZE + STORED_SET, row * ROW_SIZE + RUN_SET);
 }
 
 // How many parses a row found.
 pub fn parse_count(rows: &[u32], row: usize) -> usize
-    requires { InTable row rows }
-    ensures { result ≡ length (row_in rows row).set }
+    requires { InTable row rows.now }
+    ensures { result ≡ length (row_in rows.now row).set }
 {
     sets::size(rows, row * ROW_SIZE + STORED_SET)
 }
 
 // The i-th parse that a row found, and a parse of zeros past the last.
 pub fn nth_parse(rows: &[u32], row: usize, i: usize) -> Parse
-    requires { InTable row rows }
-    ensures { parse_of result ≡ get_or (row_in rows row).set i absent_parse }
+    requires { InTable row rows.now }
+    ensures { parse_of result ≡ get_or (row_in rows.now row).set i absent_parse }
 {
     sets::nth_parse(rows, row * ROW_SIZE + STORED_SET, i)
 }
 
 // A parse joins the run's set; false for a 65th.
 pub fn add_run(rows: &mut [u32], row: usize, p: Parse) -> bool
-    requires { InTable row rows }
-    ensures { RunAdded result (table_at rows) (table_after rows) row (parse_of p) }
+    requires { InTable row rows.old }
+    ensures { RunAdded result (table_at rows.old) (table_after rows.new) row (parse_of p) }
 {
     sets::add(rows, row * ROW_SIZE + RUN_SET, p)
 }
 
 // The run added nothing to the row's set.
 fn run_in_set(rows: &[u32], row: usize) -> bool
-    requires { InTable row rows }
-    ensures { result ≡ all_in (row_in rows row).set (row_in rows row).run }
+    requires { InTable row rows.now }
+    ensures { result ≡ all_in (row_in rows.now row).set (row_in rows.now row).run }
 {
     sets::all_in(rows, row * ROW_SIZE + STORED_SET, row * ROW_SIZE + RUN_SET)
 }
 
 // The run's set joins the row's set; false for a 65th.
 fn add_run_to_set(rows: &mut [u32], row: usize) -> bool
-    requires { InTable row rows }
-    ensures { RunJoined result (table_at rows) (table_after rows) row }
+    requires { InTable row rows.old }
+    ensures { RunJoined result (table_at rows.old) (table_after rows.new) row }
 {
     sets::add_all(rows, row * ROW_SIZE + STORED_SET, row * ROW_SIZE + RUN_SET)
 }
@@ -253,8 +253,8 @@ fn add_run_to_set(rows: &mut [u32], row: usize) -> bool
 // ---- Open calls
 // The call of a row is opened.
 pub fn open_call(rows: &mut [u32], row: usize, binder: u32, nonterminal: u32, at: u32)
-    requires { InTable row rows }
-    ensures { Changes rows row (model.opened binder nonterminal at) }
+    requires { InTable row rows.old }
+    ensures { Changes rows.old rows.new row (model.opened binder nonterminal at) }
 {
     put(rows, row, LIVE, 1);
     put(rows, row, NONTERMINAL, nonterminal);
@@ -266,8 +266,8 @@ pub fn open_call(rows: &mut [u32], row: usize, binder: u32, nonterminal: u32, at
 
 // A name is declared at a row's level, which is no call's.
 pub fn declare(rows: &mut [u32], row: usize, kind: u32, place: u32, size: u32)
-    requires { InTable row rows }
-    ensures { Changes rows row (model.declared kind place size) }
+    requires { InTable row rows.old }
+    ensures { Changes rows.old rows.new row (model.declared kind place size) }
 {
     put(rows, row, LIVE, 0);
     put(rows, row, KIND, kind);
@@ -277,16 +277,16 @@ pub fn declare(rows: &mut [u32], row: usize, kind: u32, place: u32, size: u32)
 
 // The call of a row is over.
 pub fn end_call(rows: &mut [u32], row: usize)
-    requires { InTable row rows }
-    ensures { Changes rows row model.ended }
+    requires { InTable row rows.old }
+    ensures { Changes rows.old rows.new row model.ended }
 {
     put(rows, row, LIVE, 0);
 }
 
 // The call of a row takes a variant.
 pub fn take_variant(rows: &mut [u32], row: usize, level: u32, associativity: Associativity)
-    requires { InTable row rows }
-    ensures { Changes rows row (model.with_variant level (associativity_number associativity)) }
+    requires { InTable row rows.old }
+    ensures { Changes rows.old rows.new row (model.with_variant level (associativity_number associativity)) }
 {
     put(rows, row, LEVEL, level);
     put(
@@ -299,16 +299,16 @@ pub fn take_variant(rows: &mut [u32], row: usize, level: u32, associativity: Ass
 
 // The current child of a row's call begins at a place.
 pub fn put_child(rows: &mut [u32], row: usize, child: u32)
-    requires { InTable row rows }
-    ensures { Changes rows row (model.with_child child) }
+    requires { InTable row rows.old }
+    ensures { Changes rows.old rows.new row (model.with_child child) }
 {
     put(rows, row, CHILD, child);
 }
 
 // The stored parses of a row's call were asked for.
 fn put_asked(rows: &mut [u32], row: usize)
-    requires { InTable row rows }
-    ensures { Changes rows row model.was_asked }
+    requires { InTable row rows.old }
+    ensures { Changes rows.old rows.new row model.was_asked }
 {
     put(rows, row, ASKED, 1);
 }
@@ -327,8 +327,8 @@ fn minimum_of(associativity: Associativity, level: u32) -> usize
 
 // The call of a row is open and of the nonterminal, and its current child begins at the place.
 fn governs(rows: &[u32], row: usize, nonterminal: u32, at: u32) -> bool
-    requires { InTable row rows }
-    ensures { result ≡ model.governs (row_in rows row) nonterminal at }
+    requires { InTable row rows.now }
+    ensures { result ≡ model.governs (row_in rows.now row) nonterminal at }
 {
     if get(rows, row, LIVE) != 1 {
         return false;
@@ -341,8 +341,8 @@ fn governs(rows: &[u32], row: usize, nonterminal: u32, at: u32) -> bool
 
 // The newest row above a row that governs, up to where a scope begins, or 201.
 fn newest_governor(rows: &[u32], row: usize, nonterminal: u32, at: u32) -> usize
-    requires { InTable row rows }
-    ensures { result ≡ model.newest_governor (table_at rows) nonterminal at (most_nesting - row) (suc row) }
+    requires { InTable row rows.now }
+    ensures { result ≡ model.newest_governor (table_at rows.now) nonterminal at (most_nesting - row) (suc row) }
 {
     let mut above = row + 1;
     while above <= MOST_NESTING {
@@ -359,8 +359,8 @@ fn newest_governor(rows: &[u32], row: usize, nonterminal: u32, at: u32) -> usize
 
 // The governor of a use of the nonterminal at a place, in a row and with a binder.
 pub fn governor_of(rows: &[u32], row: usize, binder: u32, nonterminal: u32, at: u32) -> Governor
-    requires { InTable row rows }
-    ensures { governor_in result ≡ model.governor_of (table_at rows) row binder nonterminal at }
+    requires { InTable row rows.now }
+    ensures { governor_in result ≡ model.governor_of (table_at rows.now) row binder nonterminal at }
 {
     if is_body(binder) {
         return Governor::Minimum(0);
@@ -378,8 +378,8 @@ pub fn governor_of(rows: &[u32], row: usize, binder: u32, nonterminal: u32, at: 
 
 // The set of row `into` becomes what the use of row `from` keeps of that row's set.
 fn put_kept(rows: &mut [u32], into: usize, from: usize)
-    requires { Below into from rows }
-    ensures { Changes rows into (with_set (kept (use_at (row_in rows from)) (row_in rows from).set)) }
+    requires { Below into from rows.old }
+    ensures { Changes rows.old rows.new into (with_set (kept (use_at (row_in rows.old from)) (row_in rows.old from).set)) }
 {
     let associativity = sets::associativity_of(get(rows, from, ASSOCIATIVITY));
     let level = get(rows, from, LEVEL);
@@ -394,8 +394,8 @@ fn put_kept(rows: &mut [u32], into: usize, from: usize)
 
 // What a row found are the parses that its governor has stored, filtered; the governor is asked.
 pub fn take_stored(rows: &mut [u32], row: usize, governor: usize)
-    requires { Below row governor rows }
-    ensures { table_after rows ≡ with_stored_in (table_at rows) row governor }
+    requires { Below row governor rows.old }
+    ensures { table_after rows.new ≡ with_stored_in (table_at rows.old) row governor }
 {
     put_asked(rows, governor);
     put_kept(rows, row, governor);
@@ -406,8 +406,8 @@ pub fn take_stored(rows: &mut [u32], row: usize, governor: usize)
 // After the first run: its set is the call's. "If a first run found parses and asked for the call's stored ones, .. it
 // is run again"
 pub fn settle_first(rows: &mut [u32], row: usize) -> Settled
-    requires { InTable row rows }
-    ensures { SettledFirst result (table_at rows) (table_after rows) row }
+    requires { InTable row rows.old }
+    ensures { SettledFirst result (table_at rows.old) (table_after rows.new) row }
 {
     copy_run(rows, row);
     if parse_count(rows, row) == 0 {
@@ -423,8 +423,8 @@ pub fn settle_first(rows: &mut [u32], row: usize) -> Settled
 
 // After a further run: "until a run fails or adds nothing".
 pub fn settle(rows: &mut [u32], row: usize) -> Settled
-    requires { InTable row rows }
-    ensures { SettledNext result (table_at rows) (table_after rows) row }
+    requires { InTable row rows.old }
+    ensures { SettledNext result (table_at rows.old) (table_after rows.new) row }
 {
     if run_in_set(rows, row) {
         end_call(rows, row);
@@ -439,7 +439,7 @@ pub fn settle(rows: &mut [u32], row: usize) -> Settled
 
 // ---- Claims
 fn is_variable(book: &[u8], index: &[usize], nonterminal: usize) -> bool
-    ensures { result ≡ has_mark (book_at book index) 1 nonterminal }
+    ensures { result ≡ has_mark (book_at book.now index.now) 1 nonterminal }
 {
     let called = book::nonterminal(book, index, nonterminal);
     let mark = called.mark;
@@ -453,8 +453,8 @@ fn is_variable(book: &[u8], index: &[usize], nonterminal: usize) -> bool
 
 // The call of a row is open and of mark 1, and begins at the place.
 fn claims(book: &[u8], index: &[usize], rows: &[u32], row: usize, at: u32) -> bool
-    requires { InTable row rows }
-    ensures { result ≡ model.claims (book_at book index) (row_in rows row) at }
+    requires { InTable row rows.now }
+    ensures { result ≡ model.claims (book_at book.now index.now) (row_in rows.now row) at }
 {
     if get(rows, row, LIVE) != 1 {
         return false;
@@ -467,8 +467,8 @@ fn claims(book: &[u8], index: &[usize], rows: &[u32], row: usize, at: u32) -> bo
 
 // A call above a row claims, up to where a scope begins.
 fn any_claims(book: &[u8], index: &[usize], rows: &[u32], row: usize, at: u32) -> bool
-    requires { InTable row rows }
-    ensures { result ≡ model.any_claims (book_at book index) (table_at rows) at (most_nesting - row) (suc row) }
+    requires { InTable row rows.now }
+    ensures { result ≡ model.any_claims (book_at book.now index.now) (table_at rows.now) at (most_nesting - row) (suc row) }
 {
     let mut above = row + 1;
     while above <= MOST_NESTING {
@@ -492,8 +492,8 @@ pub fn claims_use(
     binder: u32,
     at: u32,
 ) -> bool
-    requires { InTable row rows }
-    ensures { result ≡ model.claims_use (book_at book index) (table_at rows) row binder at }
+    requires { InTable row rows.now }
+    ensures { result ≡ model.claims_use (book_at book.now index.now) (table_at rows.now) row binder at }
 {
     if is_body(binder) {
         return false;

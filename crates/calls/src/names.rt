@@ -3,7 +3,6 @@
 // "An equal name declared later wins": the innermost binder is searched first, and in it the last name, which stands in
 // the nearest row. So the first equal name that is found is the one.
 ghost use Rattle.std.specs.Prelude.{◌≡◌, List, [], ℕ, ◌+◌, ◌-◌, ◌≤◌, leb};
-ghost use Rattle.characters.specs.Slices.{at_entry};
 ghost use Rattle.characters.specs.Spelling.{part_of};
 ghost use Rattle.semantics.specs.Numbers.{most_nesting, most_declared};
 ghost use Rattle.semantics.specs.Tokens.{variable_in, is_some};
@@ -41,8 +40,8 @@ fn is_name(declared: Declared) -> bool
 
 // A number of a row, or 0 behind the table.
 fn number(rows: &[u32], row: usize, column: usize) -> u32
-    requires { ColumnIn column rows }
-    ensures { result ≡ field_of column (row_in rows row) }
+    requires { ColumnIn column rows.now }
+    ensures { result ≡ field_of column (row_in rows.now row) }
 {
     if row <= MOST_NESTING {
         get(rows, row, column)
@@ -53,8 +52,8 @@ fn number(rows: &[u32], row: usize, column: usize) -> u32
 
 // The spelling of the name that is declared at a row's level, a part of the text.
 fn spelling<'a>(text: &'a [u8], rows: &[u32], row: usize) -> &'a [u8]
-    requires { HasTable rows }
-    ensures { result.now ≡ (entry_at (at_entry text) (row_in rows row)).spelling }
+    requires { HasTable rows.now }
+    ensures { result.now ≡ (entry_at text.now (row_in rows.now row)).spelling }
 {
     let place = number(rows, row, PLACE);
     let size = number(rows, row, SIZE);
@@ -63,8 +62,8 @@ fn spelling<'a>(text: &'a [u8], rows: &[u32], row: usize) -> &'a [u8]
 
 // The binder of a row's call, if that is open.
 fn open_binder(rows: &[u32], row: usize) -> u32
-    requires { HasTable rows }
-    ensures { result ≡ open_binder (row_in rows row) }
+    requires { HasTable rows.now }
+    ensures { result ≡ open_binder (row_in rows.now row) }
 {
     if number(rows, row, LIVE) == 1 {
         number(rows, row, BINDER)
@@ -107,9 +106,9 @@ fn own_name(
     start: usize,
     size: usize,
 ) -> Declared
-    requires { InTable row rows }
-    ensures { declared_of result ≡ own_name (at_entry text) (table_at rows) row binder depth
-        (part_of (at_entry text) start size) }
+    requires { InTable row rows.now }
+    ensures { declared_of result ≡ own_name text.now (table_at rows.now) row binder depth
+        (part_of text.now start size) }
 {
     let wanted = part(text, start, size);
     let count = name_count(binder);
@@ -139,9 +138,9 @@ pub fn declared_at(
     start: usize,
     size: usize,
 ) -> Declared
-    requires { InTable row rows }
-    ensures { declared_of result ≡ variable_in [] 0 (scope_at (at_entry text) (table_at rows) row binder)
-        (part_of (at_entry text) start size) }
+    requires { InTable row rows.now }
+    ensures { declared_of result ≡ variable_in [] 0 (scope_at text.now (table_at rows.now) row binder)
+        (part_of text.now start size) }
 {
     if binder == OUTSIDE {
         return Declared::Nothing;
@@ -163,8 +162,8 @@ pub fn declared_at(
 
 // How many names are declared in the scope of a use in a row and with a binder.
 fn declared_count(rows: &[u32], row: usize, binder: u32) -> usize
-    requires { InTable row rows }
-    ensures { (text : List ℕ) → result ≡ declared_names (scope_at text (table_at rows) row binder) }
+    requires { InTable row rows.now }
+    ensures { (text : List ℕ) → result ≡ declared_names (scope_at text (table_at rows.now) row binder) }
 {
     if binder == OUTSIDE {
         return 0;
@@ -182,9 +181,9 @@ fn declared_count(rows: &[u32], row: usize, binder: u32) -> usize
 
 // The names declared around a row's call leave room for so many more.
 pub fn has_room(rows: &[u32], row: usize, names: u32) -> bool
-    requires { InTable row rows }
+    requires { InTable row rows.now }
     ensures { (text : List ℕ) →
-        result ≡ leb (names + declared_names (scope_in text (table_at rows) row)) most_declared }
+        result ≡ leb (names + declared_names (scope_in text (table_at rows.now) row)) most_declared }
 {
     if MOST_DECLARED < names {
         return false;

@@ -1,6 +1,5 @@
 // The three numbers of a cell by its form, whether two cells are equal, and the hash of a cell.
 ghost use Rattle.std.specs.Prelude.{◌≡◌, ◌<◌, ◌/◌, ◌%◌};
-ghost use Rattle.characters.specs.Slices.{at_entry};
 ghost use Rattle.semantics.specs.Numbers.{half};
 ghost use Rattle.semantics.specs.Cells.{Cell, numbers_of};
 ghost use Rattle.cells.specs.Store.{hashes, listed, same_in, mixed, hash_from, hash_of};
@@ -144,7 +143,7 @@ pub fn declared(depth: DebruijnIndex, index: VarIndex) -> CellNumbers
 
 // Names are equal by spelling, other cells by their numbers.
 pub fn same_cell(text: &[u8], c: CellNumbers, d: CellNumbers) -> bool
-    ensures { result ≡ same_in (at_entry text) c d }
+    ensures { result ≡ same_in text.now c d }
 {
     if c.form != d.form {
         return false;
@@ -175,7 +174,7 @@ fn mix(hash: usize, x: usize) -> usize
 
 fn mix_bytes(first: usize, bytes: &[u8]) -> usize
     requires { first < hashes }
-    ensures { (result ≡ hash_from first (at_entry bytes)) × (result < hashes) }
+    ensures { (result ≡ hash_from first bytes.now) × (result < hashes) }
 {
     let mut hash = first;
     let mut i = 0;
@@ -188,7 +187,7 @@ fn mix_bytes(first: usize, bytes: &[u8]) -> usize
 
 // A name's hash is one of its spelling, not of its place.
 pub fn hash(text: &[u8], cell: CellNumbers) -> usize
-    ensures { (result ≡ hash_of (at_entry text) cell) × (result < hashes) }
+    ensures { (result ≡ hash_of text.now cell) × (result < hashes) }
 {
     if cell.form == NAME_FORM {
         return mix_bytes(

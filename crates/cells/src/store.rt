@@ -1,7 +1,6 @@
 // The cells of a run in a lent slice of numbers, with an index of buckets: the cells of one hash, linked from the
 // newest on.
 ghost use Rattle.std.specs.Prelude.{◌≡◌, List, [], ℕ, ◌≤◌, ◌<◌, length, get_or, set};
-ghost use Rattle.characters.specs.Slices.{at_entry, at_exit};
 ghost use Rattle.cells.specs.Store.{hashes, numbers_at, find_in, pushed, Makes, Cleared};
 
 use crate::numbers::{CellNumbers, HASHES, hash, same_cell};
@@ -31,14 +30,14 @@ pub enum Made {
 
 // The number at i, and 0 past the end.
 fn get(store: &[u32], i: usize) -> u32
-    ensures { result ≡ get_or (at_entry store) i 0 }
+    ensures { result ≡ get_or store.now i 0 }
 {
     if i < store.len() { store[i] } else { 0 }
 }
 
 // Writes a number; past the end it does nothing.
 fn put(store: &mut [u32], i: usize, x: u32)
-    ensures { at_exit store ≡ set (at_entry store) i x }
+    ensures { store.new ≡ set store.old i x }
 {
     if i < store.len() {
         store[i] = x;
@@ -48,7 +47,7 @@ fn put(store: &mut [u32], i: usize, x: u32)
 // Cell n.
 fn cell_at(store: &[u32], n: u32) -> CellNumbers
     requires { 0 < n }
-    ensures { result ≡ numbers_at (at_entry store) n }
+    ensures { result ≡ numbers_at store.now n }
 {
     let at = n as usize * CELL_SIZE - CELL_SIZE;
     // Where all three are there, as in a run they are, one test tells.
@@ -68,7 +67,7 @@ fn cell_at(store: &[u32], n: u32) -> CellNumbers
 
 // The cell that is equal to c in the bucket from `first` on, or 0. A bucket has at most as many cells as there are.
 fn find(text: &[u8], store: &[u32], c: CellNumbers, count: u32, first: u32) -> u32
-    ensures { result ≡ find_in (at_entry text) (at_entry store) c count first }
+    ensures { result ≡ find_in text.now store.now c count first }
 {
     let mut left = count;
     let mut n = first;
@@ -88,7 +87,7 @@ fn find(text: &[u8], store: &[u32], c: CellNumbers, count: u32, first: u32) -> u
 // Cell n is c, the newest of its hash.
 fn push(store: &mut [u32], c: CellNumbers, n: u32, hash: usize)
     requires { (0 < n) × (hash < hashes) }
-    ensures { at_exit store ≡ pushed (at_entry store) c n hash }
+    ensures { store.new ≡ pushed store.old c n hash }
 {
     let at = n as usize * CELL_SIZE - CELL_SIZE;
     let older = get(store, HEADS + hash);
@@ -101,7 +100,7 @@ fn push(store: &mut [u32], c: CellNumbers, n: u32, hash: usize)
 
 // The equal cell, or one more.
 pub fn make(text: &[u8], store: &mut [u32], count: u32, c: CellNumbers) -> Made
-    ensures { Makes (at_entry text) (at_entry store) (at_exit store) count c result }
+    ensures { Makes text.now store.old store.new count c result }
 {
     let h = hash(text, c);
     let first = get(store, HEADS + h);
@@ -123,7 +122,7 @@ pub fn make(text: &[u8], store: &mut [u32], count: u32, c: CellNumbers) -> Made
 
 // No cells, whatever the store held. A store that is too short for them is left as it is.
 pub fn clear(store: &mut [u32])
-    ensures { Cleared (at_entry store) (at_exit store) }
+    ensures { Cleared store.old store.new }
 {
     if store.len() < STORE_SIZE {
         return;

@@ -1,7 +1,6 @@
 // The class of each byte, read from one table. A class is known outside this crate through `class_of` and `is_of`
 // alone, so that nothing else depends on how the table is stored.
 ghost use Rattle.std.specs.Prelude.{◌≡◌, get_or};
-ghost use Rattle.characters.specs.Slices.{at_entry};
 ghost use Rattle.characters.specs.Classes.{class_of, class_number, is_of};
 ghost use Rattle.characters.specs.ClassLaws.{class_table};
 
@@ -84,7 +83,7 @@ pub fn is_of(byte: u8, class: Class) -> bool
 
 // The byte at a place, and 0 where the text has none: 0 is of class other, so nothing begins there.
 pub fn byte_at(text: &[u8], place: usize) -> u8
-    ensures { result ≡ get_or (at_entry text) place 0 }
+    ensures { result ≡ get_or text.now place 0 }
 {
     if place < text.len() { text[place] } else { 0 }
 }

@@ -1,6 +1,5 @@
 // What begins at a place: an identifier, a number, or neither. A token skips first, so callers ask at a skipped place.
 ghost use Rattle.std.specs.Prelude.{◌≡◌, ◌-◌};
-ghost use Rattle.characters.specs.Slices.{at_entry};
 ghost use Rattle.characters.specs.Lexemes.{identifier_at, number_at, decimal, number_of};
 
 use crate::classes::{Class, byte_at, is_of};
@@ -22,7 +21,7 @@ pub enum Number {
 }
 
 pub fn identifier_at(text: &[u8], place: usize) -> Identifier
-    ensures { result ≡ identifier_at (at_entry text) place }
+    ensures { result ≡ identifier_at text.now place }
 {
     if place < text.len() {
         if is_of(byte_at(text, place), Class::Letter) {
@@ -48,7 +47,7 @@ fn digit_value(digit: u8) -> u64
 
 // The number that digits spell, where their end is known. Once a value is too large, more digits only make it larger.
 fn number_of(digits: &[u8], end: usize) -> Number
-    ensures { result ≡ number_of (decimal 0 (at_entry digits)) end }
+    ensures { result ≡ number_of (decimal 0 digits.now) end }
 {
     let mut value: u64 = 0;
     let mut i = 0;
@@ -64,7 +63,7 @@ fn number_of(digits: &[u8], end: usize) -> Number
 }
 
 pub fn number_at(text: &[u8], place: usize) -> Number
-    ensures { result ≡ number_at (at_entry text) place }
+    ensures { result ≡ number_at text.now place }
 {
     let end = span_end(text, place, Span::Digits);
     if end == place {

@@ -1,7 +1,6 @@
 // Skipping whitespace and comments, by rounds: a round drops whitespace and then one comment, if `//` follows. `// a`
 // and a line feed may stand before another comment, so rounds are repeated until one drops nothing.
 ghost use Rattle.std.specs.Prelude.{◌≡◌};
-ghost use Rattle.characters.specs.Slices.{at_entry};
 ghost use Rattle.characters.specs.ClassLaws.{class_table};
 ghost use Rattle.characters.specs.Skipping.{belongs, span_end, comment_at, comment_end, round_end, skip_from};
 ghost use Rattle.characters.specs.declared.skipping.Span.{Span};
@@ -41,7 +40,7 @@ fn in_span(table: &[u64], byte: u8, span: Span) -> bool
 
 // Where the longest span at a place ends: at the place itself where the byte there doesn't belong, or none is there.
 pub fn span_end(text: &[u8], place: usize, span: Span) -> usize
-    ensures { result ≡ span_end span (at_entry text) place }
+    ensures { result ≡ span_end span text.now place }
 {
     let classes = class_table();
     let table: &[u64] = &classes;
@@ -58,7 +57,7 @@ pub fn span_end(text: &[u8], place: usize, span: Span) -> usize
 // Where whitespace at a place ends. Few places have any, and a byte above the space is none: for it the table isn't
 // read.
 fn spaces_end(text: &[u8], place: usize) -> usize
-    ensures { result ≡ span_end Span.Spaces (at_entry text) place }
+    ensures { result ≡ span_end Span.Spaces text.now place }
 {
     if b' ' < byte_at(text, place) {
         return place;
@@ -67,7 +66,7 @@ fn spaces_end(text: &[u8], place: usize) -> usize
 }
 
 fn comment_at(text: &[u8], place: usize) -> bool
-    ensures { result ≡ comment_at (at_entry text) place }
+    ensures { result ≡ comment_at text.now place }
 {
     if place < text.len() {
         if byte_at(text, place) == b'/' {
@@ -82,14 +81,14 @@ fn comment_at(text: &[u8], place: usize) -> bool
 
 // Behind the line feed that ends a comment, or the end of the text.
 fn comment_end(text: &[u8], place: usize) -> usize
-    ensures { result ≡ comment_end (at_entry text) place }
+    ensures { result ≡ comment_end text.now place }
 {
     let end = span_end(text, place, Span::Line);
     if end < text.len() { end + 1 } else { end }
 }
 
 fn skip_round(text: &[u8], place: usize) -> usize
-    ensures { result ≡ round_end (at_entry text) place }
+    ensures { result ≡ round_end text.now place }
 {
     let at = spaces_end(text, place);
     if comment_at(text, at) {
@@ -101,7 +100,7 @@ fn skip_round(text: &[u8], place: usize) -> usize
 
 // The place that skipping from a place leads to; a place beyond the end stays.
 pub fn skip(text: &[u8], place: usize) -> usize
-    ensures { result ≡ skip_from (at_entry text) place }
+    ensures { result ≡ skip_from text.now place }
 {
     let mut at = place;
     loop {

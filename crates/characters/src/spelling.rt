@@ -1,11 +1,10 @@
 // Parts of a text or of a book, and whether two of them are spelled alike.
 ghost use Rattle.std.specs.Prelude.{◌≡◌};
-ghost use Rattle.characters.specs.Slices.{at_entry};
 ghost use Rattle.characters.specs.Spelling.{part_of, same};
 
 // The part of `bytes` from `start` on that is `size` long, or as much of it as there is.
 pub fn part(bytes: &[u8], start: usize, size: usize) -> &[u8]
-    ensures { result.now ≡ part_of (at_entry bytes) start size }
+    ensures { result.now ≡ part_of bytes.now start size }
 {
     if bytes.len() <= start {
         return &bytes[..0];
@@ -18,7 +17,7 @@ pub fn part(bytes: &[u8], start: usize, size: usize) -> &[u8]
 }
 
 pub fn same_bytes(a: &[u8], b: &[u8]) -> bool
-    ensures { result ≡ same (at_entry a) (at_entry b) }
+    ensures { result ≡ same a.now b.now }
 {
     if a.len() != b.len() {
         return false;
@@ -43,8 +42,8 @@ pub fn same_spelling(
     right_size: usize,
 ) -> bool
     ensures { result ≡ same
-        (part_of (at_entry left) left_start left_size)
-        (part_of (at_entry right) right_start right_size) }
+        (part_of left.now left_start left_size)
+        (part_of right.now right_start right_size) }
 {
     same_bytes(
         part(left, left_start, left_size),

@@ -1,7 +1,6 @@
 // The furthest of a lent list of errors. Document 02 g: "The desk joins errors from several rules in whatever order
 // they are finished."
 ghost use Rattle.std.specs.Prelude.{◌≡◌, ◌+◌, ◌≤◌, length};
-ghost use Rattle.characters.specs.Slices.{at_entry};
 ghost use Rattle.errors.specs.Maps.{error_of};
 ghost use Rattle.errors.specs.Lists.{error_size, error_at, Joins};
 
@@ -21,7 +20,7 @@ pub enum Joined {
 
 fn error_at(numbers: &[u32], at: usize) -> Error
     requires { at + error_size ≤ length numbers.now }
-    ensures { error_of result ≡ error_at (at_entry numbers) at }
+    ensures { error_of result ≡ error_at numbers.now at }
 {
     Error {
         place: numbers[at],
@@ -32,7 +31,7 @@ fn error_at(numbers: &[u32], at: usize) -> Error
 
 // The errors are joined one after the other; in another order the same one would be left.
 pub fn join_list(numbers: &[u32]) -> Joined
-    ensures { Joins (at_entry numbers) result }
+    ensures { Joins numbers.now result }
 {
     let count = numbers.len() / ERROR_SIZE;
     if numbers.len() != ERROR_SIZE * count {

@@ -1,6 +1,6 @@
 -- What the functions for other languages promise that read and print, in the terms of the call and of the line.
 use Rattle.std.specs.Prelude.{◌≡◌, Bool, true, false, cond, ◌&&◌, ◌||◌, List, [], ◌++◌, ℕ, ◌*◌, ◌≤◌, ◌<◌, leb, eqb, length, get_or, set, drop}
-use Rattle.characters.specs.Slices.{Lent, at_entry, at_exit}
+use Rattle.characters.specs.Slices.{Slice}
 use Rattle.characters.specs.Classes.{between}
 use Rattle.book.specs.Book.{Entry}
 use Rattle.book.specs.Check.{check_book, Outcome}
@@ -29,34 +29,35 @@ storing a l =
     5 a.parses) 6 a.value
 
 -- ---- Reading
-abbrev pub Stays : Lent → Type 0
-Stays list = at_exit list ≡ at_entry list
+abbrev pub Stays : Slice → Slice → Type 0
+Stays list list' = list' ≡ list
 
 -- Fewer than seven places for the answer: nothing is touched. Else its first seven numbers with both lists are the
 -- expected ones, as the call promises it, and the numbers behind stay
-pub record AnswersInto (book text : Lent) (start : ℕ) (expected : Answered) (cells parses answer : Lent) : Type 0 where
-  pub few : length (at_entry answer) < answer_size → Stays cells × Stays parses × Stays answer
-  pub reads : answer_size ≤ length (at_entry answer) →
-      Reads (at_entry book) (at_entry text) start expected
-      (record { answer = answer_at (at_exit answer); cells = at_exit cells; parses = at_exit parses })
-  pub behind : drop answer_size (at_exit answer) ≡ drop answer_size (at_entry answer)
+pub record AnswersInto (book text : Slice) (start : ℕ) (expected : Answered)
+    (cells cells' parses parses' answer answer' : Slice) : Type 0 where
+  pub few : length answer < answer_size → Stays cells cells' × Stays parses parses' × Stays answer answer'
+  pub reads : answer_size ≤ length answer →
+      Reads book text start expected
+      (record { answer = answer_at answer'; cells = cells'; parses = parses' })
+  pub behind : drop answer_size answer' ≡ drop answer_size answer
 
 -- `midgebillon_read`: what is expected is what the documents say
-abbrev pub ReadInto : Lent → Lent → ℕ → ℕ → Lent → Lent → Lent → Type 0
-ReadInto book text start allowance cells parses answer =
+abbrev pub ReadInto : Slice → Slice → ℕ → ℕ → Slice → Slice → Slice → Slice → Slice → Slice → Type 0
+ReadInto book text start allowance cells cells' parses parses' answer answer' =
     AnswersInto book text start
-    (answer_of (at_entry cells) (at_entry parses) (at_entry book) (at_entry text) start allowance) cells parses answer
+    (answer_of cells parses book text start allowance) cells cells' parses parses' answer answer'
 
 -- `midgebillon_read_in`: the same where the working memory has its sizes, else refusal 1. Where nothing is touched, the
 -- working memory isn't, either; in any other call nothing is known of it at exit
-pub record ReadIntoWith (book text : Lent) (start allowance : ℕ)
-    (cells parses index store rows answer : Lent) : Type 0 where
+pub record ReadIntoWith (book text : Slice) (start allowance : ℕ)
+    (cells cells' parses parses' index index' store store' rows rows' answer answer' : Slice) : Type 0 where
   pub answers :
       AnswersInto book text start
-      (answer_with (at_entry index) (at_entry store) (at_entry rows) (at_entry cells) (at_entry parses) (at_entry book)
-      (at_entry text) start allowance)
-      cells parses answer
-  pub few : length (at_entry answer) < answer_size → Stays index × Stays store × Stays rows
+      (answer_with index store rows cells parses book
+      text start allowance)
+      cells cells' parses parses' answer answer'
+  pub few : length answer < answer_size → Stays index index' × Stays store store' × Stays rows rows'
 
 -- ---- Numbers that are an answer
 -- a refusal of the table of "The answer", or document 02's further limit

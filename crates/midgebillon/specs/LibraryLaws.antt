@@ -8,7 +8,7 @@ use Rattle.std.specs.Prelude.{◌≡◌, refl, Bool, true, false, cond, ◌&&◌
 use Rattle.std.proofs.Common.{sym, subst, ap, ◌∙◌, arith, le-leb, le-ltb, eqb-true, eq-eqb, ne_eqb}
 use Rattle.std.proofs.lemmas.Bool.{lt-leb, eqb-false}
 use Rattle.characters.specs.Cases.{by_test, clash}
-use Rattle.characters.specs.Slices.{Lent, at_entry, at_exit}
+use Rattle.characters.specs.Slices.{Slice}
 use Rattle.book.specs.Book.{Entry}
 use Rattle.book.specs.Check.{check_book, Outcome}
 use Rattle.book.specs.Index.{book_in, verdict, CheckedInto}
@@ -35,9 +35,9 @@ stored a (x ∷ y ∷ z ∷ t ∷ u ∷ []) h = absurd (omega arith)
 stored a (x ∷ y ∷ z ∷ t ∷ u ∷ v ∷ []) h = absurd (omega arith)
 stored a (x ∷ y ∷ z ∷ t ∷ u ∷ v ∷ w ∷ l) h = (refl, refl)
 
-module _ (book text : Lent) (start : ℕ) (expected : Answered) (cells parses answer : Lent) where
-  pub untouched : length (at_entry answer) < 7 → Stays cells → Stays parses → Stays answer →
-      AnswersInto book text start expected cells parses answer
+module _ (book text : Slice) (start : ℕ) (expected : Answered) (cells cells' parses parses' answer answer' : Slice) where
+  pub untouched : length answer < 7 → Stays cells cells' → Stays parses parses' → Stays answer answer' →
+      AnswersInto book text start expected cells cells' parses parses' answer answer'
   untouched h same_cells same_parses same_answer =
       record {
         few = λ k. (same_cells, same_parses, same_answer);
@@ -45,24 +45,25 @@ module _ (book text : Lent) (start : ℕ) (expected : Answered) (cells parses an
         behind = ap (λ (l : List ℕ). drop 7 l) same_answer;
       }
 
-  pub answers : (a : code.Answer) → 7 ≤ length (at_entry answer) →
-      Reads (at_entry book) (at_entry text) start expected (answered a (at_exit cells) (at_exit parses)) →
-      at_exit answer ≡ storing a (at_entry answer) → AnswersInto book text start expected cells parses answer
+  pub answers : (a : code.Answer) → 7 ≤ length answer →
+      Reads book text start expected (answered a cells' parses') →
+      answer' ≡ storing a answer → AnswersInto book text start expected cells cells' parses parses' answer answer'
   answers a h r e =
-      let at = stored a (at_entry answer) h in
+      let at = stored a answer h in
       record {
         few = λ k. absurd (omega (arith, h, k));
-        reads = λ k. subst (λ (x : Answer). Reads (at_entry book) (at_entry text) start expected
-            (record { answer = x; cells = at_exit cells; parses = at_exit parses }))
+        reads = λ k. subst (λ (x : Answer). Reads book text start expected
+            (record { answer = x; cells = cells'; parses = parses' }))
             (sym (ap (λ (l : List ℕ). answer_at l) e ∙ at.0)) r;
         behind = ap (λ (l : List ℕ). drop 7 l) e ∙ at.1;
       }
 
 -- with enough working memory what `midgebillon_read_in` promises is what `midgebillon_read` promises
-module _ (book text : Lent) (start allowance : ℕ) (cells parses index store rows answer : Lent) where
-  pub with_room : no_room (at_entry index) (at_entry store) (at_entry rows) ≡ false →
-      ReadIntoWith book text start allowance cells parses index store rows answer →
-      ReadInto book text start allowance cells parses answer
+module _ (book text : Slice) (start allowance : ℕ)
+    (cells cells' parses parses' index index' store store' rows rows' answer answer' : Slice) where
+  pub with_room : no_room index store rows ≡ false →
+      ReadIntoWith book text start allowance cells cells' parses parses' index index' store store' rows rows' answer answer' →
+      ReadInto book text start allowance cells cells' parses parses' answer answer'
   with_room room r = rw room at r.answers
 
 -- ---- Printing

@@ -1,6 +1,5 @@
 // The seven numbers of an answer in a lent list, and whether numbers are an answer.
 ghost use Rattle.std.specs.Prelude.{◌≡◌, ◌≤◌, length};
-ghost use Rattle.characters.specs.Slices.{at_entry, at_exit};
 ghost use Rattle.characters.specs.Classes.{between};
 ghost use Rattle.run.specs.Promise.{answer_in};
 ghost use Rattle.midgebillon.specs.Library.{answer_size, answer_at, storing, has_cell};
@@ -17,7 +16,7 @@ pub const ANSWER_SIZE: usize = 7;
 // The numbers of an answer, at the front of a lent list.
 pub fn put_answer(numbers: &mut [u32], a: Answer)
     requires { answer_size ≤ length numbers.old }
-    ensures { at_exit numbers ≡ storing a (at_entry numbers) }
+    ensures { numbers.new ≡ storing a numbers.old }
 {
     numbers[0] = a.refusal;
     numbers[1] = a.place;
@@ -31,7 +30,7 @@ pub fn put_answer(numbers: &mut [u32], a: Answer)
 // The answer that stands at the front of a list.
 pub fn answer_in(numbers: &[u32]) -> Answer
     requires { answer_size ≤ length numbers.now }
-    ensures { answer_in result ≡ answer_at (at_entry numbers) }
+    ensures { answer_in result ≡ answer_at numbers.now }
 {
     Answer {
         refusal: numbers[0],
@@ -55,7 +54,7 @@ fn is_between(low: u32, high: u32, n: u32) -> bool
 
 // Whether the list has all three numbers of a cell that a run can make.
 fn has_cell(cells: &[u32], n: u32) -> bool
-    ensures { result ≡ has_cell (at_entry cells) n }
+    ensures { result ≡ has_cell cells.now n }
 {
     if is_between(1, MOST_CELLS, n) {
         return CELL_SIZE * n as usize <= cells.len();
@@ -81,7 +80,7 @@ fn is_refusal(n: u32) -> bool
 
 // A value is one of an accepted book and has its cell; a refusal is one of the documents'.
 pub fn is_answer(verdict: Verdict, cells: &[u32], a: Answer) -> bool
-    ensures { result ≡ is_answer verdict (at_entry cells) (answer_in a) }
+    ensures { result ≡ is_answer verdict cells.now (answer_in a) }
 {
     if a.refusal != 0 {
         return is_refusal(a.refusal);

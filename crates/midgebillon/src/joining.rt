@@ -1,6 +1,5 @@
 // The furthest error of a list, for `midgebillon_furthest`.
 ghost use Rattle.std.specs.Prelude.{◌≡◌, ◌≤◌, length};
-ghost use Rattle.characters.specs.Slices.{at_entry, at_exit};
 ghost use Rattle.errors.specs.Lists.{error_size};
 ghost use Rattle.midgebillon.specs.Joining.{number_of, holding};
 
@@ -25,7 +24,7 @@ pub fn number_of(joined: Joined) -> u32
 // The numbers of the error, if there is one, at the front of a lent list.
 pub fn put_joined(out: &mut [u32], joined: Joined)
     requires { error_size ≤ length out.old }
-    ensures { at_exit out ≡ holding joined (at_entry out) }
+    ensures { out.new ≡ holding joined out.old }
 {
     match joined {
         Joined::At(e) => {

@@ -21,7 +21,6 @@
 mod answer;
 mod joining;
 
-ghost use Rattle.characters.specs.Slices.{at_entry, at_exit};
 ghost use Rattle.midgebillon.specs.Joining.{JoinsInto};
 ghost use Rattle.midgebillon.specs.Library.{ReadInto, ReadIntoWith, PrintsInto, line_for};
 
@@ -43,7 +42,7 @@ pub extern "C" fn midgebillon_read(
     parses: &mut [u32],
     answer: &mut [u32],
 )
-    ensures { ReadInto book text start allowance cells parses answer }
+    ensures { ReadInto book.now text.now start allowance cells.old cells.new parses.old parses.new answer.old answer.new }
 {
     if answer.len() < ANSWER_SIZE {
         return;
@@ -67,7 +66,7 @@ pub extern "C" fn midgebillon_read_in(
     rows: &mut [u32],
     answer: &mut [u32],
 )
-    ensures { ReadIntoWith book text start allowance cells parses index store rows answer }
+    ensures { ReadIntoWith book.now text.now start allowance cells.old cells.new parses.old parses.new index.old index.new store.old store.new rows.old rows.new answer.old answer.new }
 {
     if ANSWER_SIZE <= answer.len() {
         let a = read_in(
@@ -88,8 +87,8 @@ pub extern "C" fn midgebillon_print<'a>(
     out: &mut [u8],
 ) -> usize
     ensures { PrintsInto
-        (line_for (at_entry book) (at_entry text) (at_entry cells) (at_entry answer))
-        (at_entry out) (at_exit out) result }
+        (line_for book.now text.now cells.now answer.now)
+        out.old out.new result }
 {
     if answer.len() < ANSWER_SIZE {
         return 0;
@@ -108,7 +107,7 @@ pub extern "C" fn midgebillon_print<'a>(
 // not three times a number.
 #[unsafe(no_mangle)]
 pub extern "C" fn midgebillon_furthest(errors: &[u32], out: &mut [u32]) -> u32
-    ensures { JoinsInto (at_entry errors) (at_entry out) (at_exit out) result }
+    ensures { JoinsInto errors.now out.old out.new result }
 {
     if out.len() < ERROR_SIZE {
         return SHORT_LISTS;

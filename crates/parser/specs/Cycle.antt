@@ -79,18 +79,18 @@ both_sides_rows book text inner n c j rest next M x items s =
 -- ---- What the contracts ask
 -- the call of row n, which has its level of nesting
 abbrev pub CanRun : Slice → Slice → Slice → Slice → ℕ → Type 0
-CanRun book index text rows n = (n ≤ most_nesting) × (rows_size ≤ length rows.now) × Fitting book index text × (0 < n)
+CanRun book index text rows n = (n ≤ most_nesting) × (rows_size ≤ length rows) × Fitting book index text × (0 < n)
 
 -- its variants before this one met no limit
 abbrev pub CanTry : Slice → Slice → Slice → Slice → ℕ → code.Outcome → Type 0
 CanTry book index text rows n before =
-    (n ≤ most_nesting) × (rows_size ≤ length rows.now) × Fitting book index text × (0 < n) × (before.limit ≡ 0)
+    (n ≤ most_nesting) × (rows_size ≤ length rows) × Fitting book index text × (0 < n) × (before.limit ≡ 0)
 
 -- a path, with n levels of nesting left
 abbrev pub OnPath : Slice → Slice → Slice → Slice → ℕ → Progress → Type 0
 OnPath book index text rows n here =
-    (n ≤ most_nesting) × (rows_size ≤ length rows.now) × Fitting book index text ×
-    InRange (book_in book.now index.now) here × (n < here.call)
+    (n ≤ most_nesting) × (rows_size ≤ length rows) × Fitting book index text ×
+    InRange (book_in book index) here × (n < here.call)
 
 -- and with the names of an opening, each of which took a level
 abbrev pub OnNames : Slice → Slice → Slice → Slice → ℕ → Progress → Names → Type 0

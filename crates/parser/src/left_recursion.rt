@@ -27,8 +27,8 @@ fn rounds(
     minimum: usize,
     state: State,
 ) -> Outcome
-    requires { CanRun book index text rows row }
-    ensures { Does book index text store rows state result (runs_again row minimum) }
+    requires { CanRun book.now index.now text.now rows.old row }
+    ensures { Does book.now index.now text.now store.old store.new rows.old rows.new state result (runs_again row minimum) }
 {
     let mut s = state;
     let mut round = 0usize;
@@ -60,8 +60,8 @@ fn call(
     minimum: usize,
     state: State,
 ) -> Outcome
-    requires { CanRun book index text rows row }
-    ensures { Does book index text store rows state result (runs_call row binder nonterminal at minimum) }
+    requires { CanRun book.now index.now text.now rows.old row }
+    ensures { Does book.now index.now text.now store.old store.new rows.old rows.new state result (runs_call row binder nonterminal at minimum) }
 {
     calls::open_call(rows, row, binder, nonterminal, at);
     let o = one_run(book, index, text, store, rows, row, minimum, state);
@@ -88,8 +88,8 @@ pub fn enter(
     at: u32,
     state: State,
 ) -> Outcome
-    requires { Ready book index text rows row }
-    ensures { Does book index text store rows state result (enters row binder nonterminal at) }
+    requires { Ready book.now index.now text.now rows.old row }
+    ensures { Does book.now index.now text.now store.old store.new rows.old rows.new state result (enters row binder nonterminal at) }
 {
     let e = begin_use(
         book,

@@ -23,8 +23,8 @@ fn close(
     names: Names,
     state: State,
 ) -> Outcome
-    requires { OnNames book index text rows free here names }
-    ensures { Does book index text store rows state result (closes_names free here names) }
+    requires { OnNames book.now index.now text.now rows.old free here names }
+    ensures { Does book.now index.now text.now store.old store.new rows.old rows.new state result (closes_names free here names) }
 {
     let g = open_body(book, index, text, store, rows, here, names, state);
     let o = g.outcome;
@@ -70,8 +70,8 @@ fn declare(
     names: Names,
     state: State,
 ) -> Outcome
-    requires { OnNames book index text rows free here names }
-    ensures { Does book index text store rows state result (declares_one free here names) }
+    requires { OnNames book.now index.now text.now rows.old free here names }
+    ensures { Does book.now index.now text.now store.old store.new rows.old rows.new state result (declares_one free here names) }
 {
     let spent = spend(state);
     if spent.limit != 0 {
@@ -121,8 +121,8 @@ pub fn choose(
     names: Names,
     state: State,
 ) -> Outcome
-    requires { OnNames book index text rows free here names }
-    ensures { Does book index text store rows state result (chooses_names free here names) }
+    requires { OnNames book.now index.now text.now rows.old free here names }
+    ensures { Does book.now index.now text.now store.old store.new rows.old rows.new state result (chooses_names free here names) }
 {
     let spent = spend(state);
     if spent.limit != 0 {

@@ -34,8 +34,8 @@ fn variant(
     j: u32,
     before: Outcome,
 ) -> Outcome
-    requires { CanTry book index text rows row before }
-    ensures { Does book index text store rows before.state result (tries row minimum j before) }
+    requires { CanTry book.now index.now text.now rows.old row before }
+    ensures { Does book.now index.now text.now store.old store.new rows.old rows.new before.state result (tries row minimum j before) }
 {
     let variant = book::variant(book, index, j as usize);
     if variant.level < minimum {
@@ -78,8 +78,8 @@ pub fn one_run(
     minimum: usize,
     state: State,
 ) -> Outcome
-    requires { CanRun book index text rows row }
-    ensures { Does book index text store rows state result (runs_once row minimum) }
+    requires { CanRun book.now index.now text.now rows.old row }
+    ensures { Does book.now index.now text.now store.old store.new rows.old rows.new state result (runs_once row minimum) }
 {
     let nonterminal = calls::nonterminal_of(rows, row);
     calls::clear_run(rows, row);
@@ -113,8 +113,8 @@ fn descend(
     nonterminal: u32,
     state: State,
 ) -> Outcome
-    requires { OnPath book index text rows free here }
-    ensures { Does book index text store rows state result (descends free here next nonterminal) }
+    requires { OnPath book.now index.now text.now rows.old free here }
+    ensures { Does book.now index.now text.now store.old store.new rows.old rows.new state result (descends free here next nonterminal) }
 {
     let binder = calls::inherited_binder(rows, here.call);
     let at = begin_child(text, rows, here);
@@ -146,8 +146,8 @@ pub fn follow(
     next: Next,
     child: Outcome,
 ) -> Outcome
-    requires { OnPath book index text rows free here }
-    ensures { Continues book index text store rows child result (follows_each free here next) }
+    requires { OnPath book.now index.now text.now rows.old free here }
+    ensures { Continues book.now index.now text.now store.old store.new rows.old rows.new child result (follows_each free here next) }
 {
     if !goes_on(child) {
         return child;
@@ -199,8 +199,8 @@ fn choice(
     nonterminal: u32,
     state: State,
 ) -> Outcome
-    requires { OnPath book index text rows free here }
-    ensures { Does book index text store rows state result (chooses free here next nonterminal) }
+    requires { OnPath book.now index.now text.now rows.old free here }
+    ensures { Does book.now index.now text.now store.old store.new rows.old rows.new state result (chooses free here next nonterminal) }
 {
     let f = first_side(book, index, text, store, here, next, state);
     let there = Progress {
@@ -255,8 +255,8 @@ fn steps(
     first: Doing,
     begun: Outcome,
 ) -> Outcome
-    requires { OnPath book index text rows free from }
-    ensures { Continues book index text store rows begun result (proceeds free from first) }
+    requires { OnPath book.now index.now text.now rows.old free from }
+    ensures { Continues book.now index.now text.now store.old store.new rows.old rows.new begun result (proceeds free from first) }
 {
     // Four numbers, and not a copy of the struct: that would be read in larger parts than it was written in, and wait.
     // The struct is made where it is handed on, so that a step that calls nothing stores none.

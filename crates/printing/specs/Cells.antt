@@ -1,6 +1,6 @@
 -- What is printed of a cell, by its number, as the code goes: from the cell to those that it refers to.
 use Rattle.std.specs.Prelude.{◌≡◌, Bool, true, false, cond, ◌||◌, List, [], ◌∷◌, ℕ, ◌+◌, ◌-◌, ◌*◌, ◌<◌, ltb, eqb, length, get_or, drop}
-use Rattle.characters.specs.Slices.{Lent, at_entry}
+use Rattle.characters.specs.Slices.{Slice}
 use Rattle.characters.specs.Spelling.{part_of}
 use Rattle.book.specs.Book.{Entry, nth_entry}
 use Rattle.book.specs.Index.{book_in}
@@ -10,8 +10,8 @@ use Rattle.cells.specs.declared.numbers.CellNumbers.{CellNumbers}
 use Rattle.printing.specs.Printing.{space, dollar, hyphen, decimal, declared_bytes, printed, spaced}
 
 -- the names of the book that an index gives
-abbrev pub names_in : Lent → Lent → List Entry
-names_in book index = (book_in (at_entry book) (at_entry index)).names
+abbrev pub names_in : Slice → Slice → List Entry
+names_in book index = (book_in book index).names
 
 -- cell n of a list of numbers, and absent where there is none
 abbrev pub cell_in : List ℕ → ℕ → Cell

@@ -1,7 +1,7 @@
 -- Bytes of the line, laid into a lent slice one after the other. This is no part of what document 01 says: the
 -- functions that print a part of the line say by `Lays` what they lay, and LayingLaws says what is then in the slice.
 use Rattle.std.specs.Prelude.{◌≡◌, Bool, cond, not, ◌&&◌, List, [], ◌∷◌, ℕ, ◌+◌, ◌-◌, leb, ltb, length, set}
-use Rattle.characters.specs.Slices.{Lent, at_entry, at_exit}
+use Rattle.characters.specs.Slices.{Slice}
 use Rattle.printing.specs.declared.laying.Laid.{Laid}
 
 -- how far the line has come, and the slice
@@ -26,5 +26,5 @@ full at out = not (ltb 0 at.skip) && leb (length out) at.size
 pub record LaysIn (at : Laid) (out bytes out' : List ℕ) (at' : Laid) : Type 0 where
   pub is : ◌≡◌ {A = Filling} (at', out') (laid (at, out) bytes)
 
-abbrev pub Lays : Laid → Lent → List ℕ → Laid → Type 0
-Lays at out bytes at' = LaysIn at (at_entry out) bytes (at_exit out) at'
+abbrev pub Lays : Laid → Slice → Slice → List ℕ → Laid → Type 0
+Lays at out out' bytes at' = LaysIn at out bytes out' at'

@@ -1,6 +1,6 @@
 -- What the public functions answer.
 use Rattle.std.specs.Prelude.{◌≡◌, cond, List, ◌++◌, ℕ, leb, length, drop}
-use Rattle.characters.specs.Slices.{Lent, at_entry}
+use Rattle.characters.specs.Slices.{Slice}
 use Rattle.characters.specs.Spelling.{part_of}
 use Rattle.run.specs.Promise.{answer_in}
 use Rattle.printing.specs.Printing.{line_bytes}
@@ -9,8 +9,8 @@ use Rattle.run.specs.declared.reader.Answer.{Answer}
 use Rattle.printing.specs.declared.line.Length.{Length}
 
 -- the line, by the code's parameters
-abbrev pub line_in : Lent → Lent → Lent → Lent → Answer → List ℕ
-line_in book index text cells a = line_bytes (names_in book index) (at_entry text) (at_entry cells) (answer_in a)
+abbrev pub line_in : Slice → Slice → Slice → Slice → Answer → List ℕ
+line_in book index text cells a = line_bytes (names_in book index) text cells (answer_in a)
 
 abbrev pub length_within : ℕ → List ℕ → Length
 length_within limit line = cond (leb (length line) limit) (Length.Bytes (length line)) Length.Longer

@@ -1,6 +1,5 @@
 // Cells by their numbers, and the spelling that a cell names.
 ghost use Rattle.std.specs.Prelude.{◌≡◌};
-ghost use Rattle.characters.specs.Slices.{at_entry};
 ghost use Rattle.semantics.specs.Cells.{cell_of};
 ghost use Rattle.printing.specs.Cells.{names_in, CellRead, older_than, spelling_of};
 
@@ -10,7 +9,7 @@ use characters::part;
 
 // Cell n, and absent where there is none.
 pub fn cell_at(cells: &[u32], n: u32) -> CellNumbers
-    ensures { CellRead (at_entry cells) n result }
+    ensures { CellRead cells.now n result }
 {
     if n == 0 {
         return absent();
@@ -36,7 +35,7 @@ pub fn older(n: u32, cell: u32) -> u32
 // The part of the text, or of the book, that a name or a variable is spelled by; of any other cell, a declared variable
 // among them, nothing.
 pub fn spelling<'a>(book: &'a [u8], index: &[usize], text: &'a [u8], cell: CellNumbers) -> &'a [u8]
-    ensures { result.now ≡ spelling_of (names_in book index) (at_entry text)
+    ensures { result.now ≡ spelling_of (names_in book.now index.now) text.now
         (cell_of cell.form cell.a cell.b) }
 {
     if cell.form == NAME_FORM {

@@ -2,7 +2,6 @@
 // past the slice dropped. What is skipped is counted down and what is stored is counted up, so that no count gets past
 // the numbers that the caller gave, and no sum can wrap.
 ghost use Rattle.std.specs.Prelude.{◌≡◌, [], ◌∷◌};
-ghost use Rattle.characters.specs.Slices.{at_entry};
 ghost use Rattle.printing.specs.Printing.{decimal};
 ghost use Rattle.printing.specs.Laying.{full, Lays};
 
@@ -17,7 +16,7 @@ pub struct Laid {
 
 // Whether no byte that comes is skipped or stored.
 pub fn is_full(out: &[u8], at: Laid) -> bool
-    ensures { result ≡ full at (at_entry out) }
+    ensures { result ≡ full at out.now }
 {
     if 0 < at.skip {
         return false;
@@ -26,7 +25,7 @@ pub fn is_full(out: &[u8], at: Laid) -> bool
 }
 
 pub fn byte(out: &mut [u8], at: Laid, byte: u8) -> Laid
-    ensures { Lays at out (byte ∷ []) result }
+    ensures { Lays at out.old out.new (byte ∷ []) result }
 {
     if 0 < at.skip {
         return Laid {
@@ -46,7 +45,7 @@ pub fn byte(out: &mut [u8], at: Laid, byte: u8) -> Laid
 }
 
 pub fn bytes(out: &mut [u8], at: Laid, bytes: &[u8]) -> Laid
-    ensures { Lays at out (at_entry bytes) result }
+    ensures { Lays at out.old out.new bytes.now result }
 {
     let mut next = at;
     let mut i = 0;
@@ -62,7 +61,7 @@ const ZERO: u64 = 48;
 
 // A number, in decimal.
 pub fn number(out: &mut [u8], at: Laid, n: u64) -> Laid
-    ensures { Lays at out (decimal n) result }
+    ensures { Lays at out.old out.new (decimal n) result }
 {
     let last = (ZERO + n % 10) as u8;
     if n < 10 {

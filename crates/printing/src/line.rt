@@ -1,6 +1,5 @@
 // The line for an answer.
 ghost use Rattle.std.specs.Prelude.{◌≡◌, ◌++◌, take};
-ghost use Rattle.characters.specs.Slices.{at_entry, at_exit};
 ghost use Rattle.semantics.specs.Numbers.{cells_size};
 ghost use Rattle.printing.specs.Printing.{decimal, line_of, column_of, has_line, refused_line};
 ghost use Rattle.printing.specs.Laying.{Lays};
@@ -22,7 +21,7 @@ pub enum Length {
 
 // The numbers of the cells that a run can make.
 fn cell_numbers(cells: &[u32]) -> &[u32]
-    ensures { result.now ≡ take cells_size (at_entry cells) }
+    ensures { result.now ≡ take cells_size cells.now }
 {
     if cells.len() < CELLS_SIZE {
         &cells[..]
@@ -42,7 +41,7 @@ fn in_text(answer: Answer) -> bool
 }
 
 fn line_of(text: &[u8], answer: Answer) -> usize
-    ensures { result ≡ line_of (at_entry text) (answer_in answer) }
+    ensures { result ≡ line_of text.now (answer_in answer) }
 {
     if in_text(answer) {
         place::line(text, answer.place)
@@ -52,7 +51,7 @@ fn line_of(text: &[u8], answer: Answer) -> usize
 }
 
 fn column_of(text: &[u8], answer: Answer) -> usize
-    ensures { result ≡ column_of (at_entry text) (answer_in answer) }
+    ensures { result ≡ column_of text.now (answer_in answer) }
 {
     if in_text(answer) {
         place::column(text, answer.place)
@@ -63,14 +62,14 @@ fn column_of(text: &[u8], answer: Answer) -> usize
 
 // A word and a number.
 fn field(out: &mut [u8], at: Laid, word: &[u8], n: u64) -> Laid
-    ensures { Lays at out (at_entry word ++ decimal n) result }
+    ensures { Lays at out.old out.new (word.now ++ decimal n) result }
 {
     let next = bytes(out, at, word);
     number(out, next, n)
 }
 
 fn refused(text: &[u8], answer: Answer, out: &mut [u8], at: Laid) -> Laid
-    ensures { Lays at out (refused_line (at_entry text) (answer_in answer)) result }
+    ensures { Lays at out.old out.new (refused_line text.now (answer_in answer)) result }
 {
     let line = line_of(text, answer);
     let column = column_of(text, answer);
@@ -93,7 +92,7 @@ fn line<'a>(
     out: &mut [u8],
     at: Laid,
 ) -> Laid
-    ensures { Lays at out (line_in book index text cells answer) result }
+    ensures { Lays at out.old out.new (line_in book.now index.now text.now cells.now answer) result }
 {
     if answer.refusal != 0 {
         return refused(text, answer, out, at);
@@ -114,7 +113,7 @@ pub fn line_length<'a>(
     answer: Answer,
     limit: usize,
 ) -> Length
-    ensures { result ≡ length_within limit (line_in book index text cells answer) }
+    ensures { result ≡ length_within limit (line_in book.now index.now text.now cells.now answer) }
 {
     let start = Laid {
         skip: limit,
@@ -140,7 +139,7 @@ pub fn print_part<'a>(
     from: usize,
     out: &mut [u8],
 ) -> usize
-    ensures { Window from (line_in book index text cells answer) (at_entry out) (at_exit out) result }
+    ensures { Window from (line_in book.now index.now text.now cells.now answer) out.old out.new result }
 {
     let start = Laid {
         skip: from,
@@ -159,7 +158,7 @@ pub fn print<'a>(
     answer: Answer,
     out: &mut [u8],
 ) -> Length
-    ensures { Prints (line_in book index text cells answer) (at_entry out) (at_exit out) result }
+    ensures { Prints (line_in book.now index.now text.now cells.now answer) out.old out.new result }
 {
     let size = out.len();
     let length = line_length(book, index, text, cells, answer, size);

@@ -1,6 +1,5 @@
 // The line and the column of a place.
 ghost use Rattle.std.specs.Prelude.{◌≡◌, suc, ◌*◌, ◌≤◌, length, take};
-ghost use Rattle.characters.specs.Slices.{at_entry};
 ghost use Rattle.printing.specs.Printing.{line_feeds, column_after, column_from};
 
 use characters::part;
@@ -13,7 +12,7 @@ const LINE_FEED: u8 = 10;
 const TAB_SIZE: usize = 8;
 
 fn line_feeds(bytes: &[u8]) -> usize
-    ensures { (result ≡ line_feeds (at_entry bytes)) × (result ≤ length (at_entry bytes)) }
+    ensures { (result ≡ line_feeds bytes.now) × (result ≤ length bytes.now) }
 {
     let mut found = 0;
     let mut i = 0;
@@ -42,13 +41,13 @@ fn next_column(column: usize, byte: u8) -> usize
 }
 
 pub fn line(text: &[u8], place: u32) -> usize
-    ensures { result ≡ suc (line_feeds (take place (at_entry text))) }
+    ensures { result ≡ suc (line_feeds (take place text.now)) }
 {
     line_feeds(part(text, 0, place as usize)) + 1
 }
 
 pub fn column(text: &[u8], place: u32) -> usize
-    ensures { result ≡ column_from 1 (take place (at_entry text)) }
+    ensures { result ≡ column_from 1 (take place text.now) }
 {
     let before = part(text, 0, place as usize);
     let mut column = 1;

@@ -1,6 +1,5 @@
 // A value. A cell refers to older ones alone, so the cells' numbers fall along the calls of `item` and `items`; both
 // turn back at once where the slice is full, so that no cell is looked at for nothing.
-ghost use Rattle.characters.specs.Slices.{at_entry};
 ghost use Rattle.semantics.specs.Cells.{cell_of};
 ghost use Rattle.printing.specs.Printing.{declared_bytes};
 ghost use Rattle.printing.specs.Laying.{Lays};
@@ -15,7 +14,7 @@ use cells::{
 
 // A declared variable, `$depth.index`.
 fn declared(out: &mut [u8], at: Laid, depth: DebruijnIndex, index: VarIndex) -> Laid
-    ensures { Lays at out (declared_bytes depth.0 index.0) result }
+    ensures { Lays at out.old out.new (declared_bytes depth.0 index.0) result }
 {
     let marked = byte(out, at, b'$');
     let outwards = number(out, marked, depth.0 as u64);
@@ -32,8 +31,8 @@ fn plain<'a>(
     at: Laid,
     cell: CellNumbers,
 ) -> Laid
-    ensures { Lays at out
-        (plain_bytes (names_in book index) (at_entry text) (cell_of cell.form cell.a cell.b)) result }
+    ensures { Lays at out.old out.new
+        (plain_bytes (names_in book.now index.now) text.now (cell_of cell.form cell.a cell.b)) result }
 {
     if cell.form == NUMBER_FORM {
         return number(out, at, cell.a as u64 * HALF + cell.b as u64);
@@ -53,7 +52,7 @@ fn plain<'a>(
 
 // The space before an item that comes after the items of a chain; a list's first has none.
 fn gap(cells: &[u32], out: &mut [u8], at: Laid, in_list: bool, chain: u32) -> Laid
-    ensures { Lays at out (gap_bytes (at_entry cells) in_list chain) result }
+    ensures { Lays at out.old out.new (gap_bytes cells.now in_list chain) result }
 {
     if in_list {
         let before = cell_at(cells, chain);
@@ -75,8 +74,8 @@ pub fn item<'a>(
     at: Laid,
     n: u32,
 ) -> Laid
-    ensures { Lays at out
-        (item_bytes (names_in book index) (at_entry text) (at_entry cells) n) result }
+    ensures { Lays at out.old out.new
+        (item_bytes (names_in book.now index.now) text.now cells.now n) result }
 {
     if is_full(out, at) {
         return at;
@@ -110,8 +109,8 @@ fn items<'a>(
     n: u32,
     in_list: bool,
 ) -> Laid
-    ensures { Lays at out
-        (items_bytes (names_in book index) (at_entry text) (at_entry cells) in_list n) result }
+    ensures { Lays at out.old out.new
+        (items_bytes (names_in book.now index.now) text.now cells.now in_list n) result }
 {
     if is_full(out, at) {
         return at;

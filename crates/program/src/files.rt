@@ -1,5 +1,4 @@
 // The bytes of a file.
-ghost use Rattle.characters.specs.Slices.{at_exit};
 ghost use Rattle.io.specs.Counts.{IsPrefixLen};
 
 // One byte more than the longest accepted book has. The check of a longer book ends within these bytes, so that its
@@ -12,7 +11,7 @@ pub const TEXT_ROOM: usize = 4097;
 // The bytes of a file, as many as `bytes` has room for, and how many they are: none where the file is missing or can't
 // be read.
 pub fn load(path: &[u8], bytes: &mut [u8]) -> usize
-    ensures { IsPrefixLen result (at_exit bytes) }
+    ensures { IsPrefixLen result bytes.new }
 {
     let fd = os::open_read(path);
     let size = io::read_full(fd, bytes);

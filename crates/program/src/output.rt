@@ -1,6 +1,5 @@
 // The line of an answer, on standard output.
 ghost use Rattle.std.specs.Prelude.{◌≡◌};
-ghost use Rattle.characters.specs.Slices.{at_entry};
 ghost use Rattle.program.specs.Rule.{Answers};
 
 use book::{INDEX_SIZE, check_into};
@@ -44,7 +43,7 @@ fn write_line<'a>(
 // Reads the text by the book, writes the line of the answer by way of `out`, which needs one byte at least, and gives
 // the answer.
 pub fn answer_line<'a>(book: &'a [u8], text: &'a [u8], out: &mut [u8]) -> Answer
-    ensures { Answers (at_entry book) (at_entry text) result }
+    ensures { Answers book.now text.now result }
 {
     let mut cells = [0u32; CELLS_SIZE];
     let mut parses = [0u32; PARSES_SIZE];

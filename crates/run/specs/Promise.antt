@@ -2,7 +2,7 @@
 -- document 01 and of what document 02 changed in it, d and f (`answer_of` of semantics, specs/Answer.antt), and over the
 -- derivations (`Exact` of specs/Exact.antt there), and over nothing of how the call works.
 use Rattle.std.specs.Prelude.{◌≡◌, Bool, false, cond, ◌||◌, List, ℕ, ltb, length}
-use Rattle.characters.specs.Slices.{Lent, at_entry, at_exit}
+use Rattle.characters.specs.Slices.{Slice}
 use Rattle.book.specs.Book.{Book}
 use Rattle.book.specs.Check.{check_book}
 use Rattle.book.specs.Check as check
@@ -34,11 +34,11 @@ pub record Reads (bytes text : List ℕ) (start : ℕ) (expected a : Answered) :
       not_accepted a.answer.refusal ≡ false → is_limit a.answer.refusal ≡ false → Exact book text start a
 
 -- `read`: what is expected is what the documents say
-abbrev pub Read : Lent → Lent → ℕ → ℕ → Lent → Lent → code.Answer → Type 0
-Read book text start allowance cells parses r =
-    Reads (at_entry book) (at_entry text) start
-    (answer_of (at_entry cells) (at_entry parses) (at_entry book) (at_entry text) start allowance)
-    (answered r (at_exit cells) (at_exit parses))
+abbrev pub Read : Slice → Slice → ℕ → ℕ → Slice → Slice → Slice → Slice → code.Answer → Type 0
+Read book text start allowance cells cells' parses parses' r =
+    Reads book text start
+    (answer_of cells parses book text start allowance)
+    (answered r cells' parses')
 
 -- ---- With working memory that is lent
 -- it is under its size: a book's index, the store of cells, the rows of calls
@@ -53,10 +53,10 @@ answer_with index store rows cells parses bytes text start allowance =
     (answer_of cells parses bytes text start allowance)
 
 -- `read_in`
-abbrev pub ReadIn : Lent → Lent → ℕ → ℕ → Lent → Lent → Lent → Lent → Lent → code.Answer → Type 0
-ReadIn book text start allowance cells parses index store rows r =
-    Reads (at_entry book) (at_entry text) start
-    (answer_with (at_entry index) (at_entry store) (at_entry rows) (at_entry cells) (at_entry parses) (at_entry book)
-    (at_entry text)
+abbrev pub ReadIn : Slice → Slice → ℕ → ℕ → Slice → Slice → Slice → Slice → Slice → Slice → Slice → code.Answer → Type 0
+ReadIn book text start allowance cells cells' parses parses' index store rows r =
+    Reads book text start
+    (answer_with index store rows cells parses book
+    text
     start allowance)
-    (answered r (at_exit cells) (at_exit parses))
+    (answered r cells' parses')

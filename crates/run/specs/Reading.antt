@@ -2,7 +2,7 @@
 -- Promise. Scaffolding: no definition of document 01.
 use Rattle.std.specs.Prelude.{◌≡◌, Bool, cond, ◌||◌, List, [], ◌∷◌, ℕ, ◌≤◌, ltb, eqb, length}
 use Rattle.std.proofs.Math.Option.{Option, none, some}
-use Rattle.characters.specs.Slices.{Slice, Lent, at_entry, at_exit}
+use Rattle.characters.specs.Slices.{Slice}
 use Rattle.book.specs.Book.{Book}
 use Rattle.book.specs.Check.{check_book}
 use Rattle.book.specs.Check as check
@@ -70,50 +70,50 @@ pub record RunsText (book : Book) (text : List ℕ) (units start : ℕ) (store r
 
 -- ---- The lists
 -- the first `size` numbers of a lent list become these and zeros
-abbrev pub Writes : Lent → ℕ → List ℕ → Type 0
-Writes lent size numbers = at_exit lent ≡ written size numbers (at_entry lent)
+abbrev pub Writes : Slice → Slice → ℕ → List ℕ → Type 0
+Writes lent lent' size numbers = lent' ≡ written size numbers lent
 
 -- they become the parses that the outermost row found
-abbrev pub WritesParses : Lent → Lent → Type 0
-WritesParses parses rows = Writes parses parses_size (parse_numbers (row_in rows most_nesting).set)
+abbrev pub WritesParses : Slice → Slice → Slice → Type 0
+WritesParses parses parses' rows = Writes parses parses' parses_size (parse_numbers (row_in rows most_nesting).set)
 
 -- the answer and both lists at exit, from the lists at entry
-abbrev pub Gives : Lent → Lent → code.Answer → (List ℕ → List ℕ → Answered) → Type 0
-Gives cells parses r expected = answered r (at_exit cells) (at_exit parses) ≡ expected (at_entry cells) (at_entry parses)
+abbrev pub Gives : Slice → Slice → Slice → Slice → code.Answer → (List ℕ → List ℕ → Answered) → Type 0
+Gives cells cells' parses parses' r expected = answered r cells' parses' ≡ expected cells parses
 
 -- ---- What the parts ask
 abbrev pub LongLists : Slice → Slice → Type 0
-LongLists cells parses = (cells_size ≤ length cells.now) × (parses_size ≤ length parses.now)
+LongLists cells parses = (cells_size ≤ length cells) × (parses_size ≤ length parses)
 
 abbrev pub HasParses : Slice → Slice → Type 0
-HasParses parses rows = (parses_size ≤ length parses.now) × (rows_size ≤ length rows.now)
+HasParses parses rows = (parses_size ≤ length parses) × (rows_size ≤ length rows)
 
 -- there are `count` cells
 abbrev pub CanFill : Slice → Slice → Slice → Slice → ℕ → Type 0
 CanFill cells parses store rows count =
-    (cells_size ≤ length cells.now) × (parses_size ≤ length parses.now) × (store_size ≤ length store.now) ×
-    (rows_size ≤ length rows.now) ×
+    (cells_size ≤ length cells) × (parses_size ≤ length parses) × (store_size ≤ length store) ×
+    (rows_size ≤ length rows) ×
     (count ≤ most_cells)
 
 -- the run is over
 abbrev pub CanEnd : Slice → Slice → Slice → Slice → Slice → Outcome → Type 0
 CanEnd text cells parses store rows o =
-    (cells_size ≤ length cells.now) × (parses_size ≤ length parses.now) × (rows_size ≤ length rows.now) ×
-    Held text.now store.now o.state.cells
+    (cells_size ≤ length cells) × (parses_size ≤ length parses) × (rows_size ≤ length rows) ×
+    Held text store o.state.cells
 
 -- the run can begin
 abbrev pub CanStart : Slice → Slice → Slice → Slice → Slice → Type 0
 CanStart book index text store rows =
-    (store_size ≤ length store.now) × (rows_size ≤ length rows.now) × Fit (book_in book.now index.now) text.now
+    (store_size ≤ length store) × (rows_size ≤ length rows) × Fit (book_in book index) text
 
 -- the book is accepted
 abbrev pub CanRead : Slice → Slice → Slice → Slice → Slice → Slice → Type 0
 CanRead book cells parses index store rows =
-    (cells_size ≤ length cells.now) × (parses_size ≤ length parses.now) × (store_size ≤ length store.now) ×
-    (rows_size ≤ length rows.now) ×
-    (check_book book.now ≡ check.Outcome.book (book_in book.now index.now))
+    (cells_size ≤ length cells) × (parses_size ≤ length parses) × (store_size ≤ length store) ×
+    (rows_size ≤ length rows) ×
+    (check_book book ≡ check.Outcome.book (book_in book index))
 
 -- the working memory has its sizes
 abbrev pub HasRoom : Slice → Slice → Slice → Type 0
 HasRoom index store rows =
-    (index_size ≤ length index.now) × (store_size ≤ length store.now) × (rows_size ≤ length rows.now)
+    (index_size ≤ length index) × (store_size ≤ length store) × (rows_size ≤ length rows)

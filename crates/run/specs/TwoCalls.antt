@@ -1,7 +1,7 @@
 -- Document 02 n, of two calls of the compiled reader: their answers, and their lists at exit. Nothing is known of a
 -- call but what is promised of it. TwoCallLaws proves both statements.
 use Rattle.std.specs.Prelude.{◌≡◌, ◌≢◌, List, ℕ, ◌≤◌}
-use Rattle.characters.specs.Slices.{Lent, at_entry, at_exit}
+use Rattle.characters.specs.Slices.{Slice}
 use Rattle.semantics.specs.Numbers.{most_units, no_unit}
 use Rattle.semantics.specs.Answer.{Answered, answer_of}
 use Rattle.semantics.specs.Extension.{Extends, LosesNothing}
@@ -20,17 +20,18 @@ pub record Call : Type 0 where
   pub promised : Reads bytes text start (answer_of cells parses bytes text start allowance) gave
 
 -- each call of `read` is one, by its contract
-abbrev pub call_of : (book text : Lent) (start allowance : ℕ) (cells parses : Lent) (r : code.Answer) →
-    Read book text start allowance cells parses r → Call
-call_of book text start allowance cells parses r promised =
+abbrev pub call_of : (book text : Slice) (start allowance : ℕ) (cells cells' parses parses' : Slice)
+    (r : code.Answer) →
+    Read book text start allowance cells cells' parses parses' r → Call
+call_of book text start allowance cells cells' parses parses' r promised =
     record {
-      bytes = at_entry book;
-      text = at_entry text;
+      bytes = book;
+      text = text;
       start = start;
       allowance = allowance;
-      cells = at_entry cells;
-      parses = at_entry parses;
-      gave = answered r (at_exit cells) (at_exit parses);
+      cells = cells;
+      parses = parses;
+      gave = answered r cells' parses';
       promised = promised;
     }
 

@@ -3,7 +3,6 @@
 // `read` keeps working memory of its own, 500,460 bytes; `read_in` is lent it, whatever it holds. Its contract says
 // nothing of that memory at exit: it is no part of the answer, and the next call may find anything in it.
 ghost use Rattle.std.specs.Prelude.{◌≡◌, ◌-◌, length};
-ghost use Rattle.characters.specs.Slices.{at_entry, at_exit};
 ghost use Rattle.book.specs.Index.{book_at};
 ghost use Rattle.semantics.specs.Numbers.{no_parse};
 ghost use Rattle.semantics.specs.Answer as answers;
@@ -118,9 +117,9 @@ fn ending(
     rows: &[u32],
     outcome: Outcome,
 ) -> Answer
-    requires { CanEnd text cells parses store rows outcome }
-    ensures { Gives cells parses result (λ cells parses.
-        answers.at_end cells parses (at_entry text) allowance (seen_of outcome (at_entry store) (at_entry rows))) }
+    requires { CanEnd text.now cells.old parses.old store.now rows.now outcome }
+    ensures { Gives cells.old cells.new parses.old parses.new result (λ cells parses.
+        answers.at_end cells parses text.now allowance (seen_of outcome store.now rows.now)) }
 {
     let state = outcome.state;
     let work = gone(allowance, state.units);
@@ -154,8 +153,8 @@ fn run(
     start: u32,
     units: u32,
 ) -> Outcome
-    requires { CanStart book index text store rows }
-    ensures { RunsText (book_at book index) (at_entry text) units start (at_exit store) (at_exit rows) result }
+    requires { CanStart book.now index.now text.now store.old rows.old }
+    ensures { RunsText (book_at book.now index.now) text.now units start store.new rows.new result }
 {
     cells::clear(store);
     let begun = State { units, cells: 0 };
@@ -177,7 +176,7 @@ fn run(
 // ---- The text and the start
 // The place of the first byte of 128 or more, or the text's length.
 fn first_high(text: &[u8]) -> usize
-    ensures { place_or_none (at_entry text) result ≡ first_high 0 (at_entry text) }
+    ensures { place_or_none text.now result ≡ first_high 0 text.now }
 {
     let mut i = 0;
     while i < text.len() {
@@ -201,9 +200,9 @@ fn on_book(
     store: &mut [u32],
     rows: &mut [u32],
 ) -> Answer
-    requires { CanRead book cells parses index store rows }
-    ensures { Gives cells parses result (λ cells parses.
-        answers.on_book cells parses (book_at book index) (at_entry text) start allowance) }
+    requires { CanRead book.now cells.old parses.old index.now store.old rows.old }
+    ensures { Gives cells.old cells.new parses.old parses.new result (λ cells parses.
+        answers.on_book cells parses (book_at book.now index.now) text.now start allowance) }
 {
     if book::nonterminals(index) <= start as usize {
         return refused(UNKNOWN_START, 0);
@@ -221,7 +220,7 @@ fn on_book(
 
 // ---- The call
 fn too_short(cells: &[u32], parses: &[u32]) -> bool
-    ensures { result ≡ short (at_entry cells) (at_entry parses) }
+    ensures { result ≡ short cells.now parses.now }
 {
     if cells.len() < CELLS_SIZE {
         return true;
@@ -230,7 +229,7 @@ fn too_short(cells: &[u32], parses: &[u32]) -> bool
 }
 
 fn no_room(index: &[usize], store: &[u32], rows: &[u32]) -> bool
-    ensures { result ≡ no_room (at_entry index) (at_entry store) (at_entry rows) }
+    ensures { result ≡ no_room index.now store.now rows.now }
 {
     if index.len() < INDEX_SIZE {
         return true;
@@ -271,9 +270,9 @@ fn in_room(
     store: &mut [u32],
     rows: &mut [u32],
 ) -> Answer
-    requires { HasRoom index store rows }
-    ensures { Gives cells parses result (λ cells parses.
-        answer_of cells parses (at_entry book) (at_entry text) start allowance) }
+    requires { HasRoom index.old store.old rows.old }
+    ensures { Gives cells.old cells.new parses.old parses.new result (λ cells parses.
+        answer_of cells parses book.now text.now start allowance) }
 {
     if too_short(cells, parses) {
         return refused(SHORT_LISTS, 0);
@@ -303,7 +302,7 @@ pub fn read_in(
     store: &mut [u32],
     rows: &mut [u32],
 ) -> Answer
-    ensures { ReadIn book text start allowance cells parses index store rows result }
+    ensures { ReadIn book.now text.now start allowance cells.old cells.new parses.old parses.new index.old store.old rows.old result }
 {
     if no_room(index, store, rows) {
         return refused(SHORT_LISTS, 0);
@@ -322,7 +321,7 @@ pub fn read(
     cells: &mut [u32],
     parses: &mut [u32],
 ) -> Answer
-    ensures { Read book text start allowance cells parses result }
+    ensures { Read book.now text.now start allowance cells.old cells.new parses.old parses.new result }
 {
     let mut index = [0usize; INDEX_SIZE];
     let mut store = [0u32; STORE_SIZE];

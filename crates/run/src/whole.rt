@@ -1,6 +1,5 @@
 // The values of the whole parses.
 ghost use Rattle.std.specs.Prelude.{◌≡◌, ◌≤◌, length};
-ghost use Rattle.characters.specs.Slices.{at_entry};
 ghost use Rattle.semantics.specs.Answer.{whole_values};
 ghost use Rattle.semantics.specs.Numbers.{most_nesting};
 ghost use Rattle.semantics.specs.Values.{whole as wholeIn};
@@ -40,14 +39,14 @@ fn with_value(values: Values, value: u32) -> Values
 
 // "A parse is whole .. when skipping from its rest gives the text's length"
 fn whole(text: &[u8], p: Parse) -> bool
-    ensures { result ≡ wholeIn (at_entry text) (parse_of p) }
+    ensures { result ≡ wholeIn text.now (parse_of p) }
 {
     skip(text, p.rest as usize) == text.len()
 }
 
 // The value of a parse counts if it is whole.
 fn with_parse(text: &[u8], values: Values, p: Parse) -> Values
-    ensures { result ≡ with_parse (at_entry text) values (parse_of p) }
+    ensures { result ≡ with_parse text.now values (parse_of p) }
 {
     if whole(text, p) {
         with_value(values, p.value)
@@ -60,7 +59,7 @@ fn with_parse(text: &[u8], values: Values, p: Parse) -> Values
 pub fn whole_values(text: &[u8], rows: &[u32]) -> Values
     requires { rows_size ≤ length rows.now }
     ensures { result ≡ with_values values.Values.Nothing
-        (whole_values (at_entry text) (row_in rows most_nesting).set) }
+        (whole_values text.now (row_in rows.now most_nesting).set) }
 {
     let count = parse_count(rows, MOST_NESTING);
     let mut values = Values::Nothing;

@@ -53,7 +53,7 @@ put_parse numbers place p =
 -- ---- The slice that a function is lent
 -- the set at a place is inside the slice
 abbrev pub HasSet : ℕ → Slice → Type 0
-HasSet place numbers = place + set_size ≤ length numbers.now
+HasSet place numbers = place + set_size ≤ length numbers
 
 -- ---- What a function changes
 -- at most so many numbers from a place on change

@@ -13,7 +13,6 @@
 #![tactic(auto)]
 
 ghost use Rattle.std.specs.Prelude.{◌≡◌, [], ◌+◌, ◌≤◌, get_or, length};
-ghost use Rattle.characters.specs.Slices.{at_entry, at_exit};
 ghost use Rattle.book.specs.Book.{associativity_number};
 ghost use Rattle.book.specs.Check.{associativity_of};
 ghost use Rattle.semantics.specs.Numbers.{parse_size};
@@ -89,7 +88,7 @@ fn same_parse(p: Parse, q: Parse) -> bool
 
 fn parse_at(numbers: &[u32], at: usize) -> Parse
     requires { at + parse_size ≤ length numbers.now }
-    ensures { parse_of result ≡ parse_at (at_entry numbers) at }
+    ensures { parse_of result ≡ parse_at numbers.now at }
 {
     Parse {
         rest: numbers[at],
@@ -102,7 +101,7 @@ fn parse_at(numbers: &[u32], at: usize) -> Parse
 // "Parses hold rest, level, associativity, cell"
 pub fn put_parse(numbers: &mut [u32], at: usize, p: Parse)
     requires { at + parse_size ≤ length numbers.old }
-    ensures { at_exit numbers ≡ put_parse (at_entry numbers) at (parse_of p) }
+    ensures { numbers.new ≡ put_parse numbers.old at (parse_of p) }
 {
     let associativity = p.associativity;
     numbers[at] = p.rest;
@@ -113,8 +112,8 @@ pub fn put_parse(numbers: &mut [u32], at: usize, p: Parse)
 
 // ---- A set
 pub fn size(numbers: &[u32], place: usize) -> usize
-    requires { HasSet place numbers }
-    ensures { result ≡ length (set_at (at_entry numbers) place) }
+    requires { HasSet place numbers.now }
+    ensures { result ≡ length (set_at numbers.now place) }
 {
     let count = numbers[place] as usize;
     if count < MOST_PARSES {
@@ -126,8 +125,8 @@ pub fn size(numbers: &[u32], place: usize) -> usize
 
 // The i-th parse of a set, and a parse of zeros past its end.
 pub fn nth_parse(numbers: &[u32], place: usize, i: usize) -> Parse
-    requires { HasSet place numbers }
-    ensures { parse_of result ≡ get_or (set_at (at_entry numbers) place) i absent_parse }
+    requires { HasSet place numbers.now }
+    ensures { parse_of result ≡ get_or (set_at numbers.now place) i absent_parse }
 {
     if i < size(numbers, place) {
         return parse_at(numbers, place + 1 + PARSE_SIZE * i);
@@ -141,15 +140,15 @@ pub fn nth_parse(numbers: &[u32], place: usize, i: usize) -> Parse
 }
 
 pub fn clear(numbers: &mut [u32], place: usize)
-    requires { HasSet place numbers }
-    ensures { Becomes (at_entry numbers) (at_exit numbers) place [] }
+    requires { HasSet place numbers.old }
+    ensures { Becomes numbers.old numbers.new place [] }
 {
     numbers[place] = 0;
 }
 
 fn has(numbers: &[u32], place: usize, p: Parse) -> bool
-    requires { HasSet place numbers }
-    ensures { result ≡ run.has (set_at (at_entry numbers) place) (parse_of p) }
+    requires { HasSet place numbers.now }
+    ensures { result ≡ run.has (set_at numbers.now place) (parse_of p) }
 {
     let mut at = place + 1;
     let mut left = size(numbers, place);
@@ -165,8 +164,8 @@ fn has(numbers: &[u32], place: usize, p: Parse) -> bool
 
 // One parse more at the end of a set, unless it has 64; false if it has.
 pub fn append(numbers: &mut [u32], place: usize, p: Parse) -> bool
-    requires { HasSet place numbers }
-    ensures { Appended result (at_entry numbers) (at_exit numbers) place (parse_of p) }
+    requires { HasSet place numbers.old }
+    ensures { Appended result numbers.old numbers.new place (parse_of p) }
 {
     let parses = size(numbers, place);
     if parses < MOST_PARSES {
@@ -180,8 +179,8 @@ pub fn append(numbers: &mut [u32], place: usize, p: Parse) -> bool
 
 // A parse joins a set; false for a 65th.
 pub fn add(numbers: &mut [u32], place: usize, p: Parse) -> bool
-    requires { HasSet place numbers }
-    ensures { Added result (at_entry numbers) (at_exit numbers) place (parse_of p) }
+    requires { HasSet place numbers.old }
+    ensures { Added result numbers.old numbers.new place (parse_of p) }
 {
     if has(numbers, place, p) {
         return true;
@@ -192,8 +191,8 @@ pub fn add(numbers: &mut [u32], place: usize, p: Parse) -> bool
 // ---- Two sets
 // The parses of the set at `from` are all in the set at `into`.
 pub fn all_in(numbers: &[u32], into: usize, from: usize) -> bool
-    requires { HasSet into numbers × HasSet from numbers }
-    ensures { result ≡ run.all_in (set_at (at_entry numbers) into) (set_at (at_entry numbers) from) }
+    requires { HasSet into numbers.now × HasSet from numbers.now }
+    ensures { result ≡ run.all_in (set_at numbers.now into) (set_at numbers.now from) }
 {
     let mut at = from + 1;
     let mut left = size(numbers, from);
@@ -209,8 +208,8 @@ pub fn all_in(numbers: &[u32], into: usize, from: usize) -> bool
 
 // The set at `from` joins the set at `into`; false for a 65th.
 pub fn add_all(numbers: &mut [u32], into: usize, from: usize) -> bool
-    requires { HasSet into numbers × HasSet from numbers × Apart into from }
-    ensures { AllAdded result (at_entry numbers) (at_exit numbers) into from }
+    requires { HasSet into numbers.old × HasSet from numbers.old × Apart into from }
+    ensures { AllAdded result numbers.old numbers.new into from }
 {
     let mut at = from + 1;
     let mut left = size(numbers, from);
@@ -227,8 +226,8 @@ pub fn add_all(numbers: &mut [u32], into: usize, from: usize) -> bool
 
 // The set at `into` becomes the set at `from`.
 pub fn copy(numbers: &mut [u32], into: usize, from: usize)
-    requires { HasSet into numbers × HasSet from numbers × Apart into from }
-    ensures { Becomes (at_entry numbers) (at_exit numbers) into (set_at (at_entry numbers) from) }
+    requires { HasSet into numbers.old × HasSet from numbers.old × Apart into from }
+    ensures { Becomes numbers.old numbers.new into (set_at numbers.old from) }
 {
     let most = 1 + PARSE_SIZE * size(numbers, from);
     let mut i = 0;
@@ -253,9 +252,9 @@ fn keeps_level(associativity: Associativity, level: u32, found: u32) -> bool
 
 // A parse goes to the end of a set, if it is kept.
 fn keep(numbers: &mut [u32], place: usize, associativity: Associativity, level: u32, p: Parse)
-    requires { HasSet place numbers }
-    ensures { Becomes (at_entry numbers) (at_exit numbers) place
-        (keep_end (keeps_level associativity level p.level) (set_at (at_entry numbers) place) (parse_of p)) }
+    requires { HasSet place numbers.old }
+    ensures { Becomes numbers.old numbers.new place
+        (keep_end (keeps_level associativity level p.level) (set_at numbers.old place) (parse_of p)) }
 {
     if keeps_level(associativity, level, p.level) {
         append(numbers, place, p);
@@ -270,8 +269,8 @@ pub fn put_kept(
     associativity: Associativity,
     level: u32,
 )
-    requires { HasSet into numbers × HasSet from numbers × Apart into from }
-    ensures { Kept (at_entry numbers) (at_exit numbers) into from associativity level }
+    requires { HasSet into numbers.old × HasSet from numbers.old × Apart into from }
+    ensures { Kept numbers.old numbers.new into from associativity level }
 {
     clear(numbers, into);
     let mut at = from + 1;

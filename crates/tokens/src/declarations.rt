@@ -1,6 +1,5 @@
 // A declared name at a place of the text. Document 02 d.
 ghost use Rattle.std.specs.Prelude.{◌≡◌, ◌≤◌, length};
-ghost use Rattle.characters.specs.Slices.{at_entry};
 ghost use Rattle.book.specs.Index.{book_at};
 ghost use Rattle.semantics.specs.Numbers.{longest_text, nonterminal_wanted, declared_name};
 ghost use Rattle.semantics.specs.Tokens.{kind_at};
@@ -36,7 +35,7 @@ pub enum Declaration {
 }
 
 fn kind_at(book: &[u8], index: &[usize], text: &[u8], at: usize) -> Kind
-    ensures { kind_of result ≡ kind_at (book_at book index) (at_entry text) at }
+    ensures { kind_of result ≡ kind_at (book_at book.now index.now) text.now at }
 {
     let End::At(end) = identifier_end(text, at) else {
         return Kind::Nothing;
@@ -60,7 +59,7 @@ fn not_declared(at: u32) -> Error
 // Where no word for a kind is, 11; behind one what an identifier's step gives.
 pub fn declaration_at(book: &[u8], index: &[usize], text: &[u8], at: u32) -> Declaration
     requires { length text.now ≤ longest_text }
-    ensures { Declares (book_at book index) (at_entry text) at result }
+    ensures { Declares (book_at book.now index.now) text.now at result }
 {
     let Kind::At { end, kind } = kind_at(book, index, text, at as usize) else {
         return Declaration::Missing(not_declared(at));

@@ -1,6 +1,5 @@
 // The error of a step that takes nothing, each at a skipped place.
 ghost use Rattle.std.specs.Prelude.{◌≡◌};
-ghost use Rattle.characters.specs.Slices.{at_entry};
 ghost use Rattle.book.specs.Book.{Book};
 ghost use Rattle.book.specs.Index.{book_at};
 ghost use Rattle.book.specs.declared.records.Step.{Step};
@@ -41,7 +40,7 @@ pub fn closing_error(closing: Closing, at: u32) -> Error
 
 // An identifier was wanted: the text ended, none is there, or it is reserved; else another error.
 fn identifier_error(book: &[u8], index: &[usize], text: &[u8], at: u32, other: Error) -> Error
-    ensures { error_of result ≡ identifier_error (book_at book index) (at_entry text) at (error_of other) }
+    ensures { error_of result ≡ identifier_error (book_at book.now index.now) text.now at (error_of other) }
 {
     let place = at as usize;
     if place == text.len() {
@@ -58,7 +57,7 @@ fn identifier_error(book: &[u8], index: &[usize], text: &[u8], at: u32, other: E
 
 // The error of an identifier's step.
 pub fn name_error(book: &[u8], index: &[usize], text: &[u8], at: u32) -> Error
-    ensures { error_of result ≡ identifier_error (book_at book index) (at_entry text) at (error at identifier_wanted 0) }
+    ensures { error_of result ≡ identifier_error (book_at book.now index.now) text.now at (error at identifier_wanted 0) }
 {
     identifier_error(book, index, text, at, error_at(at, IDENTIFIER_WANTED, 0))
 }
@@ -66,7 +65,7 @@ pub fn name_error(book: &[u8], index: &[usize], text: &[u8], at: u32) -> Error
 // Digits were wanted, or the number is too large; where a number is, this isn't asked for.
 fn number_error(text: &[u8], at: u32) -> Error
     ensures { (book : Book) (scope : Scope) →
-        error_of result ≡ step_error book (at_entry text) scope Step.Number at }
+        error_of result ≡ step_error book text.now scope Step.Number at }
 {
     let place = at as usize;
     if place == text.len() {
@@ -82,7 +81,7 @@ fn number_error(text: &[u8], at: u32) -> Error
 // No variable: no identifier, a reserved word, or an unknown name.
 fn variable_error(book: &[u8], index: &[usize], text: &[u8], at: u32) -> Error
     ensures { (scope : Scope) →
-        error_of result ≡ step_error (book_at book index) (at_entry text) scope Step.Variable at }
+        error_of result ≡ step_error (book_at book.now index.now) text.now scope Step.Variable at }
 {
     identifier_error(book, index, text, at, error_at(at, UNKNOWN_NAME, 0))
 }
@@ -97,9 +96,9 @@ fn kind_error(
     kind: u32,
     at: u32,
 ) -> Error
-    requires { InTable row rows }
-    ensures { error_of result ≡ step_error (book_at book index) (at_entry text)
-        (scope_in (at_entry text) (table_at rows) row) (Step.VariableOfKind kind) at }
+    requires { InTable row rows.now }
+    ensures { error_of result ≡ step_error (book_at book.now index.now) text.now
+        (scope_in text.now (table_at rows.now) row) (Step.VariableOfKind kind) at }
 {
     let binder = calls::binder_of(rows, row);
     if is_variable(variable_at(book, index, text, rows, row, binder, at as usize)) {
@@ -119,9 +118,9 @@ pub fn step_error(
     step: Step,
     at: u32,
 ) -> Error
-    requires { InTable row rows }
-    ensures { error_of result ≡ step_error (book_at book index) (at_entry text)
-        (scope_in (at_entry text) (table_at rows) row) step at }
+    requires { InTable row rows.now }
+    ensures { error_of result ≡ step_error (book_at book.now index.now) text.now
+        (scope_in text.now (table_at rows.now) row) step at }
 {
     match step {
         Step::Character(a) => error_at(at, CHARACTER_WANTED, a),

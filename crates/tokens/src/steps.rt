@@ -3,7 +3,6 @@
 ghost use Rattle.std.proofs.Math.Option.{none};
 ghost use Rattle.std.specs.Prelude.{◌≡◌};
 ghost use Rattle.characters.specs.Skipping.{skip_from};
-ghost use Rattle.characters.specs.Slices.{at_entry};
 ghost use Rattle.book.specs.Book.{Book};
 ghost use Rattle.book.specs.Index.{book_at};
 ghost use Rattle.book.specs.declared.records.Step.{Step};
@@ -88,7 +87,7 @@ fn bare(next: usize) -> Taken
 
 fn character(text: &[u8], a: u32, x: usize) -> Taken
     ensures { (book : Book) (scope : Scope) →
-        taken_of result ≡ step_at book (at_entry text) scope (Step.Character a) x }
+        taken_of result ≡ step_at book text.now scope (Step.Character a) x }
 {
     let End::At(end) = character_end(text, a, x) else {
         return Taken::Nothing;
@@ -97,7 +96,7 @@ fn character(text: &[u8], a: u32, x: usize) -> Taken
 }
 
 fn word_at(book: &[u8], index: &[usize], text: &[u8], a: u32, x: usize) -> Taken
-    ensures { (scope : Scope) → taken_of result ≡ step_at (book_at book index) (at_entry text) scope (Step.Word a) x }
+    ensures { (scope : Scope) → taken_of result ≡ step_at (book_at book.now index.now) text.now scope (Step.Word a) x }
 {
     let at = skip(text, x);
     let End::At(end) = identifier_end(text, at) else {
@@ -113,7 +112,7 @@ fn word_at(book: &[u8], index: &[usize], text: &[u8], a: u32, x: usize) -> Taken
 
 fn identifier(book: &[u8], index: &[usize], text: &[u8], x: usize) -> Taken
     ensures { (scope : Scope) →
-        taken_of result ≡ step_at (book_at book index) (at_entry text) scope Step.Identifier x }
+        taken_of result ≡ step_at (book_at book.now index.now) text.now scope Step.Identifier x }
 {
     let at = skip(text, x);
     let End::At(end) = free_end(book, index, text, at) else {
@@ -129,7 +128,7 @@ fn identifier(book: &[u8], index: &[usize], text: &[u8], x: usize) -> Taken
 }
 
 fn number(text: &[u8], x: usize) -> Taken
-    ensures { (book : Book) (scope : Scope) → taken_of result ≡ step_at book (at_entry text) scope Step.Number x }
+    ensures { (book : Book) (scope : Scope) → taken_of result ≡ step_at book text.now scope Step.Number x }
 {
     match number_at(text, skip(text, x)) {
         Number::Value { value, end } => Taken::Token {
@@ -191,18 +190,18 @@ fn variable_behind(
     row: usize,
     x: usize,
 ) -> Variable
-    requires { InTable row rows }
-    ensures { variable_of result ≡ variable_at (book_at book index) (at_entry text)
-        (scope_in (at_entry text) (table_at rows) row) (skip_from (at_entry text) x) }
+    requires { InTable row rows.now }
+    ensures { variable_of result ≡ variable_at (book_at book.now index.now) text.now
+        (scope_in text.now (table_at rows.now) row) (skip_from text.now x) }
 {
     let binder = calls::binder_of(rows, row);
     variable_at(book, index, text, rows, row, binder, skip(text, x))
 }
 
 fn variable(book: &[u8], index: &[usize], text: &[u8], rows: &[u32], row: usize, x: usize) -> Taken
-    requires { InTable row rows }
-    ensures { taken_of result ≡ step_at (book_at book index) (at_entry text)
-        (scope_in (at_entry text) (table_at rows) row) Step.Variable x }
+    requires { InTable row rows.now }
+    ensures { taken_of result ≡ step_at (book_at book.now index.now) text.now
+        (scope_in text.now (table_at rows.now) row) Step.Variable x }
 {
     read_variable(variable_behind(book, index, text, rows, row, x))
 }
@@ -216,9 +215,9 @@ fn variable_of_kind(
     a: u32,
     x: usize,
 ) -> Taken
-    requires { InTable row rows }
-    ensures { taken_of result ≡ step_at (book_at book index) (at_entry text)
-        (scope_in (at_entry text) (table_at rows) row) (Step.VariableOfKind a) x }
+    requires { InTable row rows.now }
+    ensures { taken_of result ≡ step_at (book_at book.now index.now) text.now
+        (scope_in text.now (table_at rows.now) row) (Step.VariableOfKind a) x }
 {
     let found = variable_behind(book, index, text, rows, row, x);
     if has_kind(found, a) {
@@ -237,9 +236,9 @@ fn reject_variable(
     row: usize,
     x: usize,
 ) -> Taken
-    requires { InTable row rows }
-    ensures { taken_of result ≡ step_at (book_at book index) (at_entry text)
-        (scope_in (at_entry text) (table_at rows) row) Step.RejectVariable x }
+    requires { InTable row rows.now }
+    ensures { taken_of result ≡ step_at (book_at book.now index.now) text.now
+        (scope_in text.now (table_at rows.now) row) Step.RejectVariable x }
 {
     if is_variable(variable_behind(book, index, text, rows, row, x)) {
         Taken::Nothing
@@ -250,7 +249,7 @@ fn reject_variable(
 
 fn reject_reserved(book: &[u8], index: &[usize], text: &[u8], x: usize) -> Taken
     ensures { (scope : Scope) →
-        taken_of result ≡ step_at (book_at book index) (at_entry text) scope Step.RejectReserved x }
+        taken_of result ≡ step_at (book_at book.now index.now) text.now scope Step.RejectReserved x }
 {
     let at = skip(text, x);
     if reserved_at(book, index, text, at) {
@@ -262,7 +261,7 @@ fn reject_reserved(book: &[u8], index: &[usize], text: &[u8], x: usize) -> Taken
 
 fn delimited(text: &[u8], nonterminal: u32, opening: u32, closing: u32, x: usize) -> Taken
     ensures { (book : Book) (scope : Scope) →
-        taken_of result ≡ step_at book (at_entry text) scope (Step.Delimited nonterminal opening closing) x }
+        taken_of result ≡ step_at book text.now scope (Step.Delimited nonterminal opening closing) x }
 {
     let End::At(place) = character_end(text, opening, x) else {
         return Taken::Nothing;
@@ -279,7 +278,7 @@ fn delimited(text: &[u8], nonterminal: u32, opening: u32, closing: u32, x: usize
 // An opening looked for in vain still leaves the place skipped.
 fn optional_delimited(text: &[u8], nonterminal: u32, opening: u32, closing: u32, x: usize) -> Taken
     ensures { (book : Book) (scope : Scope) →
-        taken_of result ≡ step_at book (at_entry text) scope (Step.OptionalDelimited nonterminal opening closing) x }
+        taken_of result ≡ step_at book text.now scope (Step.OptionalDelimited nonterminal opening closing) x }
 {
     let End::At(place) = character_end(text, opening, x) else {
         return Taken::Unopened(skip(text, x));
@@ -296,7 +295,7 @@ fn optional_delimited(text: &[u8], nonterminal: u32, opening: u32, closing: u32,
 // Without the opening the body stands where it was looked for.
 fn binder(text: &[u8], body: u32, opening: u32, closing: u32, x: usize) -> Taken
     ensures { (book : Book) (scope : Scope) →
-        taken_of result ≡ step_at book (at_entry text) scope (Step.Binder body opening closing) x }
+        taken_of result ≡ step_at book text.now scope (Step.Binder body opening closing) x }
 {
     let End::At(place) = character_end(text, opening, x) else {
         return Taken::Body(body);
@@ -320,9 +319,9 @@ pub fn step_at(
     step: Step,
     x: usize,
 ) -> Taken
-    requires { InTable row rows }
-    ensures { taken_of result ≡ step_at (book_at book index) (at_entry text)
-        (scope_in (at_entry text) (table_at rows) row) step x }
+    requires { InTable row rows.now }
+    ensures { taken_of result ≡ step_at (book_at book.now index.now) text.now
+        (scope_in text.now (table_at rows.now) row) step x }
 {
     match step {
         Step::Character(a) => character(text, a, x),
@@ -372,7 +371,7 @@ const COMMA: u32 = 44;
 
 // A comma that is there is taken; one looked for in vain still leaves the place skipped.
 pub fn after_element(text: &[u8], comma: bool, place: usize) -> After
-    ensures { after_of result ≡ after_element (at_entry text) comma place }
+    ensures { after_of result ≡ after_element text.now comma place }
 {
     if !comma {
         return After::Goes(place);
@@ -385,7 +384,7 @@ pub fn after_element(text: &[u8], comma: bool, place: usize) -> After
 
 // Behind a list: the closing of a delimited one, or nothing.
 pub fn closed(text: &[u8], closing: Closing, place: usize) -> End
-    ensures { end_of result ≡ closedAt (at_entry text) (closing_in closing) place }
+    ensures { end_of result ≡ closedAt text.now (closing_in closing) place }
 {
     let Closing::Character(c) = closing else {
         return End::At(place);

@@ -1,6 +1,5 @@
 // What stands at a place of the text: a character, an identifier, a reserved word, a variable.
 ghost use Rattle.std.specs.Prelude.{◌≡◌, ◌-◌};
-ghost use Rattle.characters.specs.Slices.{at_entry};
 ghost use Rattle.book.specs.Index.{book_at};
 ghost use Rattle.semantics.specs.Tokens.{character_end, identifier_end, reserved_at, free_end, variable_at, is_some};
 ghost use Rattle.run_model.specs.Rows.{scope_at};
@@ -48,7 +47,7 @@ pub fn is_variable(variable: Variable) -> bool
 
 // The end of the character `a`, after skipping.
 pub fn character_end(text: &[u8], a: u32, place: usize) -> End
-    ensures { end_of result ≡ character_end (at_entry text) a place }
+    ensures { end_of result ≡ character_end text.now a place }
 {
     let at = skip(text, place);
     if at < text.len() {
@@ -60,7 +59,7 @@ pub fn character_end(text: &[u8], a: u32, place: usize) -> End
 }
 
 pub fn identifier_end(text: &[u8], at: usize) -> End
-    ensures { end_of result ≡ identifier_end (at_entry text) at }
+    ensures { end_of result ≡ identifier_end text.now at }
 {
     match identifier_at(text, at) {
         Identifier::Ends(end) => End::At(end),
@@ -76,7 +75,7 @@ pub fn span_length(at: usize, end: usize) -> usize
 }
 
 pub fn reserved_at(book: &[u8], index: &[usize], text: &[u8], at: usize) -> bool
-    ensures { result ≡ reserved_at (book_at book index) (at_entry text) at }
+    ensures { result ≡ reserved_at (book_at book.now index.now) text.now at }
 {
     let End::At(end) = identifier_end(text, at) else {
         return false;
@@ -86,7 +85,7 @@ pub fn reserved_at(book: &[u8], index: &[usize], text: &[u8], at: usize) -> bool
 
 // The end of an identifier that is not reserved.
 pub fn free_end(book: &[u8], index: &[usize], text: &[u8], at: usize) -> End
-    ensures { end_of result ≡ free_end (book_at book index) (at_entry text) at }
+    ensures { end_of result ≡ free_end (book_at book.now index.now) text.now at }
 {
     if reserved_at(book, index, text, at) {
         End::Nothing
@@ -97,7 +96,7 @@ pub fn free_end(book: &[u8], index: &[usize], text: &[u8], at: usize) -> End
 
 // The starting name that a part of the text is.
 fn starting_name(book: &[u8], index: &[usize], text: &[u8], at: usize, end: usize) -> Variable
-    ensures { variable_of result ≡ starting_name (book_at book index) (at_entry text) at end }
+    ensures { variable_of result ≡ starting_name (book_at book.now index.now) text.now at end }
 {
     match lookup(book, index, text, at, span_length(at, end)) {
         Found::Name { number, kind } => Variable::Starting { end, number, kind },
@@ -116,9 +115,9 @@ pub fn variable_at(
     binder: u32,
     at: usize,
 ) -> Variable
-    requires { InTable row rows }
-    ensures { variable_of result ≡ variable_at (book_at book index) (at_entry text)
-        (scope_at (at_entry text) (table_at rows) row binder) at }
+    requires { InTable row rows.now }
+    ensures { variable_of result ≡ variable_at (book_at book.now index.now) text.now
+        (scope_at text.now (table_at rows.now) row binder) at }
 {
     let End::At(end) = identifier_end(text, at) else {
         return Variable::Nothing;

@@ -8,7 +8,7 @@
 -- parts of the model, from where a path is.
 use Rattle.std.specs.Prelude.{Bool, List, ◌∷◌, ℕ, ◌≤◌, length}
 use Rattle.std.proofs.Math.Option.{Option}
-use Rattle.characters.specs.Slices.{Slice, Lent, at_entry, at_exit}
+use Rattle.characters.specs.Slices.{Slice}
 use Rattle.book.specs.Book.{Book, nth_step}
 use Rattle.book.specs.Index.{book_in, book_at}
 use Rattle.semantics.specs.Numbers.{most_nesting, longest_text}
@@ -43,15 +43,15 @@ use Rattle.transitions.specs.Names as opening
 -- ---- What is asked
 -- "above 4,096 bytes" is a refusal, so that a text's places fit into 32 bits
 abbrev pub Short : Slice → Type 0
-Short text = length text.now ≤ longest_text
+Short text = length text ≤ longest_text
 
 -- the numbers of the book and of the text fit into 32 bits
 abbrev pub Fitting : Slice → Slice → Slice → Type 0
-Fitting book index text = Fit (book_in book.now index.now) text.now
+Fitting book index text = Fit (book_in book index) text
 
 -- and the row is one of the table
 abbrev pub Ready : Slice → Slice → Slice → Slice → ℕ → Type 0
-Ready book index text rows row = (row ≤ most_nesting) × (rows_size ≤ length rows.now) × Fitting book index text
+Ready book index text rows row = (row ≤ most_nesting) × (rows_size ≤ length rows) × Fitting book index text
 
 -- ---- What is promised
 -- a part of the model, by the book and the text: from a state, or from what came before it
@@ -62,78 +62,78 @@ abbrev pub FromResult : Type 0
 FromResult = Book → List ℕ → Result Outcome → Result Outcome
 
 -- a cell is made
-abbrev pub MakesCell : Lent → Lent → State → CellOutcome → (run.State → Result run.Made) → Type 0
-MakesCell text store s m part = MadeBy (at_entry text) (at_entry store) (at_exit store) s m part
+abbrev pub MakesCell : Slice → Slice → Slice → State → CellOutcome → (run.State → Result run.Made) → Type 0
+MakesCell text store store' s m part = MadeBy text store store' s m part
 
 -- a part of the run, from a state
-abbrev pub Does : Lent → Lent → Lent → Lent → Lent → State → code.Outcome → FromState → Type 0
-Does book index text store rows s r part =
-    Runs (at_entry text) (at_entry store) s.cells (at_exit store) (table_after rows) r
-    (λ cells. part (book_at book index) (at_entry text) (row_state s.units cells (table_at rows)))
+abbrev pub Does : Slice → Slice → Slice → Slice → Slice → Slice → Slice → State → code.Outcome → FromState → Type 0
+Does book index text store store' rows rows' s r part =
+    Runs text store s.cells store' (table_after rows') r
+    (λ cells. part (book_at book index) text (row_state s.units cells (table_at rows)))
 
 -- a part of the run, after an outcome
 abbrev pub Continues :
-    Lent → Lent → Lent → Lent → Lent → code.Outcome → code.Outcome → FromResult → Type 0
-Continues book index text store rows before r part =
-    Runs (at_entry text) (at_entry store) before.state.cells (at_exit store) (table_after rows) r
-    (λ cells. part (book_at book index) (at_entry text) (given before cells (table_at rows)))
+    Slice → Slice → Slice → Slice → Slice → Slice → Slice → code.Outcome → code.Outcome → FromResult → Type 0
+Continues book index text store store' rows rows' before r part =
+    Runs text store before.state.cells store' (table_after rows') r
+    (λ cells. part (book_at book index) text (given before cells (table_at rows)))
 
 -- a use of a nonterminal, up to its runs; and after the unit and the governor
-abbrev pub BeginsUse : Lent → Lent → Lent → Lent → Lent → ℕ → ℕ → ℕ → ℕ → State → Entered → Type 0
-BeginsUse book index text store rows row binder N u s e =
-    entering.BeginsUse (book_at book index) (at_entry text) (at_entry store) (at_exit store) (table_at rows)
-    (table_after rows) row binder N u s e
+abbrev pub BeginsUse : Slice → Slice → Slice → Slice → Slice → Slice → Slice → ℕ → ℕ → ℕ → ℕ → State → Entered → Type 0
+BeginsUse book index text store store' rows rows' row binder N u s e =
+    entering.BeginsUse (book_at book index) text store store' (table_at rows)
+    (table_after rows') row binder N u s e
 
-abbrev pub Opens : Lent → Lent → Lent → Lent → Lent → ℕ → ℕ → ℕ → ℕ → ℕ → State → Entered → Type 0
-Opens book index text store rows row binder N u minimum s e =
-    entering.Opens (book_at book index) (at_entry text) (at_entry store) (at_exit store) (table_at rows) (table_after rows)
+abbrev pub Opens : Slice → Slice → Slice → Slice → Slice → Slice → Slice → ℕ → ℕ → ℕ → ℕ → ℕ → State → Entered → Type 0
+Opens book index text store store' rows rows' row binder N u minimum s e =
+    entering.Opens (book_at book index) text store store' (table_at rows) (table_after rows')
     row binder N u minimum s e
 
 -- a variant of a row's call begins
-abbrev pub Begins : Lent → Lent → Lent → Lent → Lent → ℕ → ℕ → State → Reached → Type 0
-Begins book index text store rows row j s r =
-    entering.Begins (book_at book index) (at_entry text) (at_entry store) (at_exit store) (table_at rows)
-    (table_after rows) row j s r
+abbrev pub Begins : Slice → Slice → Slice → Slice → Slice → Slice → Slice → ℕ → ℕ → State → Reached → Type 0
+Begins book index text store store' rows rows' row j s r =
+    entering.Begins (book_at book index) text store store' (table_at rows)
+    (table_after rows') row j s r
 
 -- a part that calls nothing, and what the path does next
-abbrev pub Stages : Lent → Lent → Lent → Lent → Progress → State → Stage → (Book → List ℕ → ModelPart) → Type 0
-Stages book index text store here s g part =
-    steps.StagedFrom (book_at book index) (at_entry text) (at_entry store) s (at_exit store) here.variant g
-    (part (book_at book index) (at_entry text))
+abbrev pub Stages : Slice → Slice → Slice → Slice → Slice → Progress → State → Stage → (Book → List ℕ → ModelPart) → Type 0
+Stages book index text store store' here s g part =
+    steps.StagedFrom (book_at book index) text store s store' here.variant g
+    (part (book_at book index) text)
 
 -- the same of a step, which sees the names in the scope of its call
-abbrev pub StagesIn : Lent → Lent → Lent → Lent → Lent → Progress → State → Stage → (Book → List ℕ → ModelPart) → Type 0
-StagesIn book index text store rows here s g part =
-    steps.StagedIn (book_at book index) (at_entry text) (at_entry store) s (at_exit store) (table_at rows) here.call
-    here.variant g (part (book_at book index) (at_entry text))
+abbrev pub StagesIn : Slice → Slice → Slice → Slice → Slice → Slice → Progress → State → Stage → (Book → List ℕ → ModelPart) → Type 0
+StagesIn book index text store store' rows here s g part =
+    steps.StagedIn (book_at book index) text store s store' (table_at rows) here.call
+    here.variant g (part (book_at book index) text)
 
 -- the same of a part that reads no book
-abbrev pub StagesAll : Lent → Lent → Progress → State → Stage → (Book → List ℕ → ModelPart) → Type 0
-StagesAll text store here s g part =
+abbrev pub StagesAll : Slice → Slice → Slice → Progress → State → Stage → (Book → List ℕ → ModelPart) → Type 0
+StagesAll text store store' here s g part =
     (book : Book) →
-    steps.StagedFrom book (at_entry text) (at_entry store) s (at_exit store) here.variant g (part book (at_entry text))
+    steps.StagedFrom book text store s store' here.variant g (part book text)
 
 -- the same where the steps left come next
-abbrev pub Reaches : Lent → Lent → Lent → Lent → Progress → State → Reached → (Book → List ℕ → ModelPart) → Type 0
-Reaches book index text store here s g part =
-    steps.ReachedFrom (book_at book index) (at_entry text) (at_entry store) s (at_exit store) here.variant g
-    (part (book_at book index) (at_entry text))
+abbrev pub Reaches : Slice → Slice → Slice → Slice → Slice → Progress → State → Reached → (Book → List ℕ → ModelPart) → Type 0
+Reaches book index text store store' here s g part =
+    steps.ReachedFrom (book_at book index) text store s store' here.variant g
+    (part (book_at book index) text)
 
 -- the same whatever comes next
-abbrev pub GoesOn : Lent → Lent → Lent → Lent → Progress → State → Reached → (Book → List ℕ → GoPart) → Type 0
-GoesOn book index text store here s g part =
-    steps.GoneFrom (at_entry text) (at_entry store) s (at_exit store) g (part (book_at book index) (at_entry text))
+abbrev pub GoesOn : Slice → Slice → Slice → Slice → Slice → Progress → State → Reached → (Book → List ℕ → GoPart) → Type 0
+GoesOn book index text store store' here s g part =
+    steps.GoneFrom text store s store' g (part (book_at book index) text)
 
 -- the names of an opening stop, and the body's scope opens
-abbrev pub OpensBody : Lent → Lent → Lent → Lent → Lent → Progress → Names → State → Reached → Type 0
-OpensBody book index text store rows here names s r =
-    opening.OpensFrom (book_at book index) (at_entry text) (at_entry store) (at_exit store) (table_at rows) here names s r
+abbrev pub OpensBody : Slice → Slice → Slice → Slice → Slice → Slice → Progress → Names → State → Reached → Type 0
+OpensBody book index text store store' rows here names s r =
+    opening.OpensFrom (book_at book index) text store store' (table_at rows) here names s r
 
 -- a name is declared, and row n keeps it
-abbrev pub DeclaresName : Lent → Lent → Lent → Lent → Lent → ℕ → Progress → Names → State → Named → Type 0
-DeclaresName book index text store rows n here names s r =
-    opening.DeclaresFrom (book_at book index) (at_entry text) (at_entry store) (at_exit store) (table_at rows)
-    (table_after rows) n here names s r
+abbrev pub DeclaresName : Slice → Slice → Slice → Slice → Slice → Slice → Slice → ℕ → Progress → Names → State → Named → Type 0
+DeclaresName book index text store store' rows rows' n here names s r =
+    opening.DeclaresFrom (book_at book index) text store store' (table_at rows)
+    (table_after rows') n here names s r
 
 -- ---- Parts of the model
 -- a use of mark 2, in row n and with a binder

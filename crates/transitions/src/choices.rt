@@ -1,5 +1,4 @@
 // The first side of a choice, and both sides together.
-ghost use Rattle.characters.specs.Slices.{at_entry};
 ghost use Rattle.calls.specs.Table.{InTable, table_at};
 ghost use Rattle.transitions.specs.Steps.{Chosen};
 ghost use Rattle.transitions.specs.LayerContracts.{Short, Fitting, Reaches, first_side};
@@ -20,8 +19,8 @@ fn first_stop(
     list: List,
     state: State,
 ) -> Reached
-    requires { Fitting book index text }
-    ensures { Reaches book index text store here state result (first_side (Next.Elements list) here) }
+    requires { Fitting book.now index.now text.now }
+    ensures { Reaches book.now index.now text.now store.old store.new here state result (first_side (Next.Elements list) here) }
 {
     let spent = spend(state);
     if spent.limit != 0 {
@@ -52,8 +51,8 @@ pub fn first_side(
     next: Next,
     state: State,
 ) -> Reached
-    requires { Fitting book index text }
-    ensures { Reaches book index text store here state result (first_side next here) }
+    requires { Fitting book.now index.now text.now }
+    ensures { Reaches book.now index.now text.now store.old store.new here state result (first_side next here) }
 {
     match next {
         Next::Steps => absent(book, index, text, store, here, state),
@@ -63,8 +62,8 @@ pub fn first_side(
 
 // Both sides of a choice.
 pub fn both_sides(text: &[u8], rows: &[u32], here: Progress, a: Outcome, b: Outcome) -> Outcome
-    requires { InTable here.call rows × Short text }
-    ensures { Chosen (at_entry text) (table_at rows) here.call here.place a b result }
+    requires { InTable here.call rows.now × Short text.now }
+    ensures { Chosen text.now (table_at rows.now) here.call here.place a b result }
 {
     if b.limit != 0 {
         return b;

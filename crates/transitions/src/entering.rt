@@ -2,7 +2,6 @@
 // of mark 2.
 ghost use Rattle.std.specs.Prelude.{◌≡◌, false};
 ghost use Rattle.std.proofs.Math.Option.{some};
-ghost use Rattle.characters.specs.Slices.{at_entry};
 ghost use Rattle.book.specs.Index.{book_at};
 ghost use Rattle.semantics.specs.Numbers.{nonterminal_wanted};
 ghost use Rattle.semantics.specs.Uses.{has_mark};
@@ -59,8 +58,8 @@ fn stored(
     at: u32,
     state: State,
 ) -> Outcome
-    requires { Below row governor rows }
-    ensures { Stores (table_at rows) (table_after rows) governor row nonterminal at state result }
+    requires { Below row governor rows.old }
+    ensures { Stores (table_at rows.old) (table_after rows.new) governor row nonterminal at state result }
 {
     calls::take_stored(rows, row, governor);
     if calls::parse_count(rows, row) == 0 {
@@ -80,8 +79,8 @@ fn claimed(
     binder: u32,
     at: u32,
 ) -> bool
-    requires { InTable row rows }
-    ensures { result ≡ claimed_rows (book_at book index) (at_entry text) (table_at rows) row binder at }
+    requires { InTable row rows.now }
+    ensures { result ≡ claimed_rows (book_at book.now index.now) text.now (table_at rows.now) row binder at }
 {
     let found = tokens::variable_at(book, index, text, rows, row, binder, at as usize);
     if tokens::is_variable(found) {
@@ -104,8 +103,8 @@ fn run_identifier(
     at: u32,
     state: State,
 ) -> Outcome
-    requires { Ready book index text rows row }
-    ensures { Does book index text store rows state result (identifies row binder nonterminal at) }
+    requires { Ready book.now index.now text.now rows.old row }
+    ensures { Does book.now index.now text.now store.old store.new rows.old rows.new state result (identifies row binder nonterminal at) }
 {
     calls::clear_set(rows, row);
     calls::end_call(rows, row);
@@ -136,7 +135,7 @@ fn run_identifier(
 }
 
 fn is_identifier(book: &[u8], index: &[usize], nonterminal: u32) -> bool
-    ensures { result ≡ has_mark (book_at book index) 2 nonterminal }
+    ensures { result ≡ has_mark (book_at book.now index.now) 2 nonterminal }
 {
     let called = book::nonterminal(book, index, nonterminal as usize);
     let mark = called.mark;
@@ -162,8 +161,8 @@ fn open(
     minimum: usize,
     state: State,
 ) -> Entered
-    requires { Ready book index text rows row }
-    ensures { Opens book index text store rows row binder nonterminal at minimum state result }
+    requires { Ready book.now index.now text.now rows.old row }
+    ensures { Opens book.now index.now text.now store.old store.new rows.old rows.new row binder nonterminal at minimum state result }
 {
     if row == 0 {
         return without_runs(without_failure(TOO_DEEP, state));
@@ -203,8 +202,8 @@ pub fn begin_use(
     at: u32,
     state: State,
 ) -> Entered
-    requires { Ready book index text rows row }
-    ensures { BeginsUse book index text store rows row binder nonterminal at state result }
+    requires { Ready book.now index.now text.now rows.old row }
+    ensures { BeginsUse book.now index.now text.now store.old store.new rows.old rows.new row binder nonterminal at state result }
 {
     let spent = spend(state);
     if spent.limit != 0 {

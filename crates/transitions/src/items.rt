@@ -2,7 +2,6 @@
 ghost use Rattle.std.specs.Prelude.{◌≡◌};
 ghost use Rattle.std.proofs.Math.Option.{some};
 ghost use Rattle.book.specs.Book.{nth_variant};
-ghost use Rattle.characters.specs.Slices.{at_entry};
 ghost use Rattle.book.specs.Index.{book_at};
 ghost use Rattle.semantics.specs.Tokens as tokens;
 ghost use Rattle.semantics.specs.Tokens.{is_some};
@@ -39,7 +38,7 @@ fn cell_outcome(cell: u32, state: State) -> CellOutcome
 // The equal cell, or one more.
 pub fn make(text: &[u8], store: &mut [u32], c: CellNumbers, state: State) -> CellOutcome
     ensures { (cell : Cell) → listed c ≡ numbers_of cell →
-        MakesCell text store state result (run.make (at_entry text) cell) }
+        MakesCell text.now store.old store.new state result (run.make text.now cell) }
 {
     match cells::make(text, store, state.cells, c) {
         cells::Made::At { cell, count } => cell_outcome(
@@ -58,7 +57,7 @@ pub fn make(text: &[u8], store: &mut [u32], c: CellNumbers, state: State) -> Cel
 }
 
 fn is_passing(book: &[u8], index: &[usize], j: u32) -> bool
-    ensures { result ≡ (nth_variant (book_at book index) j).passing }
+    ensures { result ≡ (nth_variant (book_at book.now index.now) j).passing }
 {
     let variant = book::variant(book, index, j as usize);
     variant.passing
@@ -73,7 +72,7 @@ pub fn begin(
     j: u32,
     state: State,
 ) -> CellOutcome
-    ensures { MakesCell text store state result (run.begin (book_at book index) (at_entry text) j) }
+    ensures { MakesCell text.now store.old store.new state result (run.begin (book_at book.now index.now) text.now j) }
 {
     if is_passing(book, index, j) {
         cell_outcome(0, state)
@@ -93,7 +92,7 @@ pub fn with_cell(
     item: u32,
     state: State,
 ) -> CellOutcome
-    ensures { MakesCell text store state result (run.with_cell (book_at book index) (at_entry text) j items item) }
+    ensures { MakesCell text.now store.old store.new state result (run.with_cell (book_at book.now index.now) text.now j items item) }
 {
     if is_passing(book, index, j) {
         cell_outcome(item, state)
@@ -128,8 +127,8 @@ pub fn with_token(
     state: State,
 ) -> CellOutcome
     requires { ItemFits item }
-    ensures { MakesCell text store state result
-        (run.with_token (book_at book index) (at_entry text) j items (item_of item)) }
+    ensures { MakesCell text.now store.old store.new state result
+        (run.with_token (book_at book.now index.now) text.now j items (item_of item)) }
 {
     if adds(item) {
         let m = make(text, store, item_numbers(item), state);
@@ -162,7 +161,7 @@ pub fn value(
     items: u32,
     state: State,
 ) -> CellOutcome
-    ensures { MakesCell text store state result (cell_of_value (book_at book index) (at_entry text) j items) }
+    ensures { MakesCell text.now store.old store.new state result (cell_of_value (book_at book.now index.now) text.now j items) }
 {
     if is_passing(book, index, j) {
         cell_outcome(items, state)

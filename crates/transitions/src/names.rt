@@ -4,7 +4,6 @@
 // opening are those of the rows next above the first free one (`names_above` of run_model's Rows), and only their number
 // is handed on.
 ghost use Rattle.std.specs.Prelude.{◌≡◌, ◌<◌};
-ghost use Rattle.characters.specs.Slices.{at_entry};
 ghost use Rattle.transitions.specs.Fit.{Fits};
 ghost use Rattle.transitions.specs.Names.{no_names, not_named, IsNamed};
 ghost use Rattle.transitions.specs.LayerContracts.{Short, Ready, OpensBody, DeclaresName};
@@ -41,8 +40,8 @@ pub fn open_body(
     names: Names,
     state: State,
 ) -> Reached
-    requires { Ready book index text rows here.call }
-    ensures { OpensBody book index text store rows here names state result }
+    requires { Ready book.now index.now text.now rows.now here.call }
+    ensures { OpensBody book.now index.now text.now store.old store.new rows.now here names state result }
 {
     let r = stop(
         book,
@@ -88,8 +87,8 @@ fn not_named(outcome: Outcome) -> Named
 
 // At the place behind a name and perhaps a comma.
 fn behind_name(text: &[u8], end: usize, kinds: u32, state: State) -> Named
-    requires { Short text × Fits end }
-    ensures { IsNamed (at_entry text) end kinds state result }
+    requires { Short text.now × Fits end }
+    ensures { IsNamed text.now end kinds state result }
 {
     let outcome = done(Failure::None, state);
     match tokens::after_element(text, true, end) {
@@ -120,8 +119,8 @@ pub fn declare_name(
     names: Names,
     state: State,
 ) -> Named
-    requires { Ready book index text rows free × (0 < free) }
-    ensures { DeclaresName book index text store rows free here names state result }
+    requires { Ready book.now index.now text.now rows.old free × (0 < free) }
+    ensures { DeclaresName book.now index.now text.now store.old store.new rows.old rows.new free here names state result }
 {
     let at = skipped(text, here.place);
     match tokens::declaration_at(book, index, text, at) {

@@ -24,8 +24,8 @@ fn next_element(
     q: Parse,
     state: State,
 ) -> Stage
-    requires { Fitting book index text }
-    ensures { Stages book index text store here state result (follows (Next.Elements list) (parse_of q) here) }
+    requires { Fitting book.now index.now text.now }
+    ensures { Stages book.now index.now text.now store.old store.new here state result (follows (Next.Elements list) (parse_of q) here) }
 {
     let m = make(text, store, cells::chain(list.values, q.value), state);
     if m.limit != 0 {
@@ -67,8 +67,8 @@ pub fn next_of(
     q: Parse,
     state: State,
 ) -> Stage
-    requires { Fitting book index text }
-    ensures { Stages book index text store here state result (follows next (parse_of q) here) }
+    requires { Fitting book.now index.now text.now }
+    ensures { Stages book.now index.now text.now store.old store.new here state result (follows next (parse_of q) here) }
 {
     match next {
         Next::Steps => then_steps(reached_with(

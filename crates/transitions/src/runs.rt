@@ -25,8 +25,8 @@ fn over(outcome: Outcome) -> RunEnd
 
 // How a run leaves the call of a row, whose variants failed with `failure`.
 fn settled_as(rows: &[u32], row: usize, how: Settled, failure: Failure, state: State) -> RunEnd
-    requires { InTable row rows }
-    ensures { SettledAs (table_at rows) row how failure state result }
+    requires { InTable row rows.now }
+    ensures { SettledAs (table_at rows.now) row how failure state result }
 {
     match how {
         Settled::Failed => {
@@ -51,8 +51,8 @@ fn settled_as(rows: &[u32], row: usize, how: Settled, failure: Failure, state: S
 
 // After the first run of the call of a row.
 pub fn after_first(rows: &mut [u32], row: usize, o: Outcome) -> RunEnd
-    requires { InTable row rows }
-    ensures { FirstEnded (table_at rows) (table_after rows) row o result }
+    requires { InTable row rows.old }
+    ensures { FirstEnded (table_at rows.old) (table_after rows.new) row o result }
 {
     if o.limit != 0 {
         return over(o);
@@ -64,8 +64,8 @@ pub fn after_first(rows: &mut [u32], row: usize, o: Outcome) -> RunEnd
 
 // After a further run.
 pub fn after_round(rows: &mut [u32], row: usize, o: Outcome) -> RunEnd
-    requires { InTable row rows }
-    ensures { RoundEnded (table_at rows) (table_after rows) row o result }
+    requires { InTable row rows.old }
+    ensures { RoundEnded (table_at rows.old) (table_after rows.new) row o result }
 {
     if o.limit != 0 {
         return over(o);

@@ -41,8 +41,8 @@ pub fn finish(
     here: Progress,
     state: State,
 ) -> Outcome
-    requires { Ready book index text rows here.call }
-    ensures { Does book index text store rows state result (completes here) }
+    requires { Ready book.now index.now text.now rows.old here.call }
+    ensures { Does book.now index.now text.now store.old store.new rows.old rows.new state result (completes here) }
 {
     let m = value(book, index, text, store, here.variant, here.items, state);
     let s = m.state;
@@ -70,8 +70,8 @@ pub fn stop(
     place: u32,
     state: State,
 ) -> Reached
-    requires { Fitting book index text }
-    ensures { GoesOn book index text store here state result (stops values closing place here) }
+    requires { Fitting book.now index.now text.now }
+    ensures { GoesOn book.now index.now text.now store.old store.new here state result (stops values closing place here) }
 {
     let m = make(text, store, cells::list(values), state);
     if m.limit != 0 {
@@ -107,7 +107,7 @@ pub fn absent(
     here: Progress,
     state: State,
 ) -> Reached
-    ensures { GoesOn book index text store here state result (omits here) }
+    ensures { GoesOn book.now index.now text.now store.old store.new here state result (omits here) }
 {
     let m = make(text, store, cells::absent(), state);
     if m.limit != 0 {
@@ -167,7 +167,7 @@ fn body_alone(
     body: u32,
     state: State,
 ) -> Stage
-    ensures { Stages book index text store here state result (stands_alone body here) }
+    ensures { Stages book.now index.now text.now store.old store.new here state result (stands_alone body here) }
 {
     let r = absent(book, index, text, store, here, state);
     let outcome = r.outcome;
@@ -191,7 +191,7 @@ fn begin_list(
     place: u32,
     state: State,
 ) -> Stage
-    ensures { StagesAll text store here state result (lists comma names nonterminal closing place here) }
+    ensures { StagesAll text.now store.old store.new here state result (lists comma names nonterminal closing place here) }
 {
     let m = make(text, store, cells::empty(), state);
     let outcome = without_failure(m.limit, m.state);
@@ -220,8 +220,8 @@ fn unopened(
     place: u32,
     state: State,
 ) -> Reached
-    requires { Fitting book index text }
-    ensures { Reaches book index text store here state result (unopens place here) }
+    requires { Fitting book.now index.now text.now }
+    ensures { Reaches book.now index.now text.now store.old store.new here state result (unopens place here) }
 {
     let m = make(text, store, cells::empty(), state);
     if m.limit != 0 {
@@ -253,7 +253,7 @@ fn take_token(
     state: State,
 ) -> Reached
     requires { ItemFits item }
-    ensures { Reaches book index text store here state result (reads (item_of item) next here) }
+    ensures { Reaches book.now index.now text.now store.old store.new here state result (reads (item_of item) next here) }
 {
     reached_with(
         with_token(
@@ -280,8 +280,8 @@ pub fn take_step(
     here: Progress,
     state: State,
 ) -> Stage
-    requires { Ready book index text rows here.call }
-    ensures { StagesIn book index text store rows here state result (takes here) }
+    requires { Ready book.now index.now text.now rows.now here.call }
+    ensures { StagesIn book.now index.now text.now store.old store.new rows.now here state result (takes here) }
 {
     let step = book::step(book, index, here.step as usize);
     let spent = step_unit(step, state);

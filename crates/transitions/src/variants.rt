@@ -1,6 +1,5 @@
 // What a call does before and after a variant's steps, and where a child of it begins.
 ghost use Rattle.std.specs.Prelude.{◌≡◌};
-ghost use Rattle.characters.specs.Slices.{at_entry};
 ghost use Rattle.characters.specs.Skipping.{skip_from};
 ghost use Rattle.book.specs.Index.{book_at};
 ghost use Rattle.run_model.specs.Rows.{with_child};
@@ -24,8 +23,8 @@ pub fn begin_variant(
     j: u32,
     state: State,
 ) -> Reached
-    requires { Ready book index text rows row }
-    ensures { Begins book index text store rows row j state result }
+    requires { Ready book.now index.now text.now rows.old row }
+    ensures { Begins book.now index.now text.now store.old store.new rows.old rows.new row j state result }
 {
     let start = calls::start_of(rows, row);
     let variant = book::variant(book, index, j as usize);
@@ -44,7 +43,7 @@ pub fn after_variant(
     before: Outcome,
     o: Outcome,
 ) -> Outcome
-    ensures { VariantEnded (book_at book index) j start before o result }
+    ensures { VariantEnded (book_at book.now index.now) j start before o result }
 {
     if o.limit != 0 {
         return o;
@@ -60,8 +59,8 @@ pub fn after_variant(
 
 // The child of the path's call begins where skipping leads.
 pub fn begin_child(text: &[u8], rows: &mut [u32], here: Progress) -> u32
-    requires { InTable here.call rows × Short text }
-    ensures { (result ≡ skip_from (at_entry text) here.place) × Changes rows here.call (with_child result) }
+    requires { InTable here.call rows.old × Short text.now }
+    ensures { (result ≡ skip_from text.now here.place) × Changes rows.old rows.new here.call (with_child result) }
 {
     let at = skipped(text, here.place);
     calls::put_child(rows, here.call, at);
