@@ -23,7 +23,7 @@ use Rattle.semantics.specs.Theorem.Results.{ok_inj, none_some, after, option_cas
 use Rattle.semantics.specs.Theorem.Tokens.{AddsFit, token_fits}
 use Rattle.semantics.specs.Theorem.Sets.{Distinct}
 use Rattle.semantics.specs.Theorem.Table.{Table, no_cells, Item, prefix_refl}
-use Rattle.semantics.specs.Theorem.Holding.{Tabled, Grown, Gives, Ready, Left, Wants, List-left, grown_refl}
+use Rattle.semantics.specs.Theorem.Holding.{Tabled, Grown, Gives, Ready, Left, Wants, ListLeft, grown_refl}
 use Rattle.semantics.specs.Theorem.Holding.{grown_then, gives_from, gives_ok, ready_still, gives_set, left_still}
 use Rattle.semantics.specs.Theorem.Holding.{wants_still, wants_take, list_still, naming_left, closing_left}
 use Rattle.semantics.specs.Theorem.Holding.{elements_left, ending_left, holds_none}
@@ -55,7 +55,7 @@ module _ (book : Book) (text : List ℕ) (passing_ok : PassingChild book) where
   stops_give : (c : Call) (j values : ℕ) (close : Option ℕ) (rest : List (Todo ℕ)) (go : Go) →
       GoodGo book text c j rest go →
       (x items : ℕ) (set : List (Parse ℕ)) (s : State) (r : Parsed) → Ready text s.cells c set →
-      List-left book text s.cells j values rest items →
+      ListLeft book text s.cells j values rest items →
       stops book text j values close go x items set s ≡ ok r → Gives text s.cells r
   unfolding stops
   stops_give c j values close rest go good x items set s r h l e =
@@ -91,7 +91,7 @@ module _ (book : Book) (text : List ℕ) (passing_ok : PassingChild book) where
           (plain_next_good book text s.cells c j rest items w) h g entered tried))))))
 
       choice_gives : (comma : Bool) (M values : ℕ) (close : Option ℕ) (x items : ℕ) (set : List (Parse ℕ)) (s : State)
-          (r : Parsed) → Ready text s.cells c set → List-left book text s.cells j values rest items →
+          (r : Parsed) → Ready text s.cells c set → ListLeft book text s.cells j values rest items →
           choice book text inner c j comma M values close rest go x items set s ≡ ok r → Gives text s.cells r
       unfolding choice
       choice_gives comma M values close x items set s₀ r h₀ l₀ e =

@@ -19,7 +19,7 @@ use Rattle.semantics.specs.Theorem.Tokens.{declared_kind}
 use Rattle.semantics.specs.Theorem.Table.{Item, prefix_refl, chain_still}
 use Rattle.semantics.specs.Theorem.Holding.{Tabled, Grown, Gives, Ready, Wants, grown_refl, grown_then}
 use Rattle.semantics.specs.Theorem.Holding.{gives_from, gives_ok, ready_still, ready_after, gives_set, left_still}
-use Rattle.semantics.specs.Theorem.Holding.{wants_still, Binder-left, binder_still, left_naming, left_closing}
+use Rattle.semantics.specs.Theorem.Holding.{wants_still, BinderLeft, binder_still, left_naming, left_closing}
 use Rattle.semantics.specs.Theorem.HoldingCells.{new_kind, new_empty, new_link, new_list, new_absent}
 use Rattle.semantics.specs.Theorem.HoldingCells.{with_cell_onward}
 use Rattle.semantics.specs.Theorem.ForwardCalls.{PassingChild, spend_grown, chosen_gives, Good, plain_next_good}
@@ -55,7 +55,7 @@ module _ (book : Book) (text : List ℕ) (passing_ok : PassingChild book) (inner
       (prefix_refl t.cells) (ready_still all h) entered next))))
 
   pub opens_give : (names : List Entry) (kinds close M x items : ℕ) (set : List (Parse ℕ)) (s : State) (r : Parsed) →
-      Ready text s.cells c set → Binder-left book text s.cells j kinds rest items →
+      Ready text s.cells c set → BinderLeft book text s.cells j kinds rest items →
       opens book text inner c j names kinds close M rest x items set s ≡ ok r → Gives text s.cells r
   unfolding opens
   opens_give names kinds close M x items set s r h l e =
@@ -70,7 +70,7 @@ module _ (book : Book) (text : List ℕ) (passing_ok : PassingChild book) (inner
       (wants_still rest items new.grown.prefix l.wants) new.item l.not_passing (rw there at next))))
 
   declares_give : (names : List Entry) (kinds close M x items : ℕ) (set : List (Parse ℕ)) (s : State) (r : Parsed) →
-      Ready text s.cells c set → Binder-left book text s.cells j kinds rest items →
+      Ready text s.cells c set → BinderLeft book text s.cells j kinds rest items →
       declares book text inner c j names kinds close M rest x items set s ≡ ok r → Gives text s.cells r
   unfolding declares
   declares_give names kinds close M x items set s₀ r h₀ l₀ e =
@@ -89,7 +89,7 @@ module _ (book : Book) (text : List ℕ) (passing_ok : PassingChild book) (inner
       (chain_still text kind.grown.prefix kinds l.chain) kind.item linked in
       let all = grown_then kind.grown new.grown in
       let h' = ready_still all h in
-      let l' : Binder-left book text m.state.cells j m.cell rest items = record {
+      let l' : BinderLeft book text m.state.cells j m.cell rest items = record {
         chain = new.chain;
         wants = wants_still rest items all.prefix l.wants;
         not_passing = l.not_passing;
@@ -104,7 +104,7 @@ module _ (book : Book) (text : List ℕ) (passing_ok : PassingChild book) (inner
       (left_closing l') (rw on at more)))))))))
 
   pub name_choice_gives : (names : List Entry) (kinds close M x items : ℕ) (set : List (Parse ℕ)) (s : State)
-      (r : Parsed) → Ready text s.cells c set → Binder-left book text s.cells j kinds rest items →
+      (r : Parsed) → Ready text s.cells c set → BinderLeft book text s.cells j kinds rest items →
       name_choice book text inner c j names kinds close M rest x items set s ≡ ok r → Gives text s.cells r
   unfolding name_choice
   name_choice_gives names kinds close M x items set s₀ r h₀ l₀ e =

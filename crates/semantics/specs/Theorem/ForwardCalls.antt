@@ -31,7 +31,7 @@ use Rattle.semantics.specs.Theorem.Results.{met_ok, ok_inj, after, option_cases,
 use Rattle.semantics.specs.Theorem.Results.{after_cases, nested_run, chosen_same}
 use Rattle.semantics.specs.Theorem.Tokens.{free_end_within}
 use Rattle.semantics.specs.Theorem.Table.{Item, Prefix, prefix_then, item_still, chain_still}
-use Rattle.semantics.specs.Theorem.Holding.{Tabled, Grown, Held, Gives, Ready, Left, Wants, List-left, grown_refl}
+use Rattle.semantics.specs.Theorem.Holding.{Tabled, Grown, Held, Gives, Ready, Left, Wants, ListLeft, grown_refl}
 use Rattle.semantics.specs.Theorem.Holding.{gives_from, gives_ok, holds_still, ready_still, ready_after}
 use Rattle.semantics.specs.Theorem.Holding.{gives_set, wants_still, left_elements, left_ending, holds_none}
 use Rattle.semantics.specs.Theorem.Holding.{holds_one, holds_kept, holds_all}
@@ -89,14 +89,14 @@ module _ (book : Book) (text : List ℕ) where
 
   pub list_next_good : (C : List Cell) (c : Call) (j : ℕ) (comma : Bool) (M values : ℕ) (close : Option ℕ)
       (rest : List (Todo ℕ)) (items : ℕ) →
-      List-left book text C j values rest items → GoodNext C c (list_next book text c j comma M values close rest items)
+      ListLeft book text C j values rest items → GoodNext C c (list_next book text c j comma M values close rest items)
   unfolding list_next
   list_next_good C c j comma M values close rest items l q s f set r good p h i e =
       after _ _ e (λ m linked ran.
       let new = new_link s m h.tabled values q.value (chain_still text p values l.chain) i linked in
       let h' = ready_still new.grown h in
       let w = wants_still rest items (prefix_then p new.grown.prefix) l.wants in
-      let l' : List-left book text m.state.cells j m.cell rest items =
+      let l' : ListLeft book text m.state.cells j m.cell rest items =
       record { chain = new.chain; wants = w } in
       gives_from new.grown
       (after_cases (after_element text comma q.rest)

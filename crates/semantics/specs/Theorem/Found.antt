@@ -55,7 +55,7 @@ module _ (text : List ℕ) where
       first_or_later t (Memᴰ.head e) k = (p, Memᴰ.head refl, t, e)
       first_or_later t (Memᴰ.tail n) k = later (k n)
 
-  in_whole : {set : List (Parse ℕ)} {p : Parse ℕ} → p ∈ set → whole text p ≡ true → p.value ∈ whole_values text set
+  in_whole : {p : Parse ℕ} {set : List (Parse ℕ)} → p ∈ set → whole text p ≡ true → p.value ∈ whole_values text set
   unfolding whole_values
   in_whole {p = p} (Memᴰ.head {x = q} {xs = set} e) t =
       rw (ap (whole text) (sym e) ∙ t) (Memᴰ.head (ap (λ (z : Parse ℕ). z.value) e))

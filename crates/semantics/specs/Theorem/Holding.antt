@@ -168,19 +168,19 @@ unfolding Values
 wants_take h = record { values = h.values; plain = h.plain; passing = λ t. (h.passing t).1 }
 
 -- a list under way, and what is behind it
-pub record List-left (book : Book) (text : List ℕ) (C : List Cell) (j values : ℕ) (rest : List (Todo ℕ))
+pub record ListLeft (book : Book) (text : List ℕ) (C : List Cell) (j values : ℕ) (rest : List (Todo ℕ))
     (items : ℕ) : Type 0 where
   pub chain : Chain text C values
   pub wants : Wants book text C j rest items
 
 pub list_still : {book : Book} {text : List ℕ} {C C' : List Cell} {j values : ℕ} (rest : List (Todo ℕ)) (items : ℕ) →
-    Prefix C C' → List-left book text C j values rest items → List-left book text C' j values rest items
+    Prefix C C' → ListLeft book text C j values rest items → ListLeft book text C' j values rest items
 list_still {text = text} {values = values} rest items p h =
     record { chain = chain_still text p values h.chain; wants = wants_still rest items p h.wants }
 
 module _ {book : Book} {text : List ℕ} {C : List Cell} {j values : ℕ} {rest : List (Todo ℕ)} {items : ℕ} where
   pub elements_left : {comma : Bool} {M : ℕ} {close : Option ℕ} →
-      Left book text C j (elements comma M values close ∷ rest) items → List-left book text C j values rest items
+      Left book text C j (elements comma M values close ∷ rest) items → ListLeft book text C j values rest items
   unfolding Values
   elements_left h = record {
     chain = h.values.0;
@@ -188,14 +188,14 @@ module _ {book : Book} {text : List ℕ} {C : List Cell} {j values : ℕ} {rest 
   }
 
   pub ending_left : {close : Option ℕ} → Left book text C j (ending values close ∷ rest) items →
-      List-left book text C j values rest items
+      ListLeft book text C j values rest items
   unfolding Values
   ending_left h = record {
     chain = h.values.0;
     wants = record { values = h.values.1; plain = h.plain; passing = λ t. (h.passing t).1 };
   }
 
-  pub left_elements : {comma : Bool} {M : ℕ} {close : Option ℕ} → List-left book text C j values rest items →
+  pub left_elements : {comma : Bool} {M : ℕ} {close : Option ℕ} → ListLeft book text C j values rest items →
       Left book text C j (elements comma M values close ∷ rest) items
   unfolding Values
   left_elements h = record {
@@ -204,7 +204,7 @@ module _ {book : Book} {text : List ℕ} {C : List Cell} {j values : ℕ} {rest 
     passing = λ t. (tt, h.wants.passing t);
   }
 
-  pub left_ending : {close : Option ℕ} → List-left book text C j values rest items →
+  pub left_ending : {close : Option ℕ} → ListLeft book text C j values rest items →
       Left book text C j (ending values close ∷ rest) items
   unfolding Values
   left_ending h = record {
@@ -214,14 +214,14 @@ module _ {book : Book} {text : List ℕ} {C : List Cell} {j values : ℕ} {rest 
   }
 
 -- a binder's names under way, with the chain of their kinds, and what is behind its body: no passing variant has one
-pub record Binder-left (book : Book) (text : List ℕ) (C : List Cell) (j kinds : ℕ) (rest : List (Todo ℕ))
+pub record BinderLeft (book : Book) (text : List ℕ) (C : List Cell) (j kinds : ℕ) (rest : List (Todo ℕ))
     (items : ℕ) : Type 0 where
   pub chain : Chain text C kinds
   pub wants : Wants book text C j rest items
   pub not_passing : (nth_variant book j).passing ≡ true → ⊥
 
 pub binder_still : {book : Book} {text : List ℕ} {C C' : List Cell} {j kinds : ℕ} (rest : List (Todo ℕ)) (items : ℕ) →
-    Prefix C C' → Binder-left book text C j kinds rest items → Binder-left book text C' j kinds rest items
+    Prefix C C' → BinderLeft book text C j kinds rest items → BinderLeft book text C' j kinds rest items
 binder_still {text = text} {kinds = kinds} rest items p h = record {
   chain = chain_still text p kinds h.chain;
   wants = wants_still rest items p h.wants;
@@ -231,7 +231,7 @@ binder_still {text = text} {kinds = kinds} rest items p h = record {
 module _ {book : Book} {text : List ℕ} {C : List Cell} {j kinds : ℕ} {rest : List (Todo ℕ)} {items : ℕ}
     {names : List Entry} {close M : ℕ} where
   pub naming_left : Left book text C j (naming names kinds close M ∷ rest) items →
-      Binder-left book text C j kinds rest items
+      BinderLeft book text C j kinds rest items
   unfolding Values
   naming_left h = record {
     chain = h.values.0;
@@ -240,7 +240,7 @@ module _ {book : Book} {text : List ℕ} {C : List Cell} {j kinds : ℕ} {rest :
   }
 
   pub closing_left : Left book text C j (closing names kinds close M ∷ rest) items →
-      Binder-left book text C j kinds rest items
+      BinderLeft book text C j kinds rest items
   unfolding Values
   closing_left h = record {
     chain = h.values.0;
@@ -248,7 +248,7 @@ module _ {book : Book} {text : List ℕ} {C : List Cell} {j kinds : ℕ} {rest :
     not_passing = λ t. (h.passing t).0;
   }
 
-  pub left_naming : Binder-left book text C j kinds rest items →
+  pub left_naming : BinderLeft book text C j kinds rest items →
       Left book text C j (naming names kinds close M ∷ rest) items
   unfolding Values
   left_naming h = record {
@@ -257,7 +257,7 @@ module _ {book : Book} {text : List ℕ} {C : List Cell} {j kinds : ℕ} {rest :
     passing = λ t. absurd (h.not_passing t);
   }
 
-  pub left_closing : Binder-left book text C j kinds rest items →
+  pub left_closing : BinderLeft book text C j kinds rest items →
       Left book text C j (closing names kinds close M ∷ rest) items
   unfolding Values
   left_closing h = record {

@@ -39,7 +39,7 @@ sift_more false a m = m
 sift_first : {A : Type 0} (b : Bool) (a : A) (l : List A) {p : A} → p ≡ a → b ≡ true → p ∈ cond b (a ∷ l) l
 sift_first b a l d e = rw e (Memᴰ.head d)
 
-pub sift_in : {A : Type 0} (k : A → Bool) {l : List A} {p : A} → p ∈ l → k p ≡ true → p ∈ sift k l
+pub sift_in : {A : Type 0} (k : A → Bool) {p : A} {l : List A} → p ∈ l → k p ≡ true → p ∈ sift k l
 unfolding sift
 sift_in k (Memᴰ.head {x = a} {xs = l} d) e = sift_first (k a) a (sift k l) d (ap k (sym d) ∙ e)
 sift_in k (Memᴰ.tail {x = a} m) e = sift_more (k a) a (sift_in k m e)

@@ -110,12 +110,12 @@ unfolding has
 has_tail set p q true e h = rw e
 has_tail set p q false e h = rw e h
 
-pub in_has : (set : List (Parse ℕ)) (p : Parse ℕ) → p ∈ set → has set p ≡ true
-in_has set p (Memᴰ.head {x = q} {xs = others} e) = has_head others p q e
-in_has set p (Memᴰ.tail {x = q} {xs = others} m) = has_tail others p q (same_parse p q) refl (in_has others p m)
+pub in_has : (p : Parse ℕ) (set : List (Parse ℕ)) → p ∈ set → has set p ≡ true
+in_has p set (Memᴰ.head {x = q} {xs = others} e) = has_head others p q e
+in_has p set (Memᴰ.tail {x = q} {xs = others} m) = has_tail others p q (same_parse p q) refl (in_has p others m)
 
 pub has_not : (set : List (Parse ℕ)) (p : Parse ℕ) → has set p ≡ false → p ∈ set → ⊥
-has_not set p e m = false≢true (sym e ∙ in_has set p m)
+has_not set p e m = false≢true (sym e ∙ in_has p set m)
 
 pub all_in_lem : (set ps : List (Parse ℕ)) → all_in set ps ≡ true → (p : Parse ℕ) → p ∈ ps → p ∈ set
 unfolding all_in

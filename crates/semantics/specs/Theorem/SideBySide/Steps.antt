@@ -51,7 +51,7 @@ module _ {book : Book} {text : List ℕ} (L : Laws book text) where
         cell_then L s _ _ (make_alike L s _) (λ n t.
         after_cases (after_element text comma q.rest)
         (λ y on. rw on (h k c j _ y items set t (L.goes_on_lem comma q.rest y place on) good))
-        (λ y ends. rw ends (h k c j _ y items set t (L.Halts-at comma q.rest y place ends) good)))
+        (λ y ends. rw ends (h k c j _ y items set t (L.halts_at comma q.rest y place ends) good)))
 
     -- both sides of a choice
     chosen_alike : (at : ℕ) (a : Option Error) (set : List (Parse ℕ)) (e : Option Error) (s : Pair L (suc k)) →
@@ -244,7 +244,7 @@ module _ {book : Book} {text : List ℕ} (L : Laws book text) where
             cell_then L v _ _ (make_alike L v _) (λ m r.
             after_cases (after_element text true d.end)
             (λ y on. rw on (h k c j _ y items set r (L.goes_on_lem true d.end y ended on) good))
-            (λ y ends. rw ends (h k c j _ y items set r (L.Halts-at true d.end y ended ends) good))))))))
+            (λ y ends. rw ends (h k c j _ y items set r (L.halts_at true d.end y ended ends) good))))))))
 
         name_choice_alike :
             AlikeGo L (suc k) (name_choice book text i₁ (first_call L c) j names kinds close M rest)
