@@ -5,7 +5,7 @@
 -- what is seen of the model's function.
 use Rattle.std.specs.Prelude.{◌≡◌, Bool, false, leb, get_or}
 use Rattle.std.proofs.Math.Path.{refl, sym, ap}
-use Rattle.std.proofs.Common.{◌∙◌, arith, le-ltb}
+use Rattle.std.proofs.Common.{subst, ◌∙◌, arith, le-ltb}
 use mathlib.Core.List.{List, [], ◌∷◌}
 use Rattle.std.proofs.Math.Option.{Option, none, some}
 use Prim.Native.Nat.{ℕ, zero, suc, ◌-◌, ◌<◌, ◌≤◌}
@@ -123,8 +123,10 @@ module _ (book : Book) (text : List ℕ) (m : ℕ) (S : RowRunner) (R : Runner) 
       let D = call_of text T n in
       let g : Standing text D n T = standing_self C T h in
       let r = row_of T n in
-      let same : D ≡ C = h.call in
-      rw (← same)
+      subst
+      (λ (c : Call). variants book text R c least (suc k) j (row_of T n).run e (state_at n (row_state units cells T))
+      ≡ see (ran_at n) (variants_rows book text S n least (suc k) j e (row_state units cells T)))
+      h.call
       (when_see (ran_at n) (leb least (nth_variant book j).level) _ _ _ _
       (λ _.
       makes_see (ran_at n) (begin book text j) (plain_begin book text j) (row_state units cells T)
