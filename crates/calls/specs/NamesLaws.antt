@@ -106,16 +106,16 @@ module _ (text : List ℕ) (T : List Row) where
 -- ---- The names of one binder
 module _ (text : List ℕ) (T : List Row) (wanted : List ℕ) where
   -- of n + 1 names above row i, the nearest decides first
-  nearest : (found : Found) (j n i : ℕ) →
+  nearest : (j n i : ℕ) (found : Found) →
       lookup_from found j (names_above text T (suc n) i) wanted
       ≡ cond (same wanted (entry_at text (row_of T (suc i))).spelling) (Found.Name (j + n) (row_of T (suc i)).kind)
       (lookup_from found j (names_above text T n (suc i)) wanted)
   unfolding names_above lookup_from
-  nearest found j zero i = let e : i + 1 ≡ suc i = omega arith in rw (e, add-zero)
-  nearest found j (suc n) i =
+  nearest j zero i found = let e : i + 1 ≡ suc i = omega arith in rw (e, add-zero)
+  nearest j (suc n) i found =
       let e : i + suc (suc n) ≡ suc i + suc n = omega arith in
       let f : j + suc n ≡ suc j + n = omega arith in
-      rw (e, f) (nearest _ (suc j) n i)
+      rw (e, f) (nearest (suc j) n i _)
 
   -- the loop stands at row i, with n names to go; they decide as the m above row c do
   abbrev pub Looking : ℕ → ℕ → ℕ → ℕ → Type 0
@@ -131,7 +131,7 @@ module _ (text : List ℕ) (T : List Row) (wanted : List ℕ) where
         let g : j ≡ suc i = omega arith in
         let z : 0 + (n - 1) ≡ n - 1 = omega arith in
         ap (λ n. lookup_name (names_above text T n i) wanted) f
-        ∙ nearest Found.Nothing 0 (n - 1) i ∙ rw (e, g, z)
+        ∙ nearest 0 (n - 1) i Found.Nothing ∙ rw (e, g, z)
 
     looking_hit : t ≡ true → Found.Name (n - 1) (row_of T j).kind ≡ lookup_name (names_above text T m c) wanted
     looking_hit y = sym (one_less ∙ rw y) ∙ s

@@ -16,7 +16,7 @@ use transitions::{
 const MOST_ROUNDS: usize = 65;
 
 // "it is run again until a run fails or adds nothing".
-#[cycle(call_enter_rounds_choose_close_declare_choice_descend_follow_one_run_steps_variant)]
+#[cycle(descent)]
 fn rounds(
     book: &[u8],
     index: &[usize],
@@ -46,7 +46,7 @@ fn rounds(
 }
 
 // A first run, and more if it asked for its own parses.
-#[cycle(call_enter_rounds_choose_close_declare_choice_descend_follow_one_run_steps_variant)]
+#[cycle(descent)]
 fn call(
     book: &[u8],
     index: &[usize],
@@ -75,7 +75,7 @@ fn call(
 
 // A use of a nonterminal at a skipped place, in a row and with a binder: one unit, the governor, then one level of
 // nesting. Its parses are what the row found.
-#[cycle(call_enter_rounds_choose_close_declare_choice_descend_follow_one_run_steps_variant)]
+#[cycle(descent)]
 pub fn enter(
     book: &[u8],
     index: &[usize],

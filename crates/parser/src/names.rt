@@ -11,7 +11,7 @@ use transitions::{
 };
 
 // They stop, and the body behind them is called.
-#[cycle(call_enter_rounds_choose_close_declare_choice_descend_follow_one_run_steps_variant)]
+#[cycle(descent)]
 fn close(
     book: &[u8],
     index: &[usize],
@@ -58,7 +58,7 @@ fn close(
 }
 
 // One name more, and what follows it, one level further in.
-#[cycle(call_enter_rounds_choose_close_declare_choice_descend_follow_one_run_steps_variant)]
+#[cycle(descent)]
 fn declare(
     book: &[u8],
     index: &[usize],
@@ -109,7 +109,7 @@ fn declare(
 }
 
 // Stop comes before one more; one unit for both.
-#[cycle(call_enter_rounds_choose_close_declare_choice_descend_follow_one_run_steps_variant)]
+#[cycle(descent)]
 pub fn choose(
     book: &[u8],
     index: &[usize],

@@ -22,7 +22,7 @@ use transitions::{
 
 // ---- Variants
 // One variant of the call of a row, if its level reaches the minimum; `before` is what the variants before it gave.
-#[cycle(call_enter_rounds_choose_close_declare_choice_descend_follow_one_run_steps_variant)]
+#[cycle(descent)]
 fn variant(
     book: &[u8],
     index: &[usize],
@@ -67,7 +67,7 @@ fn variant(
 }
 
 // One run of the call of a row.
-#[cycle(call_enter_rounds_choose_close_declare_choice_descend_follow_one_run_steps_variant)]
+#[cycle(descent)]
 pub fn one_run(
     book: &[u8],
     index: &[usize],
@@ -100,7 +100,7 @@ pub fn one_run(
 
 // ---- Children
 // The call of a child at the place reached, the Rust's `recurse`, and what follows its parses.
-#[cycle(call_enter_rounds_choose_close_declare_choice_descend_follow_one_run_steps_variant)]
+#[cycle(descent)]
 fn descend(
     book: &[u8],
     index: &[usize],
@@ -134,7 +134,7 @@ fn descend(
 }
 
 // What follows each parse that the row found, one level further in.
-#[cycle(call_enter_rounds_choose_close_declare_choice_descend_follow_one_run_steps_variant)]
+#[cycle(descent)]
 pub fn follow(
     book: &[u8],
     index: &[usize],
@@ -186,7 +186,7 @@ pub fn follow(
 
 // ---- Choices
 // An optional child, or the elements of a list: absent, or stop, comes before one more.
-#[cycle(call_enter_rounds_choose_close_declare_choice_descend_follow_one_run_steps_variant)]
+#[cycle(descent)]
 fn choice(
     book: &[u8],
     index: &[usize],
@@ -243,7 +243,7 @@ fn choice(
 // ---- Steps
 // Goes on from where a path is: first what comes next, then the steps that remain, up to a child or to the variant's
 // end. A path that a limit or a failure has ended stays ended.
-#[cycle(call_enter_rounds_choose_close_declare_choice_descend_follow_one_run_steps_variant)]
+#[cycle(descent)]
 fn steps(
     book: &[u8],
     index: &[usize],

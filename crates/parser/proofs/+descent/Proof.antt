@@ -40,7 +40,7 @@ use mathlib.Core.List.{List}
 use borrow.Fn.Kind.{ParamKind}
 use borrow.Fn.Kinds.{In}
 use borrow.Fn.PlainCycle.{Measures, is, falls, and}
-use Rattle.parser.proofs.+call_enter_rounds_choose_close_declare_choice_descend_follow_one_run_steps_variant as cycle
+use Rattle.parser.proofs.+descent as cycle
 use Rattle.parser.proofs.left_recursion.enter.Reads as left-recursion::enter
 use Rattle.parser.proofs.left_recursion.enter.Kinds as left-recursion::enter-kinds
 use cycle.Lts-left_recursion-enter as left-recursion::enter-lts
