@@ -3,7 +3,8 @@ use Rattle.book.specs.BinderLaws.{sought_other, sought_any, sought_variant, soug
 use Rattle.book.proofs.binders.is_sought.Goals as goal
 
 pub returns-then-not-is_binder : goal.returns-then-not-is_binder
-returns-then-not-is_binder c = sought_other c.args.book.now c.args.index.now _ _ c.nonterminal-own.ensures c.args.sought _
+returns-then-not-is_binder c = sought_other c.args.book.now c.args.index.now _ _ c.nonterminal-own.ensures
+    c.args.sought _
     c.is_binder.ensures (c.if-not-is_binder.true)
 
 pub returns-in-Any : goal.returns-in-Any

@@ -5,7 +5,8 @@ use Rattle.book.specs.Index.{verdict_of}
 use Rattle.book.proofs.checking.checked.Goals as goal
 
 pub returns-in_default : goal.returns-in_default
-returns-in_default c = rw (c.refusal.ensures ∙ ap verdict_of c.in_default.is) (checks_sections _ _ _ _ c.five_sections-sections.ensures c.in_default.is)
+returns-in_default c = rw (c.refusal.ensures ∙ ap verdict_of c.in_default.is)
+    (checks_sections _ _ _ _ c.five_sections-sections.ensures c.in_default.is)
 
 pub returns-in_default-passed : goal.returns-in_default-passed
 returns-in_default-passed c = let five-sections =

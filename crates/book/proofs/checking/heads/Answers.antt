@@ -6,7 +6,8 @@ pub returns-in_default : goal.returns-in_default
 returns-in_default c = heads_words _ _ _ _ c.section-words.ensures c.in_default.is
 
 pub returns-in_default-names : goal.returns-in_default-names
-returns-in_default-names c = heads_names _ _ _ _ c.section-words.ensures _ _ c.in-Read.is _ _ c.section-names.ensures c.in_default-names.is
+returns-in_default-names c = heads_names _ _ _ _ c.section-words.ensures _ _ c.in-Read.is _ _ c.section-names.ensures
+    c.in_default-names.is
 
 pub returns : goal.returns
 returns c = heads_all _ _ _ _ c.section-words.ensures _ _ c.in-Read.is _ _ c.section-names.ensures _ _

@@ -4,7 +4,8 @@ use Rattle.book.specs.Index.{book_in}
 use Rattle.book.proofs.checking.passes.Goals as goal
 
 pub returns-then-v-eq1 : goal.returns-then-v-eq1
-returns-then-v-eq1 c = passes_one (book_in c.args.book.now c.args.index.now).steps _ _ c.variant-v.ensures c.if-v.true c.if-v-eq1.true _ _
+returns-then-v-eq1 c = passes_one (book_in c.args.book.now c.args.index.now).steps _ _ c.variant-v.ensures c.if-v.true
+    c.if-v-eq1.true _ _
     c.step.ensures c.step_number.ensures
 
 pub returns-then-v : goal.returns-then-v

@@ -23,7 +23,8 @@ loop-i-smaller c = omega (arith, c.loop-i-test.true)
 
 pub loop-i-preserved : goal.loop-i-preserved
 unfolding book_in
-loop-i-preserved c = sym (reserved_on c.part-wanted.result.now (book_in c.args.book.now c.args.index.now).words c.loop-i.i
+loop-i-preserved c = sym (reserved_on c.part-wanted.result.now (book_in c.args.book.now c.args.index.now).words
+    c.loop-i.i
     (omega (arith, c.loop-i-test.true, c.count-words.ensures, words_length c.args.book.now c.args.index.now))
     (sym c.reserved_as.ensures ∙ c.if-reserved_as.false)) ∙ c.loop-i.invariant
 

@@ -7,7 +7,8 @@ use Rattle.book.proofs.names.lookup.Goals as goal
 pub loop-i-init : goal.loop-i-init
 loop-i-init c = (
   omega (arith, c.count-names.ensures),
-  ap (lookup_below c.args.book.now c.args.index.now c.part-wanted.result.now) c.count-names.ensures ∙ sym (lookup_all c.args.book.now c.args.index.now c.part-wanted.result.now),
+  ap (lookup_below c.args.book.now c.args.index.now c.part-wanted.result.now) c.count-names.ensures ∙ sym
+      (lookup_all c.args.book.now c.args.index.now c.part-wanted.result.now),
 )
 
 pub overflow_sub-last : goal.overflow_sub-last
@@ -52,4 +53,5 @@ loop-i-preserved c = let loop = c.loop-i in
 
 pub returns : goal.returns
 returns c = sym (rw c.part-wanted.ensures
-    at (sym c.loop-i.invariant.1 ∙ lookup_none c.args.book.now c.args.index.now c.part-wanted.result.now c.loop-i.i c.loop-i-test.false))
+    at (sym c.loop-i.invariant.1 ∙ lookup_none c.args.book.now c.args.index.now c.part-wanted.result.now c.loop-i.i
+    c.loop-i-test.false))

@@ -6,7 +6,8 @@ use Rattle.book.specs.ReadingLaws.{lookup_below}
 use Rattle.book.proofs.names.lookup.Given as goal
 
 abbrev pub invariant-loop-i : goal.invariant-loop-i
-invariant-loop-i l = (l.i ≤ count_in l.index 129) × (lookup_below l.book l.index l.wanted l.i ≡ lookup_name (book_in l.book l.index).names l.wanted)
+invariant-loop-i l = (l.i ≤ count_in l.index 129) ×
+    (lookup_below l.book l.index l.wanted l.i ≡ lookup_name (book_in l.book l.index).names l.wanted)
 
 abbrev pub decreases-loop-i : goal.decreases-loop-i
 decreases-loop-i l = l.i

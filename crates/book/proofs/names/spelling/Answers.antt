@@ -5,7 +5,8 @@ use Rattle.book.specs.ReadingLaws.{entry_in, entry_out}
 use Rattle.book.proofs.names.spelling.Goals as goal
 
 pub returns-then-i-count : goal.returns-then-i-count
-returns-then-i-count c = c.spelling_from.ensures ∙ ap (λ (e : Entry). e.spelling) (sym (entry_in c.args.book.now c.args.index.now
+returns-then-i-count c = c.spelling_from.ensures ∙ ap (λ (e : Entry). e.spelling)
+    (sym (entry_in c.args.book.now c.args.index.now
     c.args.base c.args.i _ _ c.count.ensures c.if-i-count.true c.place.ensures))
 
 pub returns-else-i-count : goal.returns-else-i-count

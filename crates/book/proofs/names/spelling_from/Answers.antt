@@ -7,4 +7,6 @@ pub returns-then-at-book : goal.returns-then-at-book
 returns-then-at-book c = c.part.ensures ∙ rw c.number_after.ensures
 
 pub returns-else-at-book : goal.returns-else-at-book
-returns-else-at-book c = c.part-else-at-book.ensures ∙ sym (part_out c.args.book.now (c.args.at + 2) (get_or c.args.book.now (c.args.at + 1) 0) (omega (arith, c.if-at-book.false)))
+returns-else-at-book c = c.part-else-at-book.ensures ∙ sym
+    (part_out c.args.book.now (c.args.at + 2) (get_or c.args.book.now (c.args.at + 1) 0)
+    (omega (arith, c.if-at-book.false)))

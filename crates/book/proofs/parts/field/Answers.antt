@@ -12,4 +12,5 @@ pub returns-then-high-value : goal.returns-then-high-value
 returns-then-high-value c = field_high _ _ _ _ _ _ _ c.if-book-place.false c.byte_at-value.ensures c.if-high-value.true
 
 pub returns : goal.returns
-returns c = field_read _ _ _ _ _ _ _ c.if-book-place.false c.byte_at-value.ensures c.if-value-low.false c.if-high-value.false
+returns c = field_read _ _ _ _ _ _ _ c.if-book-place.false c.byte_at-value.ensures c.if-value-low.false
+    c.if-high-value.false

@@ -47,10 +47,15 @@ pub returns-in-13 : goal.returns-in-13
 returns-in-13 c = rw (c.in-13.is, c.below-nonterminal.ensures)
 
 pub returns-in_default : goal.returns-in_default
-returns-in_default c = rw (between_over 0 13 c.args.kind (past 13 (past 12 (past 11 (past 10 (past 9 (past 8 (past 7 (past 6
-    (past 5 (past 4 (past 3 (past 2 (past 1 (past 0 (omega arith) c.in_default.in_default-own.rest.0.0.0.0.0.0.0.0.0.0.0.0.0.1)
-    c.in_default.in_default-own.rest.0.0.0.0.0.0.0.0.0.0.0.0.1) c.in_default.in_default-own.rest.0.0.0.0.0.0.0.0.0.0.0.1)
+returns-in_default c = rw (between_over 0 13 c.args.kind
+    (past 13 (past 12 (past 11 (past 10 (past 9 (past 8 (past 7 (past 6
+    (past 5 (past 4 (past 3 (past 2 (past 1 (past 0 (omega arith)
+    c.in_default.in_default-own.rest.0.0.0.0.0.0.0.0.0.0.0.0.0.1)
+    c.in_default.in_default-own.rest.0.0.0.0.0.0.0.0.0.0.0.0.1)
+    c.in_default.in_default-own.rest.0.0.0.0.0.0.0.0.0.0.0.1)
     c.in_default.in_default-own.rest.0.0.0.0.0.0.0.0.0.0.1) c.in_default.in_default-own.rest.0.0.0.0.0.0.0.0.0.1)
-    c.in_default.in_default-own.rest.0.0.0.0.0.0.0.0.1) c.in_default.in_default-own.rest.0.0.0.0.0.0.0.1) c.in_default.in_default-own.rest.0.0.0.0.0.0.1)
-    c.in_default.in_default-own.rest.0.0.0.0.0.1) c.in_default.in_default-own.rest.0.0.0.0.1) c.in_default.in_default-own.rest.0.0.0.1) c.in_default.in_default-own.rest.0.0.1)
+    c.in_default.in_default-own.rest.0.0.0.0.0.0.0.0.1) c.in_default.in_default-own.rest.0.0.0.0.0.0.0.1)
+    c.in_default.in_default-own.rest.0.0.0.0.0.0.1)
+    c.in_default.in_default-own.rest.0.0.0.0.0.1) c.in_default.in_default-own.rest.0.0.0.0.1)
+    c.in_default.in_default-own.rest.0.0.0.1) c.in_default.in_default-own.rest.0.0.1)
     c.in_default.in_default-own.rest.0.1) c.in_default.in_default-own.rest.1))

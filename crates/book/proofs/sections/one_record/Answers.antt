@@ -14,7 +14,8 @@ pub returns-else-binders : goal.returns-else-binders
 returns-else-binders c = rw (c.in-Variant.is, c.if-binders.false) (c.variant-else-binders.ensures _)
 
 pub returns-then-binders-2 : goal.returns-then-binders-2
-returns-then-binders-2 c = rw (c.in-Step.is, c.if-binders-2.true, ← c.has_binder-binder-then-binders-2.ensures) (c.step.ensures _)
+returns-then-binders-2 c = rw (c.in-Step.is, c.if-binders-2.true, ← c.has_binder-binder-then-binders-2.ensures)
+    (c.step.ensures _)
 
 pub returns-else-binders-2 : goal.returns-else-binders-2
 returns-else-binders-2 c = rw (c.in-Step.is, c.if-binders-2.false) (c.step-else-binders-2.ensures _)

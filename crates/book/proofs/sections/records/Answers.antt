@@ -31,7 +31,8 @@ returns-in_default c = let loop-test =
     let loop =
     c.loop-i in
     begun_stop _ _ _ _ _ _ _ _ _ _ _ loop-test.true loop.invariant.3
-    (stored_by _ _ _ _ _ _ (omega (arith, c.requires.0, loop-test.true, loop.invariant.1)) c.put.ensures c.put-in-loop-i.ensures)
+    (stored_by _ _ _ _ _ _ (omega (arith, c.requires.0, loop-test.true, loop.invariant.1)) c.put.ensures
+    c.put-in-loop-i.ensures)
     c.requires.2 _ c.one_record-part.ensures c.in_default.is
 
 pub overflow_add-sum : goal.overflow_add-sum
@@ -66,7 +67,8 @@ loop-i-preserved c = let loop-test =
       c.put-in-loop-i.auto.index ∙ c.put.auto.index ∙ loop.invariant.1,
       omega (arith, loop.invariant.2, small_of c.in-Read.is c.one_record-part.ensures.small),
       begun_on _ _ _ _ _ _ _ _ _ _ _ loop-test.true loop.invariant.3
-          (stored_by _ _ _ _ _ _ (omega (arith, c.requires.0, loop-test.true, loop.invariant.1)) c.put.ensures c.put-in-loop-i.ensures)
+          (stored_by _ _ _ _ _ _ (omega (arith, c.requires.0, loop-test.true, loop.invariant.1)) c.put.ensures
+          c.put-in-loop-i.ensures)
           c.requires.2 _ _ _ c.one_record-part.ensures c.in-Read.is,
     )
 

@@ -5,7 +5,8 @@ use Rattle.book.specs.SectionLaws.{section_stop, section_read, count_fits, put_b
 use Rattle.book.proofs.sections.section.Goals as goal
 
 pub returns-in_default : goal.returns-in_default
-returns-in_default c = section_stop _ _ _ _ _ _ _ _ (stopped _ _ _ c.field-count.ensures c.in_default.is) c.in_default.is
+returns-in_default c = section_stop _ _ _ _ _ _ _ _ (stopped _ _ _ c.field-count.ensures c.in_default.is)
+    c.in_default.is
 
 pub records-requires : goal.records-requires
 records-requires c = let few =

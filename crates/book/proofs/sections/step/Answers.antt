@@ -7,7 +7,8 @@ use Rattle.book.specs.declared.sections.Sort.{Sort}
 use Rattle.book.proofs.sections.step.Goals as goal
 
 pub returns-in_default : goal.returns-in_default
-returns-in_default c binders = one_refused (Sort.Step c.args.words c.args.nonterminals binders) c.args.binder _ _ _ c.in_default.is
+returns-in_default c binders = one_refused (Sort.Step c.args.words c.args.nonterminals binders) c.args.binder _ _ _
+    c.in_default.is
     (step_stop_kind _ _ binders _ _ _ (stopped _ _ _ c.field-kind.ensures c.in_default.is))
 
 pub returns-in_default-step_arguments : goal.returns-in_default-step_arguments
@@ -32,7 +33,8 @@ returns-in_default-second c binders = let step-arguments =
     let known = allowed_known _ _ _ _ _ _ (sym c.in-Ranges.is ∙ step-arguments.ensures) in
     let first_read = read _ _ _ c.field-first.ensures c.in-Read-first.is in
     one_refused (Sort.Step c.args.words c.args.nonterminals binders) c.args.binder _ _ _ c.in_default-second.is
-    (step_stop_b _ _ binders _ _ _ _ _ kind_read _ _ known _ _ first_read (stopped _ _ _ c.field-second.ensures c.in_default-second.is))
+    (step_stop_b _ _ binders _ _ _ _ _ kind_read _ _ known _ _ first_read
+    (stopped _ _ _ c.field-second.ensures c.in_default-second.is))
 
 pub returns-in_default-third : goal.returns-in_default-third
 returns-in_default-third c binders = let args = c.args in

@@ -4,7 +4,11 @@ use Rattle.book.specs.ReaderLaws.{read, stopped, handed, no_value}
 use Rattle.book.proofs.spellings.spelling.Goals as goal
 
 pub returns-in_default : goal.returns-in_default
-returns-in_default c = (handed _ (spelling_stop _ _ (stopped _ _ _ c.field-size.ensures c.in_default.is)) c.in_default.is, no_value c.in_default.is 0)
+returns-in_default c = (
+  handed _ (spelling_stop _ _ (stopped _ _ _ c.field-size.ensures c.in_default.is))
+      c.in_default.is,
+  no_value c.in_default.is 0,
+)
 
 pub returns : goal.returns
 returns c = (

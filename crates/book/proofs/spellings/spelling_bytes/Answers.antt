@@ -11,7 +11,8 @@ loop-i-init c = (search rules, begun_first _ _ _ _)
 pub returns-in_default : goal.returns-in_default
 returns-in_default c = (
   handed _
-      (begun_stop _ _ _ _ _ _ c.loop-i-test.true c.loop-i.invariant.1 (stopped _ _ _ c.spelling_byte-byte.ensures c.in_default.is)) c.in_default.is,
+      (begun_stop _ _ _ _ _ _ c.loop-i-test.true c.loop-i.invariant.1
+      (stopped _ _ _ c.spelling_byte-byte.ensures c.in_default.is)) c.in_default.is,
   no_value c.in_default.is 0,
 )
 
