@@ -5,7 +5,7 @@
 // `line_bytes` by the contract of `print_part`: a value's line can be far longer than its text. `load` gives a file's
 // bytes. Neither has a `requires`.
 //
-// The crate relies on the promises of `run`, `printing` and `book`, and on `File` and `Print` of std, whose contracts say
+// The crate relies on the promises of `run`, `printing` and `book`, and on `fs` and `io` of std, whose contracts say
 // nothing of what a file holds or of what is written.
 #![tactic(auto)]
 
