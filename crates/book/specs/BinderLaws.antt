@@ -4,7 +4,8 @@
 --   sought-                   whether a nonterminal is the one that is looked for
 --   binder_on, -hit, -end     the loop over them
 --   among_any                 the one that is looked for is one of any
-use Rattle.std.specs.Prelude.{◌≡◌, refl, Bool, true, false, ◌&&◌, ◌||◌, List, [], ◌∷◌, ℕ, ◌+◌, ◌≤◌, ◌<◌, eqb, length, get_or, drop}
+use Rattle.std.specs.Prelude.{◌≡◌, refl, Bool, true, false, ◌&&◌, ◌||◌, List, [], ◌∷◌, ℕ, ◌+◌, ◌≤◌, ◌<◌, eqb, length}
+use Rattle.std.specs.Prelude.{get_or, drop}
 use Rattle.std.proofs.Common.{sym, ◌∙◌, arith, add-one, drop_of_length-le, drop-cons}
 use Rattle.book.specs.Book.{mark_number, no_variant}
 use Rattle.book.specs.Check.{of_binder}

@@ -12,7 +12,7 @@
 -- book are.
 use Rattle.std.specs.Prelude.{◌≡◌, Bool, true, ltb, eqb, length, get_or, take}
 use Rattle.std.proofs.Math.Path.{refl}
-use Rattle.std.proofs.Common.{sym, ap, ◌∙◌, arith, mul-le-mul_right, length-take, get_or-take}
+use Rattle.std.proofs.Common.{ap, ◌∙◌, arith, mul-le-mul_right, length-take, get_or-take}
 use Rattle.std.proofs.Math.Bool.{and-eq-true_iff}
 use mathlib.Core.List.{List, [], ◌∷◌}
 use Prim.Native.Nat.{ℕ, zero, suc, ◌+◌, ◌*◌, ◌≤◌, ◌<◌, min}

@@ -72,7 +72,8 @@ module _ (book index : List ℕ) where
   module _ (i : ℕ) where
     pub nonterminal_in : (count at byte first number : ℕ) (mark : Mark) → count ≡ count_in index 258 → i < count →
         at ≡ place_in index 258 i →
-        byte ≡ get_or book (at + 0) 0 → mark ≡ mark_of byte → first ≡ first_in index 258 i → number ≡ get_or book (at + 1) 0 →
+        byte ≡ get_or book (at + 0) 0 → mark ≡ mark_of byte → first ≡ first_in index 258 i → number ≡ get_or book
+        (at + 1) 0 →
         ◌≡◌ {A = Nonterminal} (record { mark = mark; first = first; count = number })
         (nth_nonterminal (book_in book index) i)
     unfolding book_in
@@ -117,7 +118,8 @@ module _ (book index : List ℕ) where
 
   module _ (k : ℕ) where
     pub step_in : (count at kind a b c : ℕ) (step : Step) → count ≡ count_in index 580 → k < count →
-        at ≡ place_in index 580 k → kind ≡ get_or book (at + 0) 0 → a ≡ get_or book (at + 1) 0 → b ≡ get_or book (at + 2) 0 →
+        at ≡ place_in index 580 k → kind ≡ get_or book (at + 0) 0 → a ≡ get_or book (at + 1) 0 → b ≡ get_or book
+        (at + 2) 0 →
         c ≡ get_or book (at + 3) 0 → step ≡ step_of kind a b c → step ≡ nth_step (book_in book index).steps k
     unfolding book_in
     step_in count at kind a b c step c_is h at-is k_is a_is b_is c_is' s_is =

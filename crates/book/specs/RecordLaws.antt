@@ -5,7 +5,7 @@
 --   past, Known, allowed_known, -refused     what the dispatch over the kinds of steps tells
 --
 -- Not here: words and names (EntryLaws).
-use Rattle.std.specs.Prelude.{◌≡◌, Bool, true, false, cond, List, ℕ, ◌+◌, ◌-◌, ◌≤◌, ◌<◌, leb, ltb, eqb, length}
+use Rattle.std.specs.Prelude.{◌≡◌, Bool, true, false, cond, List, ℕ, ◌+◌, ◌-◌, ◌≤◌, leb, ltb, eqb, length}
 use Rattle.std.proofs.Math.Path.{refl}
 use Rattle.std.proofs.Common.{sym, ap, ◌∙◌, arith, le-ltb, eqb-true, leb-true, leb-false, ltb-true, ltb-false}
 use Rattle.std.proofs.Math.ListN.{get_or}
@@ -16,7 +16,7 @@ use Rattle.book.specs.Check.{Checked, refused, accepted, checked, fixed, nonterm
 use Rattle.book.specs.Check.{delimiter}
 use Rattle.book.specs.Index.{reading_of, One, one_of, record_from, below_range, argument_range, delimiter_range}
 use Rattle.book.specs.Index.{allowed}
-use Rattle.book.specs.ReaderLaws.{between_high, between_inside, between_under, between_over, ByteRead}
+use Rattle.book.specs.ReaderLaws.{between_inside, between_under, between_over, ByteRead}
 use Rattle.book.specs.ReaderLaws.{checked_short, checked_bad, checked_good, checked_told, same_test, fixed_most}
 use Rattle.book.specs.ReaderLaws.{no_value, no_size}
 use Rattle.book.specs.Numbers.{last_mark}

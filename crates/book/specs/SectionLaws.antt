@@ -7,7 +7,8 @@
 --   section-, count_fits  a section: its count and its records
 --
 -- Not here: sections one after the other (WholeLaws).
-use Rattle.std.specs.Prelude.{◌≡◌, Bool, false, ◌&&◌, List, [], ◌∷◌, ◌++◌, ℕ, zero, suc, ◌+◌, ◌-◌, ◌*◌, ◌≤◌, ◌<◌, length, get_or, set}
+use Rattle.std.specs.Prelude.{◌≡◌, Bool, false, ◌&&◌, List, [], ◌∷◌, ◌++◌, ℕ, zero, suc, ◌+◌, ◌-◌, ◌*◌, ◌≤◌, ◌<◌}
+use Rattle.std.specs.Prelude.{length, get_or, set}
 use Rattle.std.proofs.Math.Path.{refl, fun_ext}
 use Rattle.std.proofs.Common.{sym, ap, ◌∙◌, arith, add-one, length-set, get_or-set_same, get_or-set_other}
 use Rattle.characters.specs.Classes.{between}
@@ -129,7 +130,8 @@ module _ (sort : Sort) (book : List ℕ) (place count base : ℕ) (f : List ℕ)
         let q : first_in g' base i ≡ sum = rw slot s.next in
         rw (s.here, q)
 
-    one_more : records_in sort book g' base (i + 1) ≡ records_in sort book g base i ++ (record_from sort book at sum ∷ [])
+    one_more : records_in sort book g' base (i + 1) ≡ records_in sort book g base i ++
+        (record_from sort book at sum ∷ [])
     one_more = up_to_more i _ ∙ rw (before, here)
 
     kept_so : KeptOutside (base + 1) (base + 1 + 2 * count) f g'

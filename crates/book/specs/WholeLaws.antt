@@ -28,8 +28,6 @@ use Rattle.book.specs.declared.binders.Sought.{Sought}
 use Rattle.book.specs.declared.parts.Part.{Part}
 use Rattle.book.specs.declared.sections.Sort.{Sort}
 use Rattle.book.specs.declared.records.Nonterminal.{Nonterminal}
-use Rattle.book.specs.declared.records.Variant.{Variant}
-use Rattle.book.specs.declared.records.Step.{Step}
 
 -- ---- Frames
 pub kept_join : (a b c d low high : ℕ) (f g h : List ℕ) → low ≤ a → low ≤ c → b ≤ high → d ≤ high →

@@ -22,7 +22,8 @@ use Rattle.characters.specs.Cases.{by_test}
 use Rattle.characters.specs.Spelling.{part_of}
 use Rattle.book.specs.Book.{Entry, nth_entry}
 use Rattle.semantics.specs.Values.{Tree, no_trees, ◌▸◌}
-use Rattle.semantics.specs.Cells.{Cell, numbers_of, cell_of, cells_in, Meaning, one, several, tree_in, trees_in, meaning_of}
+use Rattle.semantics.specs.Cells.{Cell, numbers_of, cell_of, cells_in, Meaning, one, several, tree_in, trees_in}
+use Rattle.semantics.specs.Cells.{meaning_of}
 use Rattle.semantics.specs.Cells.{meanings}
 use Rattle.semantics.specs.Theorem.Meanings.{meaning, Prefix, still, new_meaning}
 use Rattle.cells.specs.Store.{listed}
@@ -33,7 +34,8 @@ use Rattle.printing.specs.Cells.{items_bytes, is_chain, gap_bytes}
 
 -- ---- Cells in numbers
 cells_at : (numbers : List ℕ) (i p : ℕ) → p ≡ i * 3 → p + 3 ≤ length numbers
-    → get_or (cells_in numbers) i Cell.empty ≡ cell_of (get_or numbers p 0) (get_or numbers (p + 1) 0) (get_or numbers (p + 2) 0)
+    → get_or (cells_in numbers) i Cell.empty
+    ≡ cell_of (get_or numbers p 0) (get_or numbers (p + 1) 0) (get_or numbers (p + 2) 0)
 unfolding cells_in
 cells_at [] i p e h = absurd (omega arith)
 cells_at (form ∷ []) i p e h = absurd (omega arith)
@@ -372,7 +374,8 @@ module _ (names : List Entry) (text numbers : List ℕ) where
     stands_of = stands_is text numbers n ∙ ap (meaning_by text numbers n) (sym is)
 
     pub item_variant : (chain : ℕ) → chain ≡ older_than n b → form ≡ 3
-        → 40 ∷ (decimal a ++ (items_bytes names text numbers false chain ++ (41 ∷ []))) ≡ item_bytes names text numbers n
+        → 40 ∷ (decimal a ++ (items_bytes names text numbers false chain ++ (41 ∷ [])))
+        ≡ item_bytes names text numbers n
     unfolding printed tree_in meaning_by
     item_variant chain older e = rw older (sym (rw (stands_of, e)))
 

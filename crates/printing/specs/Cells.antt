@@ -1,5 +1,6 @@
 -- What is printed of a cell, by its number, as the code goes: from the cell to those that it refers to.
-use Rattle.std.specs.Prelude.{◌≡◌, Bool, true, false, cond, ◌||◌, List, [], ◌∷◌, ℕ, ◌+◌, ◌-◌, ◌*◌, ◌<◌, ltb, eqb, length, get_or, drop}
+use Rattle.std.specs.Prelude.{◌≡◌, Bool, true, false, cond, ◌||◌, List, [], ◌∷◌, ℕ, ◌+◌, ◌-◌, ◌*◌, ◌<◌, ltb, eqb}
+use Rattle.std.specs.Prelude.{length, get_or, drop}
 use Rattle.characters.specs.Slices.{Slice}
 use Rattle.characters.specs.Spelling.{part_of}
 use Rattle.book.specs.Book.{Entry, nth_entry}

@@ -9,9 +9,12 @@
 --   short-skip, short-size, ..       whether a line ends before a limit
 --
 -- Not here: what the bytes of the line are (CellLaws, NumberLaws, LineLaws).
-use Rattle.std.specs.Prelude.{◌≡◌, true, List, [], ◌∷◌, ◌++◌, ℕ, zero, suc, ◌+◌, ◌-◌, ◌≤◌, ◌<◌, leb, ltb, length, set, take, drop}
+use Rattle.std.specs.Prelude.{◌≡◌, true, List, [], ◌∷◌, ◌++◌, ℕ, zero, suc, ◌+◌, ◌-◌, ◌≤◌, ◌<◌, leb, ltb, length, set}
+use Rattle.std.specs.Prelude.{take, drop}
 use Rattle.std.proofs.Math.Path.{refl, sym}
-use Rattle.std.proofs.Common.{ap, ◌∙◌, append-nil, append_assoc, arith, add-one, take-append-drop, length-append, length-set, length-drop, drop_of_length-le, take-suc-set, drop-set-lt, take_all, length-take-le, lt-ltb, le-ltb, leb-true, leb-false, ltb-true, ltb-false}
+use Rattle.std.proofs.Common.{ap, ◌∙◌, append-nil, append_assoc, arith, add-one, take-append-drop, length-append}
+use Rattle.std.proofs.Common.{length-set, length-drop, drop_of_length-le, take-suc-set, drop-set-lt, take_all}
+use Rattle.std.proofs.Common.{length-take-le, lt-ltb, le-ltb, leb-true, leb-false, ltb-true, ltb-false}
 use Rattle.std.proofs.Math.Seq.{take-nil}
 use Rattle.characters.specs.Cases.{by_test, clash}
 use Rattle.characters.specs.Spelling.{part_of}
@@ -68,7 +71,8 @@ module _ {at : Laid} {out : List ℕ} where
       (λ u. record { is = sym (laid_full at out w (ltb-false 0 at.skip t) (leb-true (length out) at.size u)) })
       (λ u. clash e (rw (t, u))))
 
-  pub lays_then : {v w out' out'' : List ℕ} {at' at'' : Laid} → LaysIn at out v out' at' → LaysIn at' out' w out'' at'' →
+  pub lays_then : {v w out' out'' : List ℕ} {at' at'' : Laid} → LaysIn at out v out' at' →
+      LaysIn at' out' w out'' at'' →
       LaysIn at out (v ++ w) out'' at''
   lays_then {v} {w} p q =
       record { is = q.is ∙ ap (λ (s : Filling). laid s w) p.is ∙ sym (laid_append (at, out) v w) }

@@ -1,6 +1,7 @@
 -- Document 01, "Printing", with the columns of document 02, a, and the declared variables of document 02, d: the line
 -- for an answer, as a list of bytes.
-use Rattle.std.specs.Prelude.{Bool, true, false, cond, ◌||◌, List, [], ◌∷◌, ◌++◌, ℕ, zero, suc, ◌+◌, ◌-◌, ◌*◌, ◌/◌, ◌%◌, ltb, eqb, take, drop}
+use Rattle.std.specs.Prelude.{Bool, true, false, cond, ◌||◌, List, [], ◌∷◌, ◌++◌, ℕ, zero, suc, ◌+◌, ◌-◌, ◌*◌, ◌/◌}
+use Rattle.std.specs.Prelude.{◌%◌, ltb, eqb, take, drop}
 use Rattle.book.specs.Book.{Entry, nth_entry}
 use Rattle.semantics.specs.Values.{Tree, Trees, no_trees, ◌▸◌}
 use Rattle.semantics.specs.Cells.{cells_in, tree_at}

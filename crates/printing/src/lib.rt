@@ -1,9 +1,9 @@
 // The line for an answer: `value ` and the value, or `refused N place P kind K argument A line L column C`, and one
 // line feed. Document 01, "Printing", with the columns of document 02, a, and the declared variables of document 02, d.
 //
-// The line is `line_bytes` of specs/Printing.antt, for every book, index, text, list of cells and answer, also for cells
-// and answers that no run gives: what is no cell counts as absent. A value can be far longer than its cells, since a
-// cell is printed wherever it is used. So nothing here counts past the room that the caller gives:
+// The line is `line_bytes` of specs/Printing.antt, for every book, index, text, list of cells and answer, also for
+// cells and answers that no run gives: what is no cell counts as absent. A value can be far longer than its cells,
+// since a cell is printed wherever it is used. So nothing here counts past the room that the caller gives:
 //
 // - `line_length` tells how long the line is, or that it is longer than a limit;
 // - `print` writes the whole line into a lent slice, or tells that it does not fit and writes nothing;

@@ -1,0 +1,7 @@
+-- `printing::field` meets its contract.
+use Rattle.std.proofs.Common.{rules}
+use Rattle.printing.specs.LayingLaws.{lays_then}
+use Rattle.printing.proofs.line.field.Goals as goal
+
+pub returns : goal.returns
+returns c = lays_then c.bytes-next.ensures c.number.ensures

@@ -1,0 +1,7 @@
+-- `printing::print_part` meets its contract.
+use Rattle.std.proofs.Common.{rules}
+use Rattle.printing.specs.LayingLaws.{window}
+use Rattle.printing.proofs.line.print_part.Goals as goal
+
+pub returns : goal.returns
+returns c = window _ _ _ c.line-end.ensures

@@ -1,0 +1,15 @@
+-- `printing::refused` meets its contract.
+use Rattle.std.proofs.Common.{◌∙◌}
+use Rattle.printing.specs.LayingLaws.{lays_then, lays_as}
+use Rattle.printing.specs.LineLaws.{refused_fields}
+use Rattle.run.specs.Promise.{answer_in}
+use Rattle.printing.proofs.line.refused.Goals as goal
+
+pub returns : goal.returns
+returns c =
+    let ends = lays_then c.field-argument.ensures (lays_then c.field-lined.ensures (lays_then c.field-columned.ensures
+    c.byte.ensures)) in
+    let parts = lays_then c.field-refusal.ensures (lays_then c.field-place.ensures (lays_then c.field-kind.ensures
+    ends)) in
+    lays_as parts
+    (refused_fields c.args.text.now (answer_in c.args.answer) _ _ c.line_of-line.ensures c.column_of-column.ensures)
