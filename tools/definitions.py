@@ -27,11 +27,11 @@ import re
 import sys
 import threading
 
-ENTRY = ("semantics", "Answer", "answerOf")
-CHECK = ("book", "Check", "checkBook")
-LINE = ("printing", "Printing", "lineBytes")
+ENTRY = ("semantics", "Answer", "answer_of")
+CHECK = ("book", "Check", "check_book")
+LINE = ("printing", "Printing", "line_bytes")
 GOAL = ("semantics", "Derivations", "DerivesText")
-PARSES = ("semantics", "Cells", "cellsIn"), ("semantics", "Cells", "treeAt"), ("book", "Book", "associativityNumber")
+PARSES = ("semantics", "Cells", "cells_in"), ("semantics", "Cells", "tree_at"), ("book", "Book", "associativity_number")
 # where the parse of a goal stands: as the last index; or in this field of the first, an attempt, where it is the last
 SOUGHT = {"Derives": None, "Through": "parse"}
 MOST_TURNS = 20000              # of the search for derivations, before it is given up
@@ -114,20 +114,20 @@ RUNTIME = {
 BUILTINS = {
     "true": (0, "True"), "false": (0, "False"), "tt": (0, "()"), "[]": (0, "NIL"), "zero": (0, "0"),
     "suc": (1, "({} + 1)"), "not": (1, "(not {})"),
-    "cond": (3, "({1} if {0} else {2})"), "_&&_": (2, "({} and {})"), "_||_": (2, "({} or {})"),
-    "_+_": (2, "({} + {})"), "_-_": (2, "max(0, {} - {})"), "_*_": (2, "({} * {})"),
-    "_/_": (2, "({} // {})"), "_%_": (2, "({} % {})"), "_^_": (2, "({} ** {})"),
+    "cond": (3, "({1} if {0} else {2})"), "◌&&◌": (2, "({} and {})"), "◌||◌": (2, "({} or {})"),
+    "◌+◌": (2, "({} + {})"), "◌-◌": (2, "max(0, {} - {})"), "◌*◌": (2, "({} * {})"),
+    "◌/◌": (2, "({} // {})"), "◌%◌": (2, "({} % {})"), "◌^◌": (2, "({} ** {})"),
     "leb": (2, "({} <= {})"), "ltb": (2, "({} < {})"), "eqb": (2, "({} == {})"),
-    "_∷_": (2, "cons({}, {})"), "_++_": (2, "append({}, {})"), "length": (1, "{}[2]"), "getD": (3, "get_or({}, {}, {})"),
+    "◌∷◌": (2, "cons({}, {})"), "◌++◌": (2, "append({}, {})"), "length": (1, "{}[2]"), "get_or": (3, "get_or({}, {}, {})"),
     "take": (2, "take({}, {})"), "drop": (2, "drop({}, {})"), "replicate": (2, "replicate({}, {})"),
     "map": (2, "map_list({}, {})"),
 }
 CONSTRUCTORS = {"none": 0, "some": 1}
-TYPES = {"Bool", "List", "Option", "ℕ", "Unit", "_≡_", "_<_"}
+TYPES = {"Bool", "List", "Option", "ℕ", "Unit", "◌≡◌", "◌<◌"}
 ALWAYS = ["tt"]
 FIXITIES = {
-    "_||_": (30, "l"), "_&&_": (35, "l"), "_++_": (65, "l"), "_+_": (65, "l"), "_-_": (65, "l"), "_∷_": (67, "r"),
-    "_*_": (70, "l"), "_/_": (70, "l"), "_%_": (70, "l"), "_^_": (75, "r"),
+    "◌||◌": (30, "l"), "◌&&◌": (35, "l"), "◌++◌": (65, "l"), "◌+◌": (65, "l"), "◌-◌": (65, "l"), "◌∷◌": (67, "r"),
+    "◌*◌": (70, "l"), "◌/◌": (70, "l"), "◌%◌": (70, "l"), "◌^◌": (75, "r"),
 }
 # the clauses of `when`, without its name: calls of a function with just these are written as a branch
 WAITING = "true f g = f tt false f g = g tt".split()
@@ -290,7 +290,7 @@ class File:
         if not match:
             self.stop(item[0], "no known import")
         source, names = match.group(1).strip(), [n.split() for n in match.group(2).split(",")]
-        own = re.fullmatch(r"Rattle·(\w+?)(·specs)?\.specs\.(.*)", source)
+        own = re.fullmatch(r"Rattle\.(?!std\.)(\w+)\.specs\.(.*)", source)
         for parts in names:
             if len(parts) != 1 and not (len(parts) == 3 and parts[1] == "as"):
                 self.stop(item[0], "no known import")
@@ -305,8 +305,8 @@ class File:
                 else:
                     self.stop(item[0], "no built-in of this name: " + name)
                 continue
-            crate, place = own.group(1), own.group(3)
-            declared = re.fullmatch(r"declared\.(.+?)\.(\w+)(\.the-variants)?", place)
+            crate, place = own.groups()
+            declared = re.fullmatch(r"declared\.(.+?)\.(\w+)(\.TheVariants)?", place)
             if declared:
                 types = self.program.declared(crate, declared.group(1))
                 found = types.get(declared.group(2))
@@ -496,7 +496,7 @@ class Parser:
 
     def operator(self):
         text = self.peek()
-        return "_%s_" % text if text and "_%s_" % text in self.file.scope else None
+        return "◌%s◌" % text if text and "◌%s◌" % text in self.file.scope else None
 
     # ---- Patterns
     def pattern_atom(self):
@@ -578,7 +578,7 @@ class Parser:
                 continue
             if line[1].text != "←":
                 self.file.stop(line[0], "no known line of a do")
-            bind = ("name", Word("_>>=_", line[0].line, line[0].column, False))
+            bind = ("name", Word("◌>>=◌", line[0].line, line[0].column, False))
             result = ("apply", line[0], bind, [Parser(self.file, line[2:]).whole(), ("lambda", line[0], [line[0]], result)])
         if result is None:
             self.file.stop(word, "nothing follows")
@@ -596,16 +596,30 @@ class Parser:
             text = self.peek()
             if text is None or text in (")", "]", "}", ",", ";", "|", "in", ".") or self.operator():
                 return result
-            if text.startswith(".") and len(text) > 1:
-                result = ("field", self.next(), result, text[1:])
+            argument = self.atom()
+            if result[0] == "apply":
+                result = result[:3] + (result[3] + [argument],)
             else:
-                argument = self.atom()
-                if result[0] == "apply":
-                    result = result[:3] + (result[3] + [argument],)
-                else:
-                    result = ("apply", result[1], result, [argument])
+                result = ("apply", result[1], result, [argument])
 
     def atom(self):
+        """An expression in brackets, a name or a number, and the fields that stand right behind it, as in `x.f.g` and
+        `(f x).g`."""
+        result = self.bare()
+        while (self.peek() or "").startswith(".") and self.stands_behind():
+            result = self.fields(result, self.next().text[1:].split("."))
+        return result
+
+    def stands_behind(self):
+        last, word = self.words[self.at - 1], self.words[self.at]
+        return (last.line, last.column + len(last.text)) == (word.line, word.column)
+
+    def fields(self, value, names):
+        for name in names:
+            value = ("field", self.words[self.at - 1], value, name)
+        return value
+
+    def bare(self):
         word = self.next()
         text = word.text
         if text == "(":
@@ -644,7 +658,10 @@ class Parser:
             return ("number", word, int(text))
         if text in OPENING + CLOSING or text in ", ; | = : ↦ ← . where λ let do in".split() or text.startswith("."):
             self.file.stop(word, "no known expression")
-        return ("name", word)
+        first, *names = text.split(".")
+        if isinstance(self.file.scope.get(first), Type):       # a constructor by its type's name
+            return ("name", word)
+        return self.fields(("name", word._replace(text=first)), names)
 
 
 class Writer:
@@ -719,7 +736,7 @@ class Writer:
         else:
             test, parts = {
                 "[]": ("%s is NIL", []), "true": ("%s", []), "false": ("not %s", []), "zero": ("%s == 0", []),
-                "suc": ("%s > 0", ["(%s - 1)"]), "_∷_": ("%s is not NIL", ["%s[0]", "%s[1]"]),
+                "suc": ("%s > 0", ["(%s - 1)"]), "◌∷◌": ("%s is not NIL", ["%s[0]", "%s[1]"]),
             }.get(found.name) or self.file.stop(word, "no known constructor")
             tests.append(test % value)
             parts, wanted = [p % value for p in parts], len(parts)
@@ -936,7 +953,7 @@ class RuleWriter(Writer):
 
     def part(self, family, indices):
         """What is sought of a goal, by the words of the file: a variable, or a field of one."""
-        place, field = (indices[0], " ." + SOUGHT[family]) if SOUGHT[family] else (indices[-1], "")
+        place, field = (indices[0], "." + SOUGHT[family]) if SOUGHT[family] else (indices[-1], "")
         if field and place[0] == "group":
             place, field = self.plain(place)[3][-1], ""
         if place[0] not in ("name", "variable"):

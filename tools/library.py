@@ -3,11 +3,11 @@
 
     python3 tools/library.py
 
-proves it first (`rt staticlib midgebillon`, some minutes), and writes target/proved. It needs the Rattle kit and gcc.
+proves it first (`rt lib` in crates/midgebillon, some minutes), and writes target/proved. It needs the Rattle kit and gcc.
 
     python3 tools/library.py --quick
 
-compiles the same code without its proofs, in seconds, and writes target/quick. That library says of itself that it is
+compiles the same code without its proofs (tools/reader.py), in seconds, and writes target/quick. That library says of itself that it is
 not proved: it has the symbol `midgebillon_not_proved`, and its pkg-config file says so.
 
 Either folder has include/ and lib/ as below /usr/local, and may be copied to any place: the pkg-config file,
@@ -23,7 +23,8 @@ import sys
 from reader import LIBRARY, ROOT, static_library
 
 HEADER = f"{ROOT}/include/midgebillon.h"
-PROVED = f"{ROOT}/target/staticlib/lib{LIBRARY}.a"
+CRATE = f"{ROOT}/crates/{LIBRARY}"
+PROVED = f"{CRATE}/out/lib{LIBRARY}.a"
 NOT_PROVED = "not proved: compiled without its proofs"
 
 PKG_CONFIG = """prefix=${{pcfiledir}}/../..
@@ -71,7 +72,7 @@ def build(quick):
     """Writes the folder and gives its name."""
     folder = f"{ROOT}/target/{'quick' if quick else 'proved'}"
     if not quick:
-        run("rt", "staticlib", LIBRARY, cwd=ROOT)
+        run("rt", "lib", cwd=CRATE)
     shutil.rmtree(folder, ignore_errors=True)
     os.makedirs(f"{folder}/include")
     os.makedirs(f"{folder}/lib/pkgconfig")

@@ -1,7 +1,8 @@
 -- Document 01, "The book" and refusals 3 to 8 of "The answer": the check of a book, "byte by byte forward, a bad byte
 -- before a missing one"; and what document 02 d asks of the records of a binder. Numbers.antt names the refusals and
 -- the limits.
-use Rattle.std.specs.Prelude.{Bool, false, cond, not, ◌&&◌, ◌||◌, List, [], ◌∷◌, map, ℕ, zero, suc, ◌+◌, ◌%◌, leb, ltb, eqb, length, get_or}
+use Rattle.std.specs.Prelude.{Bool, false, cond, not, ◌&&◌, ◌||◌, List, [], ◌∷◌, map, ℕ, zero, suc, ◌+◌, ◌%◌, leb, ltb}
+use Rattle.std.specs.Prelude.{eqb, length, get_or}
 use Rattle.characters.specs.Classes.{between, is_of}
 use Rattle.characters.specs.declared.classes.Class.TheVariants.{Letter, Digit}
 use Rattle.book.specs.Numbers.{book_ends_early, bad_count, bad_spelling, bad_field, bad_passing, bytes_left_over}

@@ -1,7 +1,8 @@
 -- The index of a book, and the book that an index gives: each record from its place. This is no part of what document
 -- 01 says: the contract of `check_into` equates the book that its index gives with the one of `check_book`, and the
 -- reading functions are stated over the former.
-use Rattle.std.specs.Prelude.{Bool, false, cond, ◌&&◌, List, [], ◌∷◌, ◌++◌, ◌≡◌, ℕ, zero, suc, ◌+◌, ◌-◌, ◌*◌, ◌%◌, ◌≤◌, ◌<◌, leb, ltb, eqb, length, get_or}
+use Rattle.std.specs.Prelude.{Bool, false, cond, ◌&&◌, List, [], ◌∷◌, ◌++◌, ◌≡◌, ℕ, zero, suc, ◌+◌, ◌-◌, ◌*◌, ◌%◌, ◌≤◌}
+use Rattle.std.specs.Prelude.{◌<◌, leb, ltb, eqb, length, get_or}
 use Rattle.characters.specs.Slices.{Slice}
 use Rattle.characters.specs.Classes.{between}
 use Rattle.characters.specs.Spelling.{part_of}
@@ -27,7 +28,12 @@ abbrev pub entry_from : List ℕ → ℕ → Entry
 entry_from book at = record { label = get_or book at 0; spelling = part_of book (at + 2) (get_or book (at + 1) 0) }
 
 abbrev pub nonterminal_from : List ℕ → ℕ → ℕ → Nonterminal
-nonterminal_from book at first = record { mark = mark_of (get_or book at 0); first = first; count = get_or book (at + 1) 0 }
+nonterminal_from book at first = record {
+  mark = mark_of (get_or book at 0);
+  first = first;
+  count = get_or book
+      (at + 1) 0;
+}
 
 abbrev pub variant_from : List ℕ → ℕ → ℕ → Variant
 variant_from book at first =
@@ -41,7 +47,8 @@ variant_from book at first =
     }
 
 abbrev pub step_from : List ℕ → ℕ → Step
-step_from book at = step_of (get_or book at 0) (get_or book (at + 1) 0) (get_or book (at + 2) 0) (get_or book (at + 3) 0)
+step_from book at = step_of (get_or book at 0) (get_or book (at + 1) 0) (get_or book (at + 2) 0)
+    (get_or book (at + 3) 0)
 
 -- ---- Sorts of records: what one is, how it is read, what it counts, and it from its place
 abbrev pub RecordOf : Sort → Type 0
@@ -305,7 +312,8 @@ pub record SectionsRead (book before after : List ℕ) (part : Part) : Type 0 wh
       (K : Sections) →
       five_sections book K ≡
       followed part
-      (K (entries_in book after words_at) (entries_in book after names_at) (nonterminals_in book after) (placed_in book after)
+      (K (entries_in book after words_at) (entries_in book after names_at) (nonterminals_in book after)
+      (placed_in book after)
       (steps_in book after))
   pub kept : KeptOutside 0 index_size before after
 

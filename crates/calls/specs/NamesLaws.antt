@@ -8,7 +8,7 @@
 -- - the binders, the innermost first: Searching, searching_start, searching_hit, searching_on, searching_end,
 --   searching_none, searching_some
 -- - how many names the binders have: Counting, counting_start, counting_on, counting_end, counting_none, counting_some
--- - room for further names: no_room, room_left
+-- - room for further names: no_room_lem, room_left
 use Rattle.std.specs.Prelude.{◌≡◌, Bool, true, false, cond, eqb, ltb, leb, length}
 use Rattle.std.proofs.Math.Path.{refl, sym, ap}
 use Rattle.std.proofs.Common.{◌∙◌, add-zero, eq-eqb, ne_eqb, ltb-true, ltb-false, le-leb, leb-true, leb-false}

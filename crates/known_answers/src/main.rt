@@ -8,12 +8,13 @@
 // and associativity, and the line of a value. record.rt, vector.rt and rust.rt tell the form of the lists.
 //
 // What is proved of this program is that it is safe and ends, whatever the lists hold; no contract can say what a file
-// holds. It calls `read` of `run` and `print` of `printing`, and relies on `io`, `os` and `libc` of the kit.
+// holds. It calls `read` of `run` and `print` of `printing`, and relies on `fs` and `io` of std.
 #![tactic(auto)]
 
 mod difference;
 mod line;
 mod numbers;
+mod reading;
 mod record;
 mod replay;
 mod rust;
@@ -21,14 +22,15 @@ mod tally;
 mod vector;
 
 use replay::{Kind, replay};
+use std::fs::File;
+use std::io;
 
-fn replay_file(path: &[u8], kind: Kind) {
-    let fd = os::open_read(path);
-    replay(fd, kind);
-    libc::close(fd);
+fn replay_file(rt: &HostRuntime, path: &str, kind: Kind) -> io::Result<()> {
+    let mut file = File::open(rt, path)?;
+    replay(rt.stdout(), &mut file, kind)
 }
 
-fn main() {
-    replay_file(b"vectors.bin", Kind::Vector);
-    replay_file(b"rust.bin", Kind::Rust);
+fn main(rt: HostRuntime) -> io::Result<()> {
+    replay_file(&rt, "vectors.bin", Kind::Vector)?;
+    replay_file(&rt, "rust.bin", Kind::Rust)
 }

@@ -1,10 +1,13 @@
 // The records of a list, one after the other.
 use crate::difference::Difference;
 use crate::numbers::size_of;
+use crate::reading::read_full;
 use crate::record::RECORD_ROOM;
 use crate::tally::{MOST_CASES, Tally};
 use crate::{rust, tally, vector};
 use characters::part;
+use std::io;
+use std::io::{Read, Stdout};
 
 #[derive(Clone, Copy)]
 pub enum Kind {
@@ -20,10 +23,10 @@ enum Next {
     Unreadable,
 }
 
-fn counted(tally: Tally, kind: Kind, difference: Difference) -> Tally {
+fn counted(tally: Tally, kind: Kind, difference: Difference) -> io::Result<Tally> {
     match kind {
-        Kind::Vector => tally.case(b"vector ", difference),
-        Kind::Rust => tally.case(b"answer of the Rust ", difference),
+        Kind::Vector => tally.case("vector ", difference),
+        Kind::Rust => tally.case("answer of the Rust ", difference),
     }
 }
 
@@ -49,44 +52,44 @@ fn difference(kind: Kind, bytes: &[u8]) -> Difference {
 }
 
 // The next record: its head, which tells its length, and what is behind it.
-fn next_record(fd: i32, kind: Kind, bytes: &mut [u8]) -> Next {
+fn next_record(file: &mut impl Read, kind: Kind, bytes: &mut [u8]) -> io::Result<Next> {
     let head = head_size(kind);
     if bytes.len() < head {
-        return Next::Unreadable;
+        return Ok(Next::Unreadable);
     }
-    let begun = io::read_full(fd, &mut bytes[0..head]);
+    let begun = read_full(file, &mut bytes[0..head])?;
     if begun == 0 {
-        return Next::End;
+        return Ok(Next::End);
     }
     if begun < head {
-        return Next::Unreadable;
+        return Ok(Next::Unreadable);
     }
     let size = record_size(kind, bytes);
     if size < head {
-        return Next::Unreadable;
+        return Ok(Next::Unreadable);
     }
     if bytes.len() < size {
-        return Next::Unreadable;
+        return Ok(Next::Unreadable);
     }
-    let rest = io::read_full(fd, &mut bytes[head..size]);
+    let rest = read_full(file, &mut bytes[head..size])?;
     if rest < size - head {
-        return Next::Unreadable;
+        return Ok(Next::Unreadable);
     }
-    Next::Bytes(size)
+    Ok(Next::Bytes(size))
 }
 
 // A record that can't be read differs, and is the last.
-fn replayed(fd: i32, kind: Kind, bytes: &mut [u8]) -> Tally {
-    let mut tally = tally::none();
+fn replayed(out: Stdout, file: &mut impl Read, kind: Kind, bytes: &mut [u8]) -> io::Result<Tally> {
+    let mut tally = tally::none(out);
     let mut i = 0;
     while i < MOST_CASES {
-        let record = next_record(fd, kind, bytes);
+        let record = next_record(file, kind, bytes)?;
         match record {
             Next::Bytes(size) => {
-                tally = counted(tally, kind, difference(kind, part(bytes, 0, size)));
+                tally = counted(tally, kind, difference(kind, part(bytes, 0, size)))?;
             }
             Next::End => {
-                return tally;
+                return Ok(tally);
             }
             Next::Unreadable => {
                 return counted(tally, kind, Difference::Unreadable);
@@ -97,11 +100,11 @@ fn replayed(fd: i32, kind: Kind, bytes: &mut [u8]) -> Tally {
     counted(tally, kind, Difference::Unreadable)
 }
 
-pub fn replay(fd: i32, kind: Kind) {
+pub fn replay(out: Stdout, file: &mut impl Read, kind: Kind) -> io::Result<()> {
     let mut space = [0u8; RECORD_ROOM];
-    let tally = replayed(fd, kind, &mut space);
+    let tally = replayed(out, file, kind, &mut space)?;
     match kind {
-        Kind::Vector => tally.write(b" vectors"),
-        Kind::Rust => tally.write(b" answers of the Rust"),
+        Kind::Vector => tally.write(" vectors"),
+        Kind::Rust => tally.write(" answers of the Rust"),
     }
 }

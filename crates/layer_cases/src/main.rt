@@ -9,21 +9,26 @@
 mod classes;
 mod compare;
 mod questions;
+mod reading;
 mod skipping;
 mod spellings;
 mod tally;
 mod tokens;
 
+use reading::read_full;
+use std::fs::File;
+use std::io;
+use std::io::Stdout;
 use tally::Tally;
 
-fn characters() -> Tally {
-    let layer = skipping::cases(classes::cases(tally::none()));
+fn characters(out: Stdout) -> Tally {
+    let layer = skipping::cases(classes::cases(tally::none(out)));
     spellings::cases(tokens::cases(layer))
 }
 
 // The books of the file, one after the other. A case that leads nowhere differs.
-fn books(file: &[u8]) -> Tally {
-    let mut tally = tally::none();
+fn books(out: Stdout, file: &[u8]) -> Tally {
+    let mut tally = tally::none(out);
     let mut at = 0;
     while at < file.len() {
         let next = compare::case(file, at);
@@ -36,11 +41,12 @@ fn books(file: &[u8]) -> Tally {
     tally
 }
 
-fn main() {
-    characters().write(b" characters, ");
+fn main(rt: HostRuntime) -> io::Result<()> {
+    let out = rt.stdout();
+    characters(out).write(" characters, ")?;
     let mut space = [0u8; 262144];
-    let fd = os::open_read(b"books.bin");
-    let size = io::read_full(fd, &mut space);
-    books(&space[..size]).write(b" books, ");
-    questions::all().write(b" questions, ");
+    let mut file = File::open(&rt, "books.bin")?;
+    let size = read_full(&mut file, &mut space)?;
+    books(out, &space[..size]).write(" books, ")?;
+    questions::all(out).write(" questions, ")
 }

@@ -3,6 +3,7 @@
 //   the names: a of kind 1; b of kind 2; a of kind 3
 use crate::tally::{Tally, none};
 use book::{Found, INDEX_SIZE};
+use std::io::Stdout;
 
 impl Tally {
     fn reserved(
@@ -68,14 +69,14 @@ fn names(bytes: &[u8], index: &[usize], t: Tally) -> Tally {
         .unnamed(bytes, index, b"")
 }
 
-fn asked(bytes: &[u8], index: &mut [usize]) -> Tally {
+fn asked(out: Stdout, bytes: &[u8], index: &mut [usize]) -> Tally {
     book::check_into(bytes, index);
-    names(bytes, index, words(bytes, index, none()))
+    names(bytes, index, words(bytes, index, none(out)))
 }
 
-pub fn all() -> Tally {
+pub fn all(out: Stdout) -> Tally {
     let bytes =
         b"\x04\x00\x01a\x00\x01b\x01\x01a\x01\x02ab\x03\x01\x01a\x02\x01b\x03\x01a\x01\x00\x00\x00\x00";
     let mut index = [0usize; INDEX_SIZE];
-    asked(bytes, &mut index)
+    asked(out, bytes, &mut index)
 }

@@ -1,16 +1,20 @@
 // Counts cases, and writes the number of each that differs.
-use libc::STDOUT_FILENO;
+use std::io;
+use std::io::Stdout;
 
 #[derive(Clone, Copy)]
 pub struct Tally {
     pub cases: u32,
     pub differ: u32,
+    // Where the cases that differ are written.
+    out: Stdout,
 }
 
-pub fn none() -> Tally {
+pub fn none(out: Stdout) -> Tally {
     Tally {
         cases: 0,
         differ: 0,
+        out,
     }
 }
 
@@ -25,21 +29,23 @@ impl Tally {
             return Tally {
                 cases,
                 differ: self.differ,
+                out: self.out,
             };
         }
-        io::write_all(STDOUT_FILENO, b"differs: case ");
-        io::print_decimal(STDOUT_FILENO, cases as u64);
-        io::write_all(STDOUT_FILENO, b"\n");
+        let out = self.out;
+        // it counts as differing whether or not its number can be written
+        let _ = println!(out; "differs: case {cases}");
         Tally {
             cases,
             differ: one_more(self.differ),
+            out,
         }
     }
 
-    pub fn write(self, what: &[u8]) {
-        io::print_decimal(STDOUT_FILENO, self.cases as u64);
-        io::write_all(STDOUT_FILENO, what);
-        io::print_decimal(STDOUT_FILENO, self.differ as u64);
-        io::write_all(STDOUT_FILENO, b" differ\n");
+    pub fn write(self, what: &str) -> io::Result<()> {
+        let out = self.out;
+        let cases = self.cases;
+        let differ = self.differ;
+        println!(out; "{cases}{what}{differ} differ")
     }
 }

@@ -2,7 +2,7 @@
 use Rattle.std.specs.Prelude.{◌≡◌, refl, List, ◌++◌, ℕ, ◌≤◌, ◌+◌, min, length, drop}
 use Rattle.std.proofs.Common.{sym, ap, ◌∙◌, arith, length-take, length-append}
 use Rattle.characters.specs.Spelling.{part_of}
-use Rattle.io.specs.Counts.{IsPrefixLen}
+use Rattle.program.specs.Counts.{IsPrefixLen}
 use Rattle.printing.specs.Lines.{Window}
 
 module _ {from : ℕ} {line out out' : List ℕ} {size : ℕ} (w : Window from line out out' size) where

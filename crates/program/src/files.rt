@@ -1,5 +1,9 @@
 // The bytes of a file.
-ghost use Rattle.io.specs.Counts.{IsPrefixLen};
+ghost use Rattle.program.specs.Counts.{IsPrefixLen};
+
+use std::fs::File;
+use std::io::Read;
+use std::rt::Files;
 
 // One byte more than the longest accepted book has. The check of a longer book ends within these bytes, so that its
 // refusal is that of the whole file (`first_bytes` of BoundLaws in the crate book).
@@ -8,13 +12,36 @@ pub const BOOK_ROOM: usize = 3778;
 // One byte more than the longest accepted text has; a longer one is refused for its length alone.
 pub const TEXT_ROOM: usize = 4097;
 
-// The bytes of a file, as many as `bytes` has room for, and how many they are: none where the file is missing or can't
-// be read.
-pub fn load(path: &[u8], bytes: &mut [u8]) -> usize
+// Reads until `bytes` is full, the file ends or a read fails, and gives how many bytes it put at the start.
+fn read_full(file: &mut impl Read, bytes: &mut [u8]) -> usize
     ensures { IsPrefixLen result bytes.new }
 {
-    let fd = os::open_read(path);
-    let size = io::read_full(fd, bytes);
-    libc::close(fd);
-    size
+    let mut done = 0;
+    while done < bytes.len() {
+        match file.read(&mut bytes[done..]) {
+            Ok(size) if size > 0 => done += size,
+            _ => break,
+        }
+    }
+    done
+}
+
+// The bytes of a file, as many as `bytes` has room for, and how many they are: none where the file is missing or can't
+// be read, or where its path is no text.
+pub fn load(rt: &impl Files, path: &[u8], bytes: &mut [u8]) -> usize
+    ensures { IsPrefixLen result bytes.new }
+{
+    match str::from_utf8(path) {
+        Ok(name) => load_named(rt, name, bytes),
+        Err(_) => 0,
+    }
+}
+
+fn load_named(rt: &impl Files, path: &str, bytes: &mut [u8]) -> usize
+    ensures { IsPrefixLen result bytes.new }
+{
+    match File::open(rt, path) {
+        Ok(mut file) => read_full(&mut file, bytes),
+        Err(_) => 0,
+    }
 }

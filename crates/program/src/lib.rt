@@ -5,8 +5,8 @@
 // `line_bytes` by the contract of `print_part`: a value's line can be far longer than its text. `load` gives a file's
 // bytes. Neither has a `requires`.
 //
-// The crate relies on the promises of `run`, `printing` and `book`, and on `io`, `os` and `libc` of the kit, whose
-// contracts say nothing of what a file holds or of what is written.
+// The crate relies on the promises of `run`, `printing` and `book`, and on `fs` and `io` of std, whose contracts say
+// nothing of what a file holds or of what is written.
 #![tactic(auto)]
 
 mod files;

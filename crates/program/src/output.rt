@@ -4,7 +4,6 @@ ghost use Rattle.program.specs.Rule.{Answers};
 
 use book::{INDEX_SIZE, check_into};
 use cells::CELLS_SIZE;
-use libc::STDOUT_FILENO;
 use printing::print_part;
 use run::{Answer, MOST_UNITS, read};
 use sets::PARSES_SIZE;
@@ -16,6 +15,7 @@ const LARGEST: usize = 18446744073709551615;
 // The line in parts, each as much as `out` holds, until one is empty or can't be written. Each part is one of
 // `line_bytes` by the contract of `print_part`; no contract can say what is written, so this function has none.
 fn write_line<'a>(
+    rt: &impl Print,
     text: &'a [u8],
     book: &'a [u8],
     index: &[usize],
@@ -29,7 +29,7 @@ fn write_line<'a>(
         if size == 0 {
             return;
         }
-        if !io::write_all(STDOUT_FILENO, &out[..size]) {
+        if rt.write_all(&out[..size]).is_err() {
             return;
         }
         // no line has that many bytes, which the definition of the line doesn't say
@@ -42,7 +42,7 @@ fn write_line<'a>(
 
 // Reads the text by the book, writes the line of the answer by way of `out`, which needs one byte at least, and gives
 // the answer.
-pub fn answer_line<'a>(book: &'a [u8], text: &'a [u8], out: &mut [u8]) -> Answer
+pub fn answer_line<'a>(rt: &impl Print, book: &'a [u8], text: &'a [u8], out: &mut [u8]) -> Answer
     ensures { Answers book.now text.now result }
 {
     let mut cells = [0u32; CELLS_SIZE];
@@ -51,6 +51,6 @@ pub fn answer_line<'a>(book: &'a [u8], text: &'a [u8], out: &mut [u8]) -> Answer
     // the names that variables are spelled by
     let mut index = [0usize; INDEX_SIZE];
     check_into(book, &mut index);
-    write_line(text, book, &index, &cells, answer, out);
+    write_line(rt, text, book, &index, &cells, answer, out);
     answer
 }

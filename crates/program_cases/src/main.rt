@@ -4,9 +4,9 @@
 
 mod cases;
 
-fn main() {
-    cases::rows();
-    cases::forms();
-    cases::places();
-    cases::files();
+fn main(rt: HostRuntime) {
+    cases::rows(&rt);
+    cases::forms(&rt);
+    cases::places(&rt);
+    cases::files(&rt);
 }

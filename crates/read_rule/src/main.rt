@@ -4,11 +4,14 @@
 
 use program::{BOOK_ROOM, TEXT_ROOM, answer_line, load};
 
-fn main() {
+// The line goes out in parts of so many bytes.
+const LINE_ROOM: usize = 65536;
+
+fn main(rt: HostRuntime) {
     let mut book = [0u8; BOOK_ROOM];
     let mut text = [0u8; TEXT_ROOM];
-    let book_size = load(b"rules.book", &mut book);
-    let text_size = load(b"rule.txt", &mut text);
-    let mut out = io::large_buffer();
-    answer_line(&book[..book_size], &text[..text_size], &mut out);
+    let book_size = load(&rt, b"rules.book", &mut book);
+    let text_size = load(&rt, b"rule.txt", &mut text);
+    let mut out = [0u8; LINE_ROOM];
+    answer_line(&rt, &book[..book_size], &text[..text_size], &mut out);
 }

@@ -29,10 +29,10 @@ use Rattle.semantics.specs.Answer.{Answer, Answered, answer, written, cell_numbe
 use Rattle.semantics.specs.Answer.{first_high}
 use Rattle.semantics.specs.Answer.{untouched, at_end, on_book, answer_of}
 use Rattle.semantics.specs.Exact.{Exact}
-use Rattle.semantics.specs.Theorem.Found.{found_is_exactly_derivable}
+use Rattle.semantics.proofs.Theorem.Found.{found_is_exactly_derivable}
 use Rattle.run_model.specs.Rows.{row_of}
 use Rattle.run_model.specs.Model.{row_state, enter_rows, runner_rows}
-use Rattle.run_model.specs.Theorem.{seen, rows_run}
+use Rattle.run_model.proofs.Theorem.{seen, rows_run}
 use Rattle.calls.specs.Table.{table}
 use Rattle.calls.specs.TableLaws.{table_length}
 use Rattle.cells.specs.Store.{Holds, Cleared}

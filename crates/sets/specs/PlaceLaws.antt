@@ -10,7 +10,7 @@
 use Rattle.std.specs.Prelude.{◌≡◌, refl, Bool, true, false, cond, List, [], ◌∷◌, ◌++◌, ◌⊎◌, ℕ, zero, suc, ◌+◌, ◌*◌, ◌<◌, ◌≤◌, ltb, get_or, set, length}
 use Rattle.std.proofs.Common.{sym, ap, ◌∙◌, inl, inr, arith, length-set, get_or-set_same, get_or-set_other, ltb-true, ltb-false}
 use Rattle.book.specs.Book.{associativity_number}
-use Rattle.book.specs.ReadingLaws.{associativity_of_number}
+use Rattle.book.proofs.ReadingLaws.{associativity_of_number}
 use Rattle.semantics.specs.Values.{Parse, absent_parse}
 use Rattle.sets.specs.Sets.{parse_at, list_at, count_of, set_at, put_parse, Only}
 

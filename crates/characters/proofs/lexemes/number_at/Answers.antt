@@ -1,7 +1,7 @@
 -- `characters::number_at` meets its contract.
 use Rattle.std.proofs.Common.{arith, sym, ◌∙◌}
-use Rattle.characters.specs.SkippingLaws.{span_forward}
-use Rattle.characters.specs.LexemeLaws.{number_none, number_some}
+use Rattle.characters.proofs.SkippingLaws.{span_forward}
+use Rattle.characters.proofs.LexemeLaws.{number_none, number_some}
 use Rattle.characters.specs.declared.skipping.Span.TheVariants.{Digits}
 use Rattle.characters.proofs.lexemes.number_at.Goals as goal
 

@@ -1,7 +1,7 @@
 -- `characters::number_of` meets its contract. The invariant: the digits left, read after `value`, spell the whole
 -- number.
 use Rattle.std.proofs.Common.{arith, get_or, refl, rules, sym, ◌*◌, ◌+◌, ◌-◌, ◌<◌, ◌∙◌}
-use Rattle.characters.specs.LexemeLaws.{decimal_large, decimal_on, decimal_end, number_fits, number_large}
+use Rattle.characters.proofs.LexemeLaws.{decimal_large, decimal_on, decimal_end, number_fits, number_large}
 use Rattle.characters.specs.Lexemes.{largest}
 use Rattle.characters.proofs.lexemes.number_of.Goals as goal
 

@@ -1,7 +1,7 @@
 -- `characters::skip` meets its contract. The invariant: skipping from here ends where skipping from `place` does. A
 -- round that drops something leaves fewer bytes.
 use Rattle.std.proofs.Common.{refl, sym, ◌∙◌}
-use Rattle.characters.specs.SkippingLaws.{round_leaves_less, skip_stop, skip_on}
+use Rattle.characters.proofs.SkippingLaws.{round_leaves_less, skip_stop, skip_on}
 use Rattle.characters.proofs.skipping.skip.Goals as goal
 
 pub loop-at-init : goal.loop-at-init

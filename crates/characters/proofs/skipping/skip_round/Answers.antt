@@ -1,7 +1,7 @@
 -- `characters::skip_round` meets its contract.
 use Rattle.std.proofs.Common.{ap, sym, ◌∙◌}
 use Rattle.characters.specs.Skipping.{comment_at, comment_end}
-use Rattle.characters.specs.SkippingLaws.{round_comment, round_plain}
+use Rattle.characters.proofs.SkippingLaws.{round_comment, round_plain}
 use Rattle.characters.proofs.skipping.skip_round.Goals as goal
 
 pub returns-then-comment_at : goal.returns-then-comment_at

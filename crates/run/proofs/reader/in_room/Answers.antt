@@ -1,6 +1,6 @@
 -- `run::in_room` meets its contract.
 use Rattle.std.proofs.Common.{arith, rules}
-use Rattle.book.specs.BoundLaws.{refusal_bounds}
+use Rattle.book.proofs.BoundLaws.{refusal_bounds}
 use Rattle.run.specs.ReadingLaws.{call_short, call_allowance, call_refused, call_book, long_cells}
 use Rattle.run.specs.ReadingLaws.{verdict_refused}
 use Rattle.run.proofs.reader.in_room.Goals as goal

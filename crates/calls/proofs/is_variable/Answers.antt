@@ -1,0 +1,14 @@
+-- `calls::is_variable` meets its contract, mark by mark.
+use Rattle.calls.proofs.is_variable.Goals as goal
+
+pub returns-in-Plain : goal.returns-in-Plain
+returns-in-Plain c = rw (← c.nonterminal-called.ensures, c.in-Plain.is)
+
+pub returns-in-Variable : goal.returns-in-Variable
+returns-in-Variable c = rw (← c.nonterminal-called.ensures, c.in-Variable.is)
+
+pub returns-in-Identifier : goal.returns-in-Identifier
+returns-in-Identifier c = rw (← c.nonterminal-called.ensures, c.in-Identifier.is)
+
+pub returns-in-Binder : goal.returns-in-Binder
+returns-in-Binder c = rw (← c.nonterminal-called.ensures, c.in-Binder.is)

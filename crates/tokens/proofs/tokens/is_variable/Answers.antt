@@ -1,0 +1,12 @@
+-- `tokens::is_variable` meets its contract.
+use Rattle.std.proofs.Common.{rules}
+use Rattle.semantics.specs.Tokens.{is_some}
+use Rattle.tokens.proofs.tokens.is_variable.Goals as goal
+
+pub returns-in-Nothing : goal.returns-in-Nothing
+unfolding is_some
+returns-in-Nothing c = search rules
+
+pub returns-in_default : goal.returns-in_default
+unfolding is_some
+returns-in_default c = search rules
