@@ -152,9 +152,9 @@ def missing(crate, units, lines):
             yield f"no error comes from `{others[0].name}`"
 
 
-# ---- The gate's word
+# ---- The gate's word: that an edit is refused, perhaps in brackets that this shows little, and the first error, cut off
 TRIED = re.compile(r"^rt: must-fail (\w+)/(\S+)\.edit: (.*)", re.M)
-REFUSED = re.compile(r"refused, as it must be(?: \([^)]*\))?:? ?(.*)")
+REFUSED = re.compile(r"refused, as it must be( \(.*)?(?:: )?(.*)")
 
 
 def reported(log):
@@ -219,7 +219,7 @@ def looked_at(crate, edit, said):
             refused = REFUSED.match(said)
             if not refused:
                 return len(units), False, [f"rt ci says of it: {said}"]
-            if not list(missing(crate, units, [refused[1]])):
+            if not refused[1] and not list(missing(crate, units, [refused[2]])):
                 return len(units), False, []
         return len(units), True, list(missing(crate, units, check(crate, edited, units)))
     except Unusable as why:
