@@ -5,7 +5,8 @@
 --   number-       when one begins at a place, whether it is too large, and the same bounds
 --
 -- Not here: where a span ends (SkippingLaws).
-use Rattle.std.specs.Prelude.{◌≡◌, true, false, List, [], ◌∷◌, ℕ, ◌+◌, ◌-◌, ◌*◌, ◌^◌, ◌≤◌, ◌<◌, eqb, ltb, leb, length, get_or, drop}
+use Rattle.std.specs.Prelude.{◌≡◌, true, false, List, [], ◌∷◌, ℕ, ◌+◌, ◌-◌, ◌*◌, ◌^◌, ◌≤◌, ◌<◌, eqb, ltb, leb, length}
+use Rattle.std.specs.Prelude.{get_or, drop}
 use Rattle.std.proofs.Common.{sym, ◌∙◌, arith, add-one, drop_of_length-le, drop-cons}
 use Rattle.std.proofs.Math.ListN.{get_or-eq_default}
 use borrow.Author.Tests.{le-leb, lt-leb, leb-true, leb-false, eq-eqb, ne_eqb, eqb-true, eqb-false, ltb-true, ltb-false}
@@ -40,7 +41,8 @@ module _ (text : List ℕ) (place : ℕ) where
   -- nothing begins beyond the end
   pub identifier_out : length text ≤ place → identifier_at text place ≡ Identifier.Nothing
   identifier_out h =
-      by_test (is_of Letter (get_or text place 0)) (λ e. absurd (omega (arith, letter_inside e))) (λ e. identifier_none e)
+      by_test (is_of Letter (get_or text place 0)) (λ e. absurd (omega (arith, letter_inside e)))
+      (λ e. identifier_none e)
 
   pub identifier_bounds : (end : ℕ) → identifier_at text place ≡ Identifier.Ends end →
       (place < end) × (end ≤ length text)
@@ -115,7 +117,8 @@ module _ (text : List ℕ) (place : ℕ) where
       (λ t. let n = number_none (eqb-true _ _ t) in let z : ◌≡◌ {A = ℕ} 0 1 = cc in absurd (omega arith))
       (λ t. let moved = eqb-false (span_end Digits text place) place t in
       let told =
-      number_told (decimal 0 (part_of text place (span_end Digits text place - place))) (span_end Digits text place) value
+      number_told (decimal 0 (part_of text place (span_end Digits text place - place))) (span_end Digits text place)
+      value
       end (sym (number_some moved) ∙ e) in
       let forward = span_forward Digits text place in
       let inside : place ≤ length text =

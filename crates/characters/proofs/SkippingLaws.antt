@@ -172,7 +172,8 @@ module _ (text : List ℕ) (place : ℕ) where
   unfolding round_end
   round_comment e = rw (e, round_end)
 
-  pub round_plain : comment_at text (span_end Spaces text place) ≡ false → round_end text place ≡ span_end Spaces text place
+  pub round_plain : comment_at text (span_end Spaces text place) ≡ false → round_end text place ≡ span_end Spaces text
+      place
   unfolding round_end
   round_plain e = rw (e, round_end)
 

@@ -2,7 +2,8 @@
 --
 --   part-    a part beyond the end, inside, and of as much as there is
 --   same-    the test of two spellings tells whether they are equal; and how a loop over their bytes goes on and ends
-use Rattle.std.specs.Prelude.{◌≡◌, refl, true, false, List, [], ◌∷◌, ℕ, ◌+◌, ◌-◌, ◌≤◌, ◌<◌, eqb, length, get_or, take, drop}
+use Rattle.std.specs.Prelude.{◌≡◌, refl, true, false, List, [], ◌∷◌, ℕ, ◌+◌, ◌-◌, ◌≤◌, ◌<◌, eqb, length, get_or, take}
+use Rattle.std.specs.Prelude.{drop}
 use Rattle.std.proofs.Common.{sym, ap, ◌∙◌, arith, length-drop, drop_of_length-le, take_all}
 use Rattle.std.proofs.Math.Numerals.{add-one}
 use Rattle.std.proofs.Math.Seq.{drop-cons, take-nil}
@@ -19,7 +20,8 @@ module _ (bytes : List ℕ) (start size : ℕ) where
   part_inside = let k : start + size - start ≡ size = omega arith in rw k
 
   -- as much as there is
-  pub part_rest : length bytes - start ≤ size → take (length bytes - start) (drop start bytes) ≡ part_of bytes start size
+  pub part_rest : length bytes - start ≤ size → take (length bytes - start) (drop start bytes) ≡ part_of bytes start
+      size
   part_rest h =
       let l = length-drop start bytes in
       take_all (length bytes - start) (drop start bytes) (omega arith)

@@ -24,7 +24,12 @@ pub overflow_mul-value : goal.overflow_mul-value
 overflow_mul-value c = omega (arith, c.if-digit-value.false)
 
 pub overflow_add-value : goal.overflow_add-value
-overflow_add-value c = omega (arith, c.if-digit-value.false, c.digit_value-digit.ensures, c.shared_slice_known-in-loop-i-1.given c.loop-i.i)
+overflow_add-value c = omega (
+  arith,
+  c.if-digit-value.false,
+  c.digit_value-digit.ensures,
+  c.shared_slice_known-in-loop-i-1.given c.loop-i.i,
+)
 
 pub loop-i-preserved : goal.loop-i-preserved
 loop-i-preserved c = let loop = c.loop-i in
