@@ -1,10 +1,7 @@
 -- `calls::any_claims` meets its contract. The invariant (`Asking` of CallLaws): a row from here on claims where one
 -- above n does.
-use Rattle.std.proofs.Common.{arith, ◌-◌, ◌<◌, ◌≤◌}
-use Rattle.book.specs.Index.{book_in}
-use Rattle.calls.specs.Table.{table}
+use Rattle.std.proofs.Common.{arith}
 use Rattle.calls.specs.CallLaws.{asking_start, asking_hit, asking_scope, asking_on, asking_end}
-use Rattle.calls.specs.CallLaws.{Asking}
 use Rattle.calls.proofs.any_claims.Goals as goal
 
 pub overflow_add-above : goal.overflow_add-above

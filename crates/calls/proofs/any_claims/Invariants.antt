@@ -3,7 +3,6 @@
 use Rattle.std.proofs.Common.{◌-◌, ◌<◌, ◌≤◌}
 use Rattle.book.specs.Index.{book_in}
 use Rattle.calls.specs.Table.{table}
-use Rattle.calls.specs.CallLaws.{asking_start, asking_hit, asking_scope, asking_on, asking_end}
 use Rattle.calls.specs.CallLaws.{Asking}
 use Rattle.calls.proofs.any_claims.Given as goal
 

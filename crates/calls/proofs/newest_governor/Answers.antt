@@ -1,9 +1,7 @@
 -- `calls::newest_governor` meets its contract. The invariant (`Seeking` of CallLaws): the newest governor from here on
 -- is the one above n.
-use Rattle.std.proofs.Common.{arith, ◌-◌, ◌<◌, ◌≤◌}
-use Rattle.calls.specs.Table.{table}
+use Rattle.std.proofs.Common.{arith}
 use Rattle.calls.specs.CallLaws.{seeking_start, seeking_hit, seeking_scope, seeking_on, seeking_end}
-use Rattle.calls.specs.CallLaws.{Seeking}
 use Rattle.calls.proofs.newest_governor.Goals as goal
 
 pub overflow_add-above : goal.overflow_add-above

@@ -2,7 +2,6 @@
 -- is the one above n.
 use Rattle.std.proofs.Common.{◌-◌, ◌<◌, ◌≤◌}
 use Rattle.calls.specs.Table.{table}
-use Rattle.calls.specs.CallLaws.{seeking_start, seeking_hit, seeking_scope, seeking_on, seeking_end}
 use Rattle.calls.specs.CallLaws.{Seeking}
 use Rattle.calls.proofs.newest_governor.Given as goal
 
