@@ -152,7 +152,7 @@ def missing(crate, units, lines):
             yield f"no error comes from `{others[0].name}`"
 
 
-# ---- The gate's word: that an edit is refused, perhaps in brackets that this shows little, and the first error, cut off
+# ---- The gate's word: that an edit is refused, perhaps in brackets that this shows little, and the first error
 TRIED = re.compile(r"^rt: must-fail (\w+)/(\S+)\.edit: (.*)", re.M)
 REFUSED = re.compile(r"refused, as it must be( \(.*)?(?:: )?(.*)")
 
