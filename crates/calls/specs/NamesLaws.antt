@@ -1,12 +1,12 @@
--- Laws for the search for a declared name.
+-- Laws for the search for a declared name. Those that say which name is found are in FoundNames of proofs/.
 --
 -- Contents:
 -- - binders by tests: count_none, count_some, depth_same, depth_bound, depth_more, open_live, open_idle,
 --   open_past
 -- - two lookups, one after the other: or_else
--- - the names of one binder, the nearest row first: Looking, looking_name, looking_on, looking_none
--- - the binders, the innermost first: Searching, searching_start, searching_hit, searching_on, searching_end,
---   searching_none, searching_some
+-- - the rows, one by one: next_row
+-- - the names of one binder, the nearest row first: Looking, looking_hit, looking_on, looking_none
+-- - the binders, the innermost first: Searching, searching_start, searching_end, searching_none, searching_some
 -- - how many names the binders have: Counting, counting_start, counting_on, counting_end, counting_none, counting_some
 -- - room for further names: no_room_lem, room_left
 use Rattle.std.specs.Prelude.{◌≡◌, Bool, true, false, cond, eqb, ltb, leb, length}
@@ -17,17 +17,17 @@ use Rattle.std.proofs.Math.Option.{Option, none, some}
 use Prim.Native.Nat.{ℕ, zero, suc, ◌+◌, ◌-◌, ◌<◌, ◌≤◌}
 use native.Mathlib.Omega.{arith}
 use Rattle.std.proofs.lemmas.Bool.{lt-leb}
-use Rattle.characters.specs.Cases.{by_test, clash}
+use Rattle.characters.specs.Cases.{by_test}
 use Rattle.characters.specs.Spelling.{same}
 use Rattle.book.specs.Book.{lookup_from, lookup_name}
 use Rattle.book.specs.declared.names.Found.{Found}
 use Rattle.semantics.specs.Uses.{Path, scope_of}
-use Rattle.semantics.specs.Tokens.{Item, Variable, variable_in, is_some}
+use Rattle.semantics.specs.Tokens.{Variable, variable_in}
 use Rattle.semantics.specs.Run.{declared_names}
 use Rattle.run_model.specs.Rows.{Row, row_of, is_body, entry_at, names_above, behind_names, within_row, path_from}
 use Rattle.run_model.specs.Rows.{path_of, path_at, scope_at, scope_in}
 use Rattle.calls.specs.TableLaws.{row_past}
-use Rattle.calls.specs.Names.{open_binder, name_count, depth_past, name_in, own_name}
+use Rattle.calls.specs.Names.{open_binder, name_count, depth_past, name_in}
 
 -- ---- Binders by tests
 pub count_none : (b : ℕ) → b < 2 → 0 ≡ name_count b
@@ -88,7 +88,7 @@ module _ (text : List ℕ) (T : List Row) where
   unfolding path_from scope_of behind_names
   last_row size = rw (row_past T 201 (omega (arith, size)))
 
-  next_row : (i : ℕ) → length T ≡ 201 → i ≤ 200 →
+  pub next_row : (i : ℕ) → length T ≡ 201 → i ≤ 200 →
       scope_of (path_of text T i) ≡ scope_of (path_at text T (i + 1) (open_binder (row_of T (i + 1))))
   next_row i size h =
       by_test (ltb i 200)
@@ -133,14 +133,8 @@ module _ (text : List ℕ) (T : List Row) (wanted : List ℕ) where
         ap (λ n. lookup_name (names_above text T n i) wanted) f
         ∙ nearest 0 (n - 1) i Found.Nothing ∙ rw (e, g, z)
 
-    looking_hit : t ≡ true → Found.Name (n - 1) (row_of T j).kind ≡ lookup_name (names_above text T m c) wanted
+    pub looking_hit : t ≡ true → Found.Name (n - 1) (row_of T j).kind ≡ lookup_name (names_above text T m c) wanted
     looking_hit y = sym (one_less ∙ rw y) ∙ s
-
-    pub looking_name : t ≡ true → (d kind : ℕ) → kind ≡ (row_of T j).kind →
-        some (record { kind = kind; item = Item.declared d (n - 1) })
-        ≡ name_in d (lookup_name (names_above text T m c) wanted)
-    unfolding name_in
-    looking_name y d kind f = rw f (ap (name_in d) (looking_hit y))
 
     pub looking_on : t ≡ false → (k : ℕ) → j ≡ k → Looking c m k (n - 1)
     looking_on y k f =
@@ -160,40 +154,8 @@ module _ (text : List ℕ) (T : List Row) (wanted : List ℕ) where
   Searching c a i b d =
       variable_in [] d (scope_of (path_at text T i b)) wanted ≡ variable_in [] 0 (scope_of (path_at text T c a)) wanted
 
-  -- the own opening of row i's call, then those around it
-  split : (i b d : ℕ) (path : Path) →
-      variable_in [] d (scope_of (behind_names text T i b path)) wanted
-      ≡ or_else (own_name text T i b d wanted) (variable_in [] (depth_past b d) (scope_of path) wanted)
-  unfolding behind_names scope_of variable_in name_count names_above lookup_from name_in is_body or_else
-  split i zero d path = refl
-  split i (suc zero) d path = refl
-  split i (suc (suc n)) d path = by (lookup_name (names_above text T n i) wanted) refl
-    where
-      by : (f : Found) → f ≡ lookup_name (names_above text T n i) wanted →
-          variable_in [] d (scope_of (behind_names text T i (suc (suc n)) path)) wanted
-          ≡ or_else (name_in d f) (variable_in [] (suc d) (scope_of path) wanted)
-      by (Found.Name j kind) e = rw (← e, variable_in)
-      by Found.Nothing e = rw (← e, variable_in)
-
   pub searching_start : (c a : ℕ) → Searching c a c a 0
   searching_start c a = refl
-
-  pub searching_hit : (c a i b d : ℕ) (o : Option Variable) (t : Bool) → Searching c a i b d →
-      o ≡ own_name text T i b d wanted → t ≡ is_some o → t ≡ true →
-      o ≡ variable_in [] 0 (scope_of (path_at text T c a)) wanted
-  unfolding or_else is_some
-  searching_hit c a i b d (some v) t s e f h = sym (split i b d (path_of text T i) ∙ rw (← e)) ∙ s
-  searching_hit c a i b d none t s e f h = clash (sym f ∙ h) refl
-
-  pub searching_on : (c a i b d b₁ d₁ : ℕ) (o : Option Variable) (t : Bool) → length T ≡ 201 → Searching c a i b d →
-      i ≤ 200 → o ≡ own_name text T i b d wanted → t ≡ is_some o → t ≡ false →
-      b₁ ≡ open_binder (row_of T (i + 1)) → d₁ ≡ depth_past b d → Searching c a (i + 1) b₁ d₁
-  unfolding or_else is_some
-  searching_on c a i b d b₁ d₁ (some v) t size s h e f k eb ed = clash refl (sym f ∙ k)
-  searching_on c a i b d b₁ d₁ none t size s h e f k eb ed =
-      rw (eb, ed)
-      (ap (λ scope. variable_in [] (depth_past b d) scope wanted) (sym (next_row text T i size h))
-      ∙ sym (split i b d (path_of text T i) ∙ rw (← e)) ∙ s)
 
   -- behind the table no call is open
   pub searching_end : (c a i b d : ℕ) → Searching c a i b d → 200 < i → b ≡ 0 →

@@ -80,6 +80,7 @@ fn name_count(binder: u32) -> u32
 }
 
 // The depth behind a call with this binder: one more if it is the body behind an opening.
+#[tactic(auto, using(crate::specs::NamesLaws::depth_same, crate::specs::NamesLaws::depth_more))]
 fn depth_past(binder: u32, depth: u32) -> u32
     requires { depth ≤ most_nesting }
     ensures { result ≡ depth_past binder depth }

@@ -14,7 +14,6 @@ use Rattle.semantics.specs.Tokens.{declaration_at}
 use Rattle.semantics.proofs.Theorem.Tokens.{declared_kind}
 use Rattle.semantics.specs.Steps.{Todo, After, goes, halts, naming, closing, after_element, closed}
 use Rattle.semantics.specs.Cells.{Cell, numbers_of}
-use Rattle.semantics.specs.Run as run
 use Rattle.semantics.specs.Run.{Result, met, ◌>>=◌, make, closing_code, declared_names}
 use Rattle.run_model.specs.Rows.{Row, declared, on_row, scope_in}
 use Rattle.run_model.proofs.Named.{names_with}

@@ -3,7 +3,8 @@ use Rattle.std.proofs.Common.{arith}
 use Rattle.characters.specs.Spelling.{part_of}
 use Rattle.calls.specs.Table.{table}
 use Rattle.calls.specs.TableLaws.{table_length}
-use Rattle.calls.specs.NamesLaws.{searching_start, searching_hit, searching_on, searching_end}
+use Rattle.calls.specs.NamesLaws.{searching_start, searching_end}
+use Rattle.calls.proofs.FoundNames.{searching_hit, searching_on}
 use Rattle.calls.specs.NamesLaws.{searching_none, searching_some, open_past, depth_bound}
 use Rattle.calls.proofs.names.declared_at.Goals as goal
 

@@ -4,7 +4,8 @@ use Rattle.characters.specs.Spelling.{same}
 use Rattle.book.specs.Book.{lookup_name}
 use Rattle.run_model.specs.Rows.{names_above}
 use Rattle.calls.specs.Table.{table}
-use Rattle.calls.specs.NamesLaws.{looking_name, looking_on, looking_none}
+use Rattle.calls.specs.NamesLaws.{looking_on, looking_none}
+use Rattle.calls.proofs.FoundNames.{looking_name}
 use Rattle.calls.proofs.names.own_name.Goals as goal
 
 pub loop-left-init : goal.loop-left-init
