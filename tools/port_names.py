@@ -17,10 +17,7 @@ SAY = "--say" in sys.argv
 IDENT = r"[A-Za-z◌_][\w'₀-₉ℕℤ◌]*(?:-[\w'₀-₉ℕℤ◌≡≤]+)*"
 TOKEN = re.compile(IDENT)
 DECLARED = re.compile(r"^\s*(?:(?:abbrev|unfoldable|pub|opaque|instance|ghost)\s+)*(" + IDENT + r")\s*:\s")
-FIXED = {
-    "List-left": "ListLeft",
-    "Binder-left": "BinderLeft",
-    "no-parse": "has_no_parse", "none-whole": "has_none_whole", "valueCell": "cell_of_value"}
+FIXED = {"no-parse": "has_no_parse", "none-whole": "has_none_whole", "valueCell": "cell_of_value"}
 KEYWORDS = {"let", "in", "use", "pub", "module", "record", "data", "where", "unfolding", "rw", "elim", "absurd"}
 MIXED = re.compile(r"^[a-z][a-z0-9]*(?:['\w₀-₉-]*)[A-Z]")
 

@@ -124,7 +124,8 @@ module _ (book : Book) (text : List ℕ) (n c j : ℕ) (rest : List (Todo ℕ)) 
   follow_deep r er l e held =
       let g = inv held in rw er (record { is = rw (sub_turn k i l, e) at g.is; held = g.held })
 
-  module _ (l : i < k) (h : n ≡ 0 → ⊥) (q : Parse ℕ) (eq : q ≡ get_or (row_of T n).set i absent_parse) (st1 st2 : List ℕ)
+  module _ (l : i < k) (h : n ≡ 0 → ⊥) (q : Parse ℕ) (eq : q ≡ get_or (row_of T n).set i absent_parse)
+      (st1 st2 : List ℕ)
       (U : List Row) (g : Stage) (a all : Outcome)
       (S : StagedFrom book text st o.state st1 j g
       (λ inner n c rest s. next_rows book text c j rest next items q s (steps_rows book text inner n)))
@@ -136,7 +137,8 @@ module _ (book : Book) (text : List ℕ) (n c j : ℕ) (rest : List (Todo ℕ)) 
 
     turned : Held text st0 c0 →
         (given all (cells_of st2 all.state.cells) U >>= (λ y.
-        follow_from book text (runner_rows book text n) n (next_rows book text c j rest next items) (k - (i + 1)) (i + 1)
+        follow_from book text (runner_rows book text n) n (next_rows book text c j rest next items) (k - (i + 1))
+        (i + 1)
         y.failure y.state)) ≡ z
     turned held =
         let f = inv held in
@@ -146,7 +148,8 @@ module _ (book : Book) (text : List ℕ) (n c j : ℕ) (rest : List (Todo ℕ)) 
         let positive : 0 < n = omega (arith, h) in
         let s : RowState = row_state o.state.units (cells_of st o.state.cells) T in
         let on : model.Outcome → Result model.Outcome = λ y.
-        follow_from book text (runner_rows book text n) n (next_rows book text c j rest next items) (k - (i + 1)) (i + 1)
+        follow_from book text (runner_rows book text n) n (next_rows book text c j rest next items) (k - (i + 1))
+        (i + 1)
         y.failure y.state in
         let mid : Result model.Outcome = given a (cells_of st2 a.state.cells) U in
         ap (λ (x : Result model.Outcome). x >>= on)
@@ -164,7 +167,8 @@ module _ (book : Book) (text : List ℕ) (n c j : ℕ) (rest : List (Todo ℕ)) 
         record { is = limit_ends all (cells_of st2 all.state.cells) U _ f ∙ turned held; held = kept_on held }
 
     pub follow_again : all.limit ≡ 0 → Held text st0 c0 → Going text st2 all.state.cells
-        (follow_from book text (runner_rows book text n) n (next_rows book text c j rest next items) (k - (i + 1)) (i + 1)
+        (follow_from book text (runner_rows book text n) n (next_rows book text c j rest next items) (k - (i + 1))
+        (i + 1)
         (failure_of (failure_at all)) (row_state all.state.units (cells_of st2 all.state.cells) U)) z
     follow_again f held =
         record { is = sym (goes_to all (cells_of st2 all.state.cells) U _ f) ∙ turned held; held = kept_on held }

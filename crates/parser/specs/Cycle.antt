@@ -113,7 +113,8 @@ module _ (n : ℕ) where
 
   -- variant j, after the outcome of those before it
   abbrev pub tries : ℕ → ℕ → code.Outcome → FromState
-  tries m j before book text s = variant_rows book text (inner_runner book text n) n m j (failure_of (failure_at before)) s
+  tries m j before book text s = variant_rows book text (inner_runner book text n) n m j
+      (failure_of (failure_at before)) s
 
   module _ (here : Progress) where
     abbrev pub descends : Next → ℕ → FromState

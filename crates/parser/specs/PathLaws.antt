@@ -33,7 +33,8 @@ use Rattle.transitions.specs.declared.stages.Next.{Next}
 use Rattle.transitions.specs.declared.stages.Reached.{Reached}
 use Rattle.transitions.specs.declared.stages.Stage.{Stage}
 use Rattle.transitions.specs.Outcomes.{cells_of, Held, given, goes_on, Ran, Runs, failure_at}
-use Rattle.transitions.specs.Steps.{todo_from, next_rows, omits_rows, descends_rows, chooses_rows, names_rows, does_rows}
+use Rattle.transitions.specs.Steps.{todo_from, next_rows, omits_rows, descends_rows, chooses_rows, names_rows}
+use Rattle.transitions.specs.Steps.{does_rows}
 use Rattle.transitions.specs.Steps.{resumes, first_side_rows, StagedIn, ReachedFrom, Chosen}
 use Rattle.transitions.specs.Names.{names_at, no_names}
 use Rattle.parser.specs.Cycle.{both_sides_rows, rank_of}
@@ -165,7 +166,8 @@ module _ (book : Book) (text : List ℕ) (inner : Option RowRunner) (n c j : ℕ
       Runs text st0 o.state.cells st1 U r
       (λ cells. resumes book text inner n c j rest doing at items (given o cells T))
   unfolding does_rows
-  resume_child M e k = by_part (λ s. descends_rows book text inner n c j rest none Next.Steps M at items s) (λ s. rw e) k
+  resume_child M e k = by_part (λ s. descends_rows book text inner n c j rest none Next.Steps M at items s) (λ s. rw e)
+      k
 
   resume_optional : (M : ℕ) → doing ≡ Doing.Optional M →
       Runs text st0 o.state.cells st1 U r
@@ -202,7 +204,8 @@ module _ (book : Book) (text : List ℕ) (inner : Option RowRunner) (n c j : ℕ
   resume_names l e are k =
       by_part (λ s. names_rows book text inner n c j rest l.values l.closing l.nonterminal at items s)
       (λ s. sym (ap (λ b. cond b
-      (names_rows book text inner n c j rest l.values l.closing l.nonterminal at items s) (chooses_rows book text inner n c j rest (Next.Elements l) l.nonterminal at items s)) are)
+      (names_rows book text inner n c j rest l.values l.closing l.nonterminal at items s)
+      (chooses_rows book text inner n c j rest (Next.Elements l) l.nonterminal at items s)) are)
       ∙ ap (λ d. does_rows book text inner n c j rest d at items s) (sym e)) k
 
 -- ---- Steps

@@ -168,7 +168,8 @@ module _ (book : Book) (text : List ℕ) (n m j : ℕ) (before : Outcome) (w : V
               ap (λ k. given r (cells_of st2 k) U1) count.cells
               ∙ count.is text (row_of T n).nonterminal (cells_of st2 o.state.cells) U1
               ∙ ap (λ (x : Result model.Outcome). x >>= variant_counts book text n j before T)
-              (q.is ∙ ap (λ (v : Variant). resumes book text (runner_rows book text (n - 1)) (n - 1) n j (todo_of book v)
+              (q.is ∙ ap (λ (v : Variant). resumes book text (runner_rows book text (n - 1)) (n - 1) n j
+              (todo_of book v)
               Doing.Steps b.place b.items (given b.outcome (cells_of st1 b.outcome.state.cells) U)) ew
               ∙ d.is (runner_rows book text (n - 1)) (n - 1) (todo_of book (nth_variant book j)))
               ∙ bind_assoc (makes (begin book text j)

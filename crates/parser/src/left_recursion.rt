@@ -28,7 +28,8 @@ fn rounds(
     state: State,
 ) -> Outcome
     requires { CanRun book.now index.now text.now rows.old row }
-    ensures { Does book.now index.now text.now store.old store.new rows.old rows.new state result (runs_again row minimum) }
+    ensures { Does book.now index.now text.now store.old store.new rows.old rows.new state result
+        (runs_again row minimum) }
 {
     let mut s = state;
     let mut round = 0usize;
@@ -61,7 +62,8 @@ fn call(
     state: State,
 ) -> Outcome
     requires { CanRun book.now index.now text.now rows.old row }
-    ensures { Does book.now index.now text.now store.old store.new rows.old rows.new state result (runs_call row binder nonterminal at minimum) }
+    ensures { Does book.now index.now text.now store.old store.new rows.old rows.new state result
+        (runs_call row binder nonterminal at minimum) }
 {
     calls::open_call(rows, row, binder, nonterminal, at);
     let o = one_run(book, index, text, store, rows, row, minimum, state);
@@ -89,7 +91,8 @@ pub fn enter(
     state: State,
 ) -> Outcome
     requires { Ready book.now index.now text.now rows.old row }
-    ensures { Does book.now index.now text.now store.old store.new rows.old rows.new state result (enters row binder nonterminal at) }
+    ensures { Does book.now index.now text.now store.old store.new rows.old rows.new state result
+        (enters row binder nonterminal at) }
 {
     let e = begin_use(
         book,

@@ -24,7 +24,8 @@ fn close(
     state: State,
 ) -> Outcome
     requires { OnNames book.now index.now text.now rows.old free here names }
-    ensures { Does book.now index.now text.now store.old store.new rows.old rows.new state result (closes_names free here names) }
+    ensures { Does book.now index.now text.now store.old store.new rows.old rows.new state result
+        (closes_names free here names) }
 {
     let g = open_body(book, index, text, store, rows, here, names, state);
     let o = g.outcome;
@@ -71,7 +72,8 @@ fn declare(
     state: State,
 ) -> Outcome
     requires { OnNames book.now index.now text.now rows.old free here names }
-    ensures { Does book.now index.now text.now store.old store.new rows.old rows.new state result (declares_one free here names) }
+    ensures { Does book.now index.now text.now store.old store.new rows.old rows.new state result
+        (declares_one free here names) }
 {
     let spent = spend(state);
     if spent.limit != 0 {
@@ -122,7 +124,8 @@ pub fn choose(
     state: State,
 ) -> Outcome
     requires { OnNames book.now index.now text.now rows.old free here names }
-    ensures { Does book.now index.now text.now store.old store.new rows.old rows.new state result (chooses_names free here names) }
+    ensures { Does book.now index.now text.now store.old store.new rows.old rows.new state result
+        (chooses_names free here names) }
 {
     let spent = spend(state);
     if spent.limit != 0 {

@@ -35,7 +35,8 @@ fn variant(
     before: Outcome,
 ) -> Outcome
     requires { CanTry book.now index.now text.now rows.old row before }
-    ensures { Does book.now index.now text.now store.old store.new rows.old rows.new before.state result (tries row minimum j before) }
+    ensures { Does book.now index.now text.now store.old store.new rows.old rows.new before.state result
+        (tries row minimum j before) }
 {
     let variant = book::variant(book, index, j as usize);
     if variant.level < minimum {
@@ -79,7 +80,8 @@ pub fn one_run(
     state: State,
 ) -> Outcome
     requires { CanRun book.now index.now text.now rows.old row }
-    ensures { Does book.now index.now text.now store.old store.new rows.old rows.new state result (runs_once row minimum) }
+    ensures { Does book.now index.now text.now store.old store.new rows.old rows.new state result
+        (runs_once row minimum) }
 {
     let nonterminal = calls::nonterminal_of(rows, row);
     calls::clear_run(rows, row);
@@ -114,7 +116,8 @@ fn descend(
     state: State,
 ) -> Outcome
     requires { OnPath book.now index.now text.now rows.old free here }
-    ensures { Does book.now index.now text.now store.old store.new rows.old rows.new state result (descends free here next nonterminal) }
+    ensures { Does book.now index.now text.now store.old store.new rows.old rows.new state result
+        (descends free here next nonterminal) }
 {
     let binder = calls::inherited_binder(rows, here.call);
     let at = begin_child(text, rows, here);
@@ -147,7 +150,8 @@ pub fn follow(
     child: Outcome,
 ) -> Outcome
     requires { OnPath book.now index.now text.now rows.old free here }
-    ensures { Continues book.now index.now text.now store.old store.new rows.old rows.new child result (follows_each free here next) }
+    ensures { Continues book.now index.now text.now store.old store.new rows.old rows.new child result
+        (follows_each free here next) }
 {
     if !goes_on(child) {
         return child;
@@ -200,7 +204,8 @@ fn choice(
     state: State,
 ) -> Outcome
     requires { OnPath book.now index.now text.now rows.old free here }
-    ensures { Does book.now index.now text.now store.old store.new rows.old rows.new state result (chooses free here next nonterminal) }
+    ensures { Does book.now index.now text.now store.old store.new rows.old rows.new state result
+        (chooses free here next nonterminal) }
 {
     let f = first_side(book, index, text, store, here, next, state);
     let there = Progress {
@@ -256,7 +261,8 @@ fn steps(
     begun: Outcome,
 ) -> Outcome
     requires { OnPath book.now index.now text.now rows.old free from }
-    ensures { Continues book.now index.now text.now store.old store.new rows.old rows.new begun result (proceeds free from first) }
+    ensures { Continues book.now index.now text.now store.old store.new rows.old rows.new begun result
+        (proceeds free from first) }
 {
     // Four numbers, and not a copy of the struct: that would be read in larger parts than it was written in, and wait.
     // The struct is made where it is handed on, so that a step that calls nothing stores none.

@@ -35,11 +35,13 @@ module _ (book : Book) (text : List ℕ) (m : ℕ) (S : RowRunner) (keeping : Ke
   -- one variant
   pub keeps_taken : (j x items units : ℕ) (cells : List Cell) (T : List Row) → length T ≡ 201 →
       On (Ran n T)
-      (S n j (todo_of book (nth_variant book j)) x items (row_state units cells (on_row T n (take_variant book text j))))
+      (S n j (todo_of book (nth_variant book j)) x items
+      (row_state units cells (on_row T n (take_variant book text j))))
   keeps_taken j x items units cells T h =
       let U = on_row T n (take_variant book text j) in
       let f : Fits n m U =
-      record { below = omega arith; within = room; size = length-set T n (take_variant book text j (row_of T n)) ∙ h } in
+      record { below = omega arith; within = room; size = length-set T n (take_variant book text j (row_of T n)) ∙ h }
+      in
       on_map (Beside n (suc m) U) (Ran n T) _
       (keeping.of n j (todo_of book (nth_variant book j)) x items (row_state units cells U) f)
       (λ o k.

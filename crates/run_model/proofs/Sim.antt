@@ -5,7 +5,7 @@
 -- each way of going on (one part after another, a test, an option, a list, cells made, a unit spent, one level further
 -- in); functions of the definition that don't look at the marks (`Plain`); and what is seen of the rows: while the call
 -- of row c runs, at its end, and after a call at row n.
-use Rattle.std.specs.Prelude.{◌≡◌, refl, Bool, true, false, List, [], ◌∷◌, ℕ, suc, ◌-◌, ◌<◌, ◌≤◌, ltb, eqb, set, length}
+use Rattle.std.specs.Prelude.{◌≡◌, refl, Bool, true, false, List, [], ◌∷◌, ℕ, suc, ◌-◌, ◌<◌, ◌≤◌, ltb, eqb, length}
 use Rattle.std.proofs.Common.{ap, ◌∙◌, arith, eqb-true}
 use Rattle.std.proofs.Math.Option.{Option, none, some}
 use Rattle.std.proofs.lemmas.Bool.{eqb-false}
@@ -15,7 +15,7 @@ use Rattle.semantics.specs.Uses.{scope_of}
 use Rattle.semantics.specs.Tokens.{Item, when}
 use Rattle.semantics.specs.Steps.{Token, Taken, After, goes, halts, Todo}
 use Rattle.semantics.specs.Cells.{Cell, find_cell}
-use Rattle.semantics.specs.Run.{Result, met, ok, ◌>>=◌, State, Parsed, parsed, Made, made, Call, call, Runner, spend}
+use Rattle.semantics.specs.Run.{Result, met, ok, ◌>>=◌, State, Parsed, parsed, Made, made, Call, Runner, spend}
 use Rattle.semantics.specs.Run.{make, item_cell, begin, with_cell, with_token, nested}
 use Rattle.run_model.specs.Rows.{Row, row_of, asked_at, marks_of, call_of, scope_in}
 use Rattle.run_model.specs.Model.{RowState, row_state, Outcome, RowMade, row_made, RowRunner, unmarked, makes}

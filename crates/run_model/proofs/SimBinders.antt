@@ -48,7 +48,8 @@ module _ (book : Book) (text : List ℕ) (n : ℕ) (inner : Option RowRunner) (i
 
   pub sim_body : (opening : Option (List Entry)) (M item x items units : ℕ) (cells : List Cell) (T : List Row) →
       Here book text C c (suc n) j T → OpensAt text n T opening →
-      body_after book text innerA opening C j M item rest x items (row_of T c).run (state_at c (row_state units cells T))
+      body_after book text innerA opening C j M item rest x items (row_of T c).run
+      (state_at c (row_state units cells T))
       ≡ see (ran_at c) (body_rows book text inner n opening c j M item rest x items (row_state units cells T))
   unfolding body_after body_rows
   sim_body opening M item x items units cells T h is =
@@ -63,7 +64,8 @@ module _ (book : Book) (text : List ℕ) (n : ℕ) (inner : Option RowRunner) (i
 
   pub sim_opens : (names : List Entry) (kinds close M x items units : ℕ) (cells : List Cell) (T : List Row) →
       Here book text C c (suc n) j T → NamesAt text T n names →
-      opens book text innerA C j names kinds close M rest x items (row_of T c).run (state_at c (row_state units cells T))
+      opens book text innerA C j names kinds close M rest x items (row_of T c).run
+      (state_at c (row_state units cells T))
       ≡ see (ran_at c) (opens_rows book text inner n c j names kinds close M rest x items (row_state units cells T))
   unfolding opens opens_rows see
   sim_opens names kinds close M x items units cells T h is =
@@ -138,7 +140,8 @@ module _ (book : Book) (text : List ℕ) (n : ℕ) (inner : Option RowRunner) (i
       Here book text C c (suc n) j T → NamesAt text T n names →
       name_choice book text innerA C j names kinds close M rest x items (row_of T c).run
       (state_at c (row_state units cells T))
-      ≡ see (ran_at c) (name_choice_rows book text inner n c j names kinds close M rest x items (row_state units cells T))
+      ≡ see (ran_at c) (name_choice_rows book text inner n c j names kinds close M rest x items
+      (row_state units cells T))
   unfolding name_choice name_choice_rows see
   sim_name_choice names kinds close M x items units cells T h is =
       spend_see (ran_at c) (row_state units cells T) (asked_at (row_of T c) ∷ marks_of T c) _ _

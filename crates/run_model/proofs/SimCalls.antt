@@ -65,7 +65,8 @@ add_all_state units cells A B set (p ∷ ps) =
     go (add (state_of units cells B) set p) (λ more. add_all_state units cells A B more ps)
   where
     go : (y : Result (List (Parse ℕ))) →
-        ((more : List (Parse ℕ)) → add_all (state_of units cells A) more ps ≡ add_all (state_of units cells B) more ps) →
+        ((more : List (Parse ℕ)) → add_all (state_of units cells A) more ps ≡ add_all (state_of units cells B) more ps)
+        →
         (y >>= (λ more. add_all (state_of units cells A) more ps))
         ≡ (y >>= (λ more. add_all (state_of units cells B) more ps))
     go (met number u) h = refl
@@ -96,7 +97,8 @@ module _ (book : Book) (text : List ℕ) (m : ℕ) (S : RowRunner) (R : Runner) 
   sim_taken : (C : Call) (j x items units : ℕ) (cells : List Cell) (T : List Row) → Standing text C n T →
       R C j (todo_of book (nth_variant book j)) x items (row_of T n).run (state_at n (row_state units cells T))
       ≡ see (ran_at n)
-      (S n j (todo_of book (nth_variant book j)) x items (row_state units cells (on_row T n (take_variant book text j))))
+      (S n j (todo_of book (nth_variant book j)) x items
+      (row_state units cells (on_row T n (take_variant book text j))))
   sim_taken C j x items units cells T h =
       let r = take_variant book text j (row_of T n) in
       let l : n < length T = omega (arith, h.size) in
@@ -386,7 +388,8 @@ module _ (book : Book) (text : List ℕ) (n : ℕ) (inner : Option RowRunner) (i
       ]
       ≡ see (found_at n) (elim (governor_at T u g) [
         | RowGovernor.same_start g ↦ ok (stored_rows book text inner n g N u (row_state units cells T))
-        | RowGovernor.minimum least ↦ nested_rows book text inner n (row_state units cells T) (runs_rows least units cells)
+        | RowGovernor.minimum least ↦ nested_rows book text inner n (row_state units cells T)
+            (runs_rows least units cells)
       ])
   unfolding governor_at see
   sim_governed units cells g a (no_governor h p) = rw p (sim_nested 0 units cells)

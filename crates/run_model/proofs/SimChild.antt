@@ -23,12 +23,14 @@ use Rattle.semantics.specs.Uses.{Enclosing, scope_of, use_of}
 use Rattle.semantics.specs.Steps.{after_element, Todo, elements, ending}
 use Rattle.semantics.specs.Cells.{Cell}
 use Rattle.semantics.specs.Errors.{Error, chosen_failure}
-use Rattle.semantics.specs.Run.{ok, ◌>>=◌, parsed, Call, Runner, Next, chosen, plain_next, list_next, nested, enter_child}
+use Rattle.semantics.specs.Run.{ok, ◌>>=◌, parsed, Call, Runner, Next, chosen, plain_next, list_next, nested}
+use Rattle.semantics.specs.Run.{enter_child}
 use Rattle.semantics.specs.Run.{follow_more, follow, followed}
 use Rattle.run_model.specs.Rows.{Row, with_child, row_of, on_row, open_above, use_at, asked_at, stored_of, marks_of}
 use Rattle.run_model.specs.Rows.{inherited, entry_at, names_above, behind_names, path_of, path_at, scope_at, call_of}
 use Rattle.run_model.specs.Model.{row_state, Outcome, outcome, RowRunner, RowNext, together, plain_next_rows}
-use Rattle.run_model.specs.Model.{list_next_rows, nested_rows, enter_child_rows, follow_from, followed_rows, chosen_rows}
+use Rattle.run_model.specs.Model.{list_next_rows, nested_rows, enter_child_rows, follow_from, followed_rows}
+use Rattle.run_model.specs.Model.{chosen_rows}
 use Rattle.run_model.specs.Model.{or_child}
 use Rattle.run_model.proofs.Keeps.{row_put, row_else, keeps_put, KeepsAt, Called, at_put, Beside, Calls, Keeping}
 use Rattle.run_model.proofs.Keeps.{Inner}
@@ -206,7 +208,8 @@ module _ (book : Book) (text : List ℕ) (n : ℕ) (inner : Option RowRunner) (i
   -- behind the child's call: the marks are those of the call of row c and of those around it, and the run's set is as
   -- it was
   behind : (e : Option Error) (units : ℕ) (cells : List Cell) (T : List Row) → Here book text C c (suc n) j T →
-      found_at n (outcome e (row_state units cells T)) ≡ parsed (row_of T n).set e (state_at c (row_state units cells T))
+      found_at n (outcome e (row_state units cells T)) ≡ parsed (row_of T n).set e
+      (state_at c (row_state units cells T))
   behind e units cells T h = rw (open_skips asked_at T c n below within h.standing.live h.idle)
 
   child_run : (x : ℕ) (T U : List Row) → length T ≡ 201 → Called n (put T (skip_from text x)) U →

@@ -157,7 +157,8 @@ module _ (book : Book) (text : List ℕ) (n : ℕ) (inner : Option RowRunner) (i
   unit_see step units cells T asked L K h = by (between 10 11 (step_number step))
     where
       by : (b : Bool) → (when b (λ _. ok (state_of units cells asked)) (λ _. spend (state_of units cells asked)) >>= L)
-          ≡ see (ran_at c) (when b (λ _. ok (row_state units cells T)) (λ _. spend_rows (row_state units cells T)) >>= K)
+          ≡ see (ran_at c) (when b (λ _. ok (row_state units cells T)) (λ _. spend_rows (row_state units cells T)) >>=
+          K)
       by true = h units
       by false = spend_see (ran_at c) (row_state units cells T) asked L K h
 

@@ -41,7 +41,8 @@ open_equal F T U zero i h = refl
 open_equal F T U (suc k) i h = rw (h i (omega arith), open_equal F T U k (suc i) (λ j l. h j (omega arith)))
 
 -- row n is none of the rows above it
-pub open_put : {A : Type 0} (F : Row → A) (T : List Row) (n : ℕ) (r : Row) → open_above F (set T n r) n ≡ open_above F T n
+pub open_put : {A : Type 0} (F : Row → A) (T : List Row) (n : ℕ) (r : Row) → open_above F (set T n r) n ≡ open_above F
+    T n
 open_put F T n r = open_equal F T (set T n r) (200 - n) (suc n) (λ j h. row_else T n j r (λ e. omega arith))
 
 -- stored sets stay over a call
@@ -64,7 +65,8 @@ skips F T c k (suc d) i n e f live idle =
 
 -- rows between n and the call of row c that are not live are passed over
 pub open_skips : {A : Type 0} (F : Row → A) (T : List Row) (c n : ℕ) → n < c → c ≤ 200 → (row_of T c).live ≡ 1 →
-    ((j : ℕ) → suc n ≤ j → j < c → eqb (row_of T j).live 1 ≡ false) → open_above F T n ≡ F (row_of T c) ∷ open_above F T c
+    ((j : ℕ) → suc n ≤ j → j < c → eqb (row_of T j).live 1 ≡ false) → open_above F T n ≡ F (row_of T c) ∷ open_above F
+    T c
 open_skips F T c n below room live idle =
     skips F T c (200 - c) (c - suc n) (suc n) (200 - n) (omega arith) (omega arith) live idle
 
@@ -89,7 +91,8 @@ module _ (text : List ℕ) (T U : List Row) where
   behind_same i (suc zero) path h = refl
   behind_same i (suc (suc n)) path h = rw (names_same n i h)
 
-  path_same : (k i : ℕ) → ((j : ℕ) → i ≤ j → Same (row_of T j) (row_of U j)) → path_from text U k i ≡ path_from text T k i
+  path_same : (k i : ℕ) → ((j : ℕ) → i ≤ j → Same (row_of T j) (row_of U j)) → path_from text U k i ≡ path_from text T
+      k i
   unfolding path_from within_row
   path_same zero i h = refl
   path_same (suc k) i h =

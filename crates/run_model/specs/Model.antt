@@ -18,7 +18,7 @@ use Rattle.book.specs.Book.{Entry, Book, nth_nonterminal, nth_variant, associati
 use Rattle.book.specs.declared.records.Associativity.{Associativity}
 use Rattle.book.specs.declared.records.Step.{Step}
 use Rattle.book.specs.Numbers.{default_level}
-use Rattle.semantics.specs.Numbers.{most_nesting, most_rounds, most_declared, too_deep, too_many_parses, too_many_names}
+use Rattle.semantics.specs.Numbers.{most_rounds, most_declared, too_deep, too_many_parses, too_many_names}
 use Rattle.semantics.specs.Numbers.{character_wanted, nonterminal_wanted}
 use Rattle.semantics.specs.Values.{Parse, absent_parse}
 use Rattle.semantics.specs.Uses.{has_mark}
@@ -27,7 +27,8 @@ use Rattle.semantics.specs.Steps.{Taken, step_at, goes, halts, after_element, cl
 use Rattle.semantics.specs.Steps.{naming, closing, todo_of}
 use Rattle.semantics.specs.Cells.{Cell}
 use Rattle.semantics.specs.Errors.{Error, error, join_with, chosen_failure, step_error, declaration_error}
-use Rattle.semantics.specs.Run.{Result, met, ok, ◌>>=◌, State, Made, made, Call, call, all_in, kept, add, add_all, spend}
+use Rattle.semantics.specs.Run.{Result, met, ok, ◌>>=◌, State, Made, made, Call, call, all_in, kept, add, add_all}
+use Rattle.semantics.specs.Run.{spend}
 use Rattle.semantics.specs.Run.{make, failed_call, either, closing_code, begin, with_cell, with_token, counted}
 use Rattle.semantics.specs.Run.{declared_names}
 use Rattle.run_model.specs.Rows.{Row, opened, ended, with_variant, with_child, was_asked, with_set, with_run, copied}
@@ -181,7 +182,8 @@ module _ (book : Book) (text : List ℕ) where
 
   -- ---- A use of mark 2
   abbrev pub claimed_rows : List Row → ℕ → ℕ → ℕ → Bool
-  claimed_rows T n binder u = is_some (variable_at book text (scope_at text T n binder) u) && claims_use book T n binder u
+  claimed_rows T n binder u = is_some (variable_at book text (scope_at text T n binder) u) && claims_use book T n
+      binder u
 
   abbrev pub identifier_parse : ℕ → ℕ → Parse ℕ
   identifier_parse end cell =
@@ -364,7 +366,8 @@ module _ (book : Book) (text : List ℕ) (inner : Option RowRunner) (n : ℕ) wh
       | Taken.nothing ↦ ok (outcome (some (step_error book text (scope_in text s.rows c) step (skip_from text x))) s)
       | Taken.token t ↦ makes (with_token book text j items t.item) s >>=
           (λ m. steps_rows c j rest t.next m.cell m.state)
-      | Taken.child M ↦ enter_child_rows none c M x s >>= (λ r. followed_rows (plain_next_rows book text c j rest items) r)
+      | Taken.child M ↦ enter_child_rows none c M x s >>=
+          (λ r. followed_rows (plain_next_rows book text c j rest items) r)
       | Taken.optional M ↦ or_absent_rows c j M rest (steps_rows c j rest) x items s
       | Taken.list comma M close y ↦ listing_rows c j comma M close rest (steps_rows c j rest) y items s
       | Taken.unopened y ↦ makes (make text Cell.empty) s >>=

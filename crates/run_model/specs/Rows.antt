@@ -12,7 +12,8 @@
 --
 -- First the rows and what is done to one; then what the live rows above a row say: the path with its openings, the
 -- stored sets and the marks; then governors and claims by rows.
-use Rattle.std.specs.Prelude.{Bool, true, false, not, ◌&&◌, ◌||◌, List, [], ◌∷◌, ℕ, zero, suc, ◌+◌, ◌-◌, ltb, eqb, get_or, length, set}
+use Rattle.std.specs.Prelude.{Bool, true, false, not, ◌&&◌, ◌||◌, List, [], ◌∷◌, ℕ, zero, suc, ◌+◌, ◌-◌, ltb, eqb}
+use Rattle.std.specs.Prelude.{get_or, length, set}
 use Rattle.std.proofs.Math.Option.{Option, none, some}
 use Rattle.characters.specs.Spelling.{part_of}
 use Rattle.book.specs.Book.{Book, Entry}
@@ -208,7 +209,8 @@ scope_at text T n (suc b) = scope_of (path_at text T n (suc b))
 -- the call of row c, and its scope
 abbrev pub call_of : List ℕ → List Row → ℕ → Call
 call_of text T c =
-    call (path_at text T c (row_of T c).binder) (sets_of T c) (row_of T c).nonterminal (row_of T c).start (row_of T c).set
+    call (path_at text T c (row_of T c).binder) (sets_of T c) (row_of T c).nonterminal (row_of T c).start
+    (row_of T c).set
 
 abbrev pub scope_in : List ℕ → List Row → ℕ → Scope
 scope_in text T c = scope_at text T c (row_of T c).binder

@@ -96,7 +96,8 @@ text = 60 ∷ 117 ∷ 32 ∷ 97 ∷ 62 ∷ 97 ∷ []
 
 abbrev behind_opening : ℕ → Result Parsed
 behind_opening levels =
-    name_choice book text (runner book text levels) (call [] [] 0 0 []) 0 [] 1 62 1 [] 1 1 [] (state 5 (Cell.empty ∷ []))
+    name_choice book text (runner book text levels) (call [] [] 0 0 []) 0 [] 1 62 1 [] 1 1 []
+    (state 5 (Cell.empty ∷ []))
 
 -- n names are declared in a scope that has 32
 abbrev opens : ℕ → Result State
@@ -176,7 +177,8 @@ pub record DeclaredNameAnswers : Type 0 where
   pub last_comma :
       reads bytes (60 ∷ 32 ∷ 117 ∷ 32 ∷ 97 ∷ 32 ∷ 44 ∷ 32 ∷ 62 ∷ 97 ∷ [])
       ≡ value (bound (kind 1) (variable_tree (Tree.declared 0 0))) 1
-  pub empty : reads bytes (60 ∷ 62 ∷ 115 ∷ []) ≡ value (bound (Tree.list no_trees) (variable_tree (Tree.variable 0 2))) 1
+  pub empty : reads bytes (60 ∷ 62 ∷ 115 ∷ []) ≡ value (bound (Tree.list no_trees) (variable_tree (Tree.variable 0 2)))
+      1
   -- "without the opening, the body alone"; kinds "absent without the opening": `s`
   pub alone : reads bytes (115 ∷ []) ≡ value (bound Tree.absent (variable_tree (Tree.variable 0 2))) 1
   -- `<u a>-<t b>a`, and `<u a>-a`, where an absent opening is no binder

@@ -15,7 +15,8 @@
 --   run_with_lem             "Rust's two left-recursion messages and the claimed-name message never get past this": with
 --                        whatever errors for re-entries and claimed names, the run is the same (ErrorLaws/Unseen, of
 --                        the run that ErrorLaws/Told has, by the relations of ErrorLaws/Like)
-use Rattle.std.specs.Prelude.{◌≡◌, refl, Bool, true, cond, ◌&&◌, List, [], ◌↔◌, ℕ, ◌+◌, ◌-◌, ◌≤◌, ◌<◌, max, eqb, get_or, drop}
+use Rattle.std.specs.Prelude.{◌≡◌, refl, Bool, true, cond, ◌&&◌, List, [], ◌↔◌, ℕ, ◌+◌, ◌-◌, ◌≤◌, ◌<◌, max, eqb, get_or}
+use Rattle.std.specs.Prelude.{drop}
 use Rattle.std.proofs.Common.{sym, ◌∙◌, arith, get_or-take, get_or-drop}
 use Rattle.std.proofs.Math.Path.{ap}
 use Rattle.std.proofs.Math.Bool.{false}
@@ -66,7 +67,8 @@ module _ (text : List ℕ) (s : ℕ) (skipped : skip_from text s ≡ s) where
   module _ (n : ℕ) (some_bytes : 0 < n) where
     first_byte : get_or (part_of text s n) 0 0 ≡ get_or text s 0
     first_byte =
-        get_or-take n (drop s text) 0 0 some_bytes ∙ get_or-drop s text 0 0 ∙ ap (λ (i : ℕ). get_or text i 0) (omega arith)
+        get_or-take n (drop s text) 0 0 some_bytes ∙ get_or-drop s text 0 0 ∙ ap (λ (i : ℕ). get_or text i 0)
+        (omega arith)
 
     second_byte : 1 < n → get_or (part_of text s n) 1 0 ≡ get_or text (s + 1) 0
     second_byte h = get_or-take n (drop s text) 1 0 h ∙ get_or-drop s text 1 0

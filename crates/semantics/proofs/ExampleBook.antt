@@ -72,15 +72,20 @@ times a b = Tree.variant 2 (no_trees ▸ a ▸ b)
 
 -- what the rows compute with: every definition that is shut
 unfoldable pub computing : Unit {0}
-unfolding class_of leading span_end comment_at comment_end round_end skip_rounds skip_from identifier_at decimal number_of
-    number_at same is_reserved lookup_from least_word checked records spelling entry of_binder nonterminal variant step_of
+unfolding class_of leading span_end comment_at comment_end round_end skip_rounds skip_from identifier_at decimal
+    number_of
+    number_at same is_reserved lookup_from least_word checked records spelling entry of_binder nonterminal variant
+    step_of
     step all_pass ended entire_book check_book outwards govern governor is_some character_end identifier_end reserved_at
-    free_end scope_of variable_in variable_at step_at has_claimant kind_at name_of_kind declaration_at after_element closed
+    free_end scope_of variable_in variable_at step_at has_claimant kind_at name_of_kind declaration_at after_element
+    closed
     numbers_of cells_in identity_of find_cell tree_in trees_in meaning_of meanings join beyond join_with choice_error
-    identifier_error declaration_error step_error ◌>>=◌ same_parse has all_in kept add add_all ask newest others spend make
+    identifier_error declaration_error step_error ◌>>=◌ same_parse has all_in kept add add_all ask newest others spend
+    make
     item_cell declared_names open_scope with_cell with_token nested closing_code begin complete counted variants one_run
     roundsRun failed_call run_call named run_identifier reentry enter enter_child either follow_more follow followed
-    plain_next list_next chosen stops step_unit or_absent choice listing body_after opens declares name_choice steps runner
+    plain_next list_next chosen stops step_unit or_absent choice listing body_after opens declares name_choice steps
+    runner
     run cell_numbers parse_numbers written whole_values all_are first_high by_values at_end on_book answer_of
 computing = tt
 

@@ -4,7 +4,7 @@ use Rattle.std.specs.Prelude.{◌≡◌, true, false, cond, List, [], ◌∷◌,
 use Rattle.std.proofs.Math.Option.{Option, none, some}
 use Rattle.characters.specs.Skipping.{skip_from}
 use Rattle.characters.specs.Spelling.{part_of}
-use Rattle.book.specs.Book.{Entry, Book, nth_nonterminal, nth_variant}
+use Rattle.book.specs.Book.{Book, nth_nonterminal, nth_variant}
 use Rattle.book.specs.declared.records.Associativity.{Associativity}
 use Rattle.book.specs.declared.records.Step.{Step}
 use Rattle.book.specs.Numbers.{default_level}
@@ -12,7 +12,7 @@ use Rattle.semantics.specs.Values.{Tree, Trees, no_trees, ◌▸◌, variant, na
 use Rattle.semantics.specs.Values.{absent, list, Parse}
 use Rattle.semantics.specs.Uses.{use_of, has_mark, within, behind, Path, scope_of, minimum, same_start, governor}
 use Rattle.semantics.specs.Uses.{keeps}
-use Rattle.semantics.specs.Tokens.{Item, Read, character_end, free_end, spelled, claimed, declaration_at}
+use Rattle.semantics.specs.Tokens.{Item, character_end, free_end, spelled, claimed, declaration_at}
 use Rattle.semantics.specs.Steps.{Taken, step_at, goes, halts, after_element, closed, Todo, taking, elements}
 use Rattle.semantics.specs.Steps.{ending, naming, closing, todo_of}
 

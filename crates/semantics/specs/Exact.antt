@@ -1,7 +1,8 @@
 -- Demand 3, what an answer has to do with the book's derivations: the parses listed, each once, are exactly those
 -- with a finite derivation; a value is returned exactly when some derivation reaches the end and all that do agree.
 -- Parses are alike if they are in rest, level, associativity and value.
-use Rattle.std.specs.Prelude.{◌≡◌, true, false, List, [], ◌∷◌, ◌↔◌, ℕ, ◌+◌, ◌-◌, ◌*◌, ◌≤◌, ◌<◌, length, get_or, take, drop}
+use Rattle.std.specs.Prelude.{◌≡◌, true, false, List, [], ◌∷◌, ◌↔◌, ℕ, ◌+◌, ◌-◌, ◌*◌, ◌≤◌, ◌<◌, length, get_or, take}
+use Rattle.std.specs.Prelude.{drop}
 use Rattle.characters.specs.Spelling.{part_of}
 use Rattle.book.specs.Book.{Book, associativity_number}
 use Rattle.book.specs.Check.{check_book, Outcome}

@@ -3,7 +3,8 @@
 -- Letters: c is a call (in `make` a cell), s and t are states, j a variant's number, N a use's nonterminal and u the
 -- skipped place where it begins, M a child's nonterminal, m the minimum of a level, x a place that a path has reached,
 -- e an error, p and q parses. What was made is m too, of an empty chain e, of a list l.
-use Rattle.std.specs.Prelude.{Bool, true, false, cond, ◌&&◌, List, [], ◌∷◌, ◌++◌, ℕ, zero, suc, ◌+◌, ◌-◌, ◌/◌, ◌%◌, leb, ltb, eqb, length, get_or}
+use Rattle.std.specs.Prelude.{Bool, true, false, cond, ◌&&◌, List, [], ◌∷◌, ◌++◌, ℕ, zero, suc, ◌+◌, ◌-◌, ◌/◌, ◌%◌, leb}
+use Rattle.std.specs.Prelude.{ltb, eqb, length, get_or}
 use Rattle.std.proofs.Math.Option.{Option, none, some}
 use Rattle.characters.specs.Classes.{between}
 use Rattle.characters.specs.Skipping.{skip_from}
@@ -17,7 +18,7 @@ use Rattle.semantics.specs.Numbers.{character_wanted, nonterminal_wanted}
 use Rattle.semantics.specs.Values.{Parse}
 use Rattle.semantics.specs.Uses.{Use, use_of, has_mark, within, Path, behind_any, Scope, scope_of, minimum}
 use Rattle.semantics.specs.Uses.{same_start, governor, keeps}
-use Rattle.semantics.specs.Tokens.{Item, Read, when, character_end, free_end, claimed, declaration_at}
+use Rattle.semantics.specs.Tokens.{Item, when, character_end, free_end, claimed, declaration_at}
 use Rattle.semantics.specs.Steps.{Taken, step_at, goes, halts, after_element, closed, Todo, taking, elements}
 use Rattle.semantics.specs.Steps.{ending, naming, closing, todo_of}
 use Rattle.semantics.specs.Cells.{Cell, find_cell}

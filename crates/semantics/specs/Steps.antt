@@ -44,7 +44,8 @@ read_variable v = read v.end (some v.value.item)
 -- "Every token skips first; what follows it is unskipped"; "Kinds 2 to 5 .. add one item, others none; 6 and 7 don't
 -- move the place"
 unfoldable pub step_at : Book → List ℕ → Scope → Step → ℕ → Taken
-step_at book text scope (Step.Character a) x = elim (character_end text a x) [ some end ↦ read end none | none ↦ nothing ]
+step_at book text scope (Step.Character a) x = elim (character_end text a x)
+    [ some end ↦ read end none | none ↦ nothing ]
 step_at book text scope (Step.Word a) x =
     let at = skip_from text x in
     elim (identifier_end text at) [

@@ -43,7 +43,8 @@ abbrev pub stops : outcomes.Outcome → RunEnd
 stops o = record { again = false; outcome = o }
 
 module _ (T : List Row) (n : ℕ) (failure : Failure) (s : State) (o : outcomes.Outcome) (e : RunEnd) where
-  pub ended_failed : (how : Settled) (start N : ℕ) (x : code.Error) → how ≡ Settled.Failed → start ≡ (row_of T n).start →
+  pub ended_failed : (how : Settled) (start N : ℕ) (x : code.Error) → how ≡ Settled.Failed → start ≡ (row_of T n).start
+      →
       N ≡ (row_of T n).nonterminal → error_of x ≡ failures.failed_call start N (failure_of failure) →
       o ≡ done_with (Failure.At x) s → e ≡ stops o → SettledAs T n how failure s e
   unfolding goes_again
@@ -134,7 +135,8 @@ module _ (T : List Row) (n : ℕ) (o : outcomes.Outcome) (e : RunEnd) where
 module _ (book : Book) (text before after : List ℕ) (T U : List Row) (n j : ℕ) (s : State) (m : CellOutcome)
     (em : MadeBy text before after s m (run.begin book text j)) where
   begun : (start : ℕ) → start ≡ (row_of T n).start →
-      U ≡ on_row T n (with_variant (nth_variant book j).level (associativity_number (nth_variant book j).associativity)) →
+      U ≡ on_row T n (with_variant (nth_variant book j).level
+      (associativity_number (nth_variant book j).associativity)) →
       Begins book text before after T U n j s (reached_with m start)
   unfolding resumes goes_with does_rows ◌>>=◌
   begun start es eu = λ held.

@@ -12,7 +12,8 @@ use Rattle.semantics.specs.Cells.{Cell}
 use Rattle.semantics.specs.Uses.{has_mark}
 use Rattle.semantics.specs.Run.{Result, ok, ◌>>=◌, begin, counted}
 use Rattle.run_model.specs.Rows.{Row, row_of}
-use Rattle.run_model.specs.Model.{RowState, row_state, Outcome, outcome, RowRunner, makes, at_row, bare_call, take_variant}
+use Rattle.run_model.specs.Model.{RowState, row_state, Outcome, outcome, RowRunner, makes, at_row, bare_call}
+use Rattle.run_model.specs.Model.{take_variant}
 use Rattle.run_model.specs.Model.{settle, settle_first}
 use Rattle.run_model.specs.Model.{run_call_rows, run_identifier_rows, nested_rows, stored_rows, enter_rows, steps_rows}
 use Rattle.run_model.specs.Model.{runner_rows}

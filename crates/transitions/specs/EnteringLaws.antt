@@ -25,7 +25,8 @@ use Rattle.semantics.specs.Run.{Result, met, ok}
 use Rattle.run_model.specs.Rows.{Row, row_of, on_row, with_set, ended, RowGovernor, same_start, minimum, governor_of}
 use Rattle.run_model.specs.Rows.{scope_at, claims_use}
 use Rattle.run_model.specs.Model.{row_state, Outcome, outcome, RowRunner, spend_rows, fails_empty}
-use Rattle.run_model.specs.Model.{claimed_rows, named_rows, run_identifier_rows, run_call_rows, nested_rows, stored_rows}
+use Rattle.run_model.specs.Model.{claimed_rows, named_rows, run_identifier_rows, run_call_rows, nested_rows}
+use Rattle.run_model.specs.Model.{stored_rows}
 use Rattle.run_model.specs.Model.{enter_rows, runner_rows}
 use Rattle.calls.specs.CallLaws.{then_row}
 use Rattle.calls.specs.Table.{governor_in, with_stored_in}
@@ -83,12 +84,13 @@ module _ (T U : List Row) (g n N u : ℕ) (s : State) (k : ℕ) (e : U ≡ with_
 
 -- ---- Claims
 module _ (book : Book) (text : List ℕ) (T : List Row) (n b u : ℕ) (v : Variable)
-    (e : variable_of v ≡ variable_at book text (scope_at text T n b) u) (w : Bool) (f : w ≡ is_some (variable_of v)) where
-  pub claimed_named : (t : Bool) → w ≡ true → t ≡ claims_use book T n b u → t ≡ claimed_rows book text T n b u
-  claimed_named t h et = et ∙ rw (← e, sym f ∙ h)
+    (e : variable_of v ≡ variable_at book text (scope_at text T n b) u) (w : Bool) (f : w ≡ is_some (variable_of v))
+  where
+    pub claimed_named : (t : Bool) → w ≡ true → t ≡ claims_use book T n b u → t ≡ claimed_rows book text T n b u
+    claimed_named t h et = et ∙ rw (← e, sym f ∙ h)
 
-  pub claimed_nothing : w ≡ false → false ≡ claimed_rows book text T n b u
-  claimed_nothing h = rw (← e, sym f ∙ h)
+    pub claimed_nothing : w ≡ false → false ≡ claimed_rows book text T n b u
+    claimed_nothing h = rw (← e, sym f ∙ h)
 
 -- ---- A use of mark 2
 module _ (book : Book) (text store : List ℕ) (T T1 T2 : List Row) (n b N u : ℕ) (s : State) (t : Bool)
@@ -127,7 +129,8 @@ module _ (book : Book) (text store : List ℕ) (T T1 T2 : List Row) (n b N u : �
       Runs text store s.cells store T2 o (λ cells. run_identifier_rows book text n b N u (row_state s.units cells T))
   identifier_claimed f o h ef eo = unnamed f o (rw h) ef eo
 
-  pub identifier_nothing : (x : End) (f : Failure) (o : outcomes.Outcome) → t ≡ false → end_of x ≡ free_end book text u →
+  pub identifier_nothing : (x : End) (f : Failure) (o : outcomes.Outcome) → t ≡ false → end_of x ≡ free_end book text u
+      →
       x ≡ End.Nothing → failure_of f ≡ some (error u 11 N) → o ≡ done_with f s →
       Runs text store s.cells store T2 o (λ cells. run_identifier_rows book text n b N u (row_state s.units cells T))
   identifier_nothing x f o h ex en ef eo = unnamed f o (rw h (sym (ap end_of en) ∙ ex)) ef eo
@@ -212,7 +215,8 @@ module _ (book : Book) (text : List ℕ) (n b N u m : ℕ) (s : State) (e : Ente
   opening store T inner =
       let t = row_state s.units (cells_of store s.cells) T in
       nested_rows book text inner n t (λ run.
-      when (has_mark book 2 N) (λ _. run_identifier_rows book text n b N u t) (λ _. run_call_rows book text run n b N u m t))
+      when (has_mark book 2 N) (λ _. run_identifier_rows book text n b N u t)
+      (λ _. run_call_rows book text run n b N u m t))
 
   opening_within : (store : List ℕ) (T : List Row) → (n ≡ 0 → ⊥) →
       opening store T (some (inner_runner book text n)) ≡ opening store T (runner_rows book text n)
@@ -258,7 +262,8 @@ module _ (book : Book) (text : List ℕ) (n b N u m : ℕ) (s : State) (e : Ente
   unfolding nested_rows goes_in
   opens_runs store T t o h eb y eo ee =
       let q = row_state s.units (cells_of store s.cells) T in
-      let nest : run_call_rows book text (inner_runner book text n) n b N u m q ≡ opening store T (runner_rows book text n)
+      let nest : run_call_rows book text (inner_runner book text n) n b N u m q ≡ opening store T
+      (runner_rows book text n)
       = rw (← (opening_within store T h), sym eb ∙ y) in
       record {
         does = λ held.

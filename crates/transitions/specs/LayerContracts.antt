@@ -96,13 +96,15 @@ Begins book index text store store' rows rows' row j s r =
     (table_after rows') row j s r
 
 -- a part that calls nothing, and what the path does next
-abbrev pub Stages : Slice → Slice → Slice → Slice → Slice → Progress → State → Stage → (Book → List ℕ → ModelPart) → Type 0
+abbrev pub Stages : Slice → Slice → Slice → Slice → Slice → Progress → State → Stage → (Book → List ℕ → ModelPart) →
+    Type 0
 Stages book index text store store' here s g part =
     steps.StagedFrom (book_at book index) text store s store' here.variant g
     (part (book_at book index) text)
 
 -- the same of a step, which sees the names in the scope of its call
-abbrev pub StagesIn : Slice → Slice → Slice → Slice → Slice → Slice → Progress → State → Stage → (Book → List ℕ → ModelPart) → Type 0
+abbrev pub StagesIn : Slice → Slice → Slice → Slice → Slice → Slice → Progress → State → Stage →
+    (Book → List ℕ → ModelPart) → Type 0
 StagesIn book index text store store' rows here s g part =
     steps.StagedIn (book_at book index) text store s store' (table_at rows) here.call
     here.variant g (part (book_at book index) text)
@@ -114,13 +116,15 @@ StagesAll text store store' here s g part =
     steps.StagedFrom book text store s store' here.variant g (part book text)
 
 -- the same where the steps left come next
-abbrev pub Reaches : Slice → Slice → Slice → Slice → Slice → Progress → State → Reached → (Book → List ℕ → ModelPart) → Type 0
+abbrev pub Reaches : Slice → Slice → Slice → Slice → Slice → Progress → State → Reached → (Book → List ℕ → ModelPart) →
+    Type 0
 Reaches book index text store store' here s g part =
     steps.ReachedFrom (book_at book index) text store s store' here.variant g
     (part (book_at book index) text)
 
 -- the same whatever comes next
-abbrev pub GoesOn : Slice → Slice → Slice → Slice → Slice → Progress → State → Reached → (Book → List ℕ → GoPart) → Type 0
+abbrev pub GoesOn : Slice → Slice → Slice → Slice → Slice → Progress → State → Reached → (Book → List ℕ → GoPart) →
+    Type 0
 GoesOn book index text store store' here s g part =
     steps.GoneFrom text store s store' g (part (book_at book index) text)
 
@@ -130,7 +134,8 @@ OpensBody book index text store store' rows here names s r =
     opening.OpensFrom (book_at book index) text store store' (table_at rows) here names s r
 
 -- a name is declared, and row n keeps it
-abbrev pub DeclaresName : Slice → Slice → Slice → Slice → Slice → Slice → Slice → ℕ → Progress → Names → State → Named → Type 0
+abbrev pub DeclaresName : Slice → Slice → Slice → Slice → Slice → Slice → Slice → ℕ → Progress → Names → State → Named
+    → Type 0
 DeclaresName book index text store store' rows rows' n here names s r =
     opening.DeclaresFrom (book_at book index) text store store' (table_at rows)
     (table_after rows') n here names s r

@@ -17,7 +17,8 @@ use Rattle.semantics.specs.Cells.{Cell}
 use Rattle.semantics.specs.Run as run
 use Rattle.semantics.specs.Run.{met, ok, ◌>>=◌, either}
 use Rattle.run_model.specs.Rows.{Row, row_of}
-use Rattle.run_model.specs.Model.{RowState, row_state, outcome, RowRunner, RowMade, row_made, makes, spend_rows, together}
+use Rattle.run_model.specs.Model.{RowState, row_state, outcome, RowRunner, RowMade, row_made, makes, spend_rows}
+use Rattle.run_model.specs.Model.{together}
 use Rattle.run_model.specs.Model.{plain_next_rows, list_next_rows, stops_rows, choice_rows, steps_rows}
 use Rattle.errors.specs.Maps.{failure_of}
 use Rattle.tokens.specs.Maps.{closing_in, after_of}
@@ -61,7 +62,8 @@ plain_next_lem book text before after j items next q s m r g en w er eg h =
       held = v.held;
     })
 
-pub list_next_lem : (book : Book) (text before after : List ℕ) (j items : ℕ) (next : Next) (l : lists.List) (q : Parse ℕ)
+pub list_next_lem : (book : Book) (text before after : List ℕ) (j items : ℕ) (next : Next) (l : lists.List)
+    (q : Parse ℕ)
     (s : State) (g : Stage) → next ≡ Next.Elements l →
     StagedFrom book text before s after j g (next_part book text j (Next.Elements l) items q) →
     StagedFrom book text before s after j g (next_part book text j next items q)

@@ -200,7 +200,8 @@ module _ (book : Book) (text : List ℕ) (j : ℕ) (p : Bool) (ep : p ≡ (nth_v
 
   pub with_made : (before after : List ℕ) (items item : ℕ) (c : CellNumbers) → p ≡ false →
       ((cell : Cell) → listed c ≡ numbers_of cell → MadeBy text before after s m (run.make text cell)) →
-      listed c ≡ numbers_of (Cell.chain items item) → MadeBy text before after s m (run.with_cell book text j items item)
+      listed c ≡ numbers_of (Cell.chain items item) → MadeBy text before after s m
+      (run.with_cell book text j items item)
   unfolding run.with_cell
   with_made before after items item c y w e h = rw (sym ep ∙ y, run.with_cell) (w (Cell.chain items item) e h)
 
@@ -242,7 +243,8 @@ module _ (item : Item) (l : List ℕ) (i : tokens.Item) (e : item_of item ≡ so
   unfolding run.item_cell
   item_number value q h = item_cell_lem (tokens.Item.number value) (rw q) h
 
-  pub item_variable : (number kind : ℕ) → item ≡ Item.Variable number kind → l ≡ numbers_of (Cell.variable number kind) →
+  pub item_variable : (number kind : ℕ) → item ≡ Item.Variable number kind → l ≡ numbers_of (Cell.variable number kind)
+      →
       l ≡ numbers_of (run.item_cell i)
   unfolding run.item_cell
   item_variable number kind q h = item_cell_lem (tokens.Item.variable number kind) (rw q) h

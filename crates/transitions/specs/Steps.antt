@@ -14,7 +14,8 @@ use Rattle.semantics.specs.Cells.{Cell}
 use Rattle.semantics.specs.Run.{Result, ok, ◌>>=◌, make, with_cell, with_token, closing_code}
 use Rattle.run_model.specs.Rows.{Row}
 use Rattle.run_model.specs.Model.{RowState, row_state, Outcome, outcome, RowRunner, RowGo, RowNext, makes, spend_rows}
-use Rattle.run_model.specs.Model.{together, plain_next_rows, list_next_rows, stops_rows, enter_child_rows, followed_rows}
+use Rattle.run_model.specs.Model.{together, plain_next_rows, list_next_rows, stops_rows, enter_child_rows}
+use Rattle.run_model.specs.Model.{followed_rows}
 use Rattle.run_model.specs.Model.{chosen_rows, or_absent_rows, choice_rows, listing_rows, body_rows, name_choice_rows}
 use Rattle.run_model.specs.Model.{step_unit_rows, steps_rows}
 use Rattle.errors.specs.Maps.{failure_of}
@@ -120,7 +121,8 @@ module _ (book : Book) (text : List ℕ) (inner : Option RowRunner) (n c j : ℕ
   lists_rows comma true M closing x items s =
       makes (make text Cell.empty) s >>= (λ e. names_rows e.cell closing M x items e.state)
   lists_rows comma false M closing x items s =
-      listing_rows book text inner n c j comma M (closing_in closing) rest (steps_rows book text inner n c j rest) x items
+      listing_rows book text inner n c j comma M (closing_in closing) rest (steps_rows book text inner n c j rest) x
+      items
       s
 
   -- kind 14 without its opening: an absent item, then the body

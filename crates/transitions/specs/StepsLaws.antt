@@ -206,7 +206,8 @@ module _ (book : Book) (text : List ℕ) (inner : Option RowRunner) (n c j : ℕ
   step_token next o e = rw (u, steps_rows, ◌>>=◌) (rw e)
 
   step_child : (M : ℕ) → takes ≡ steps.Taken.child M →
-      step_part book text j step x items inner n c rest s ≡ does_rows book text inner n c j rest (Doing.Child M) x items t
+      step_part book text j step x items inner n c rest s ≡ does_rows book text inner n c j rest (Doing.Child M) x
+      items t
   unfolding steps_rows does_rows descends_rows next_rows ◌>>=◌
   step_child M e = rw (u, steps_rows, ◌>>=◌) (rw e)
 

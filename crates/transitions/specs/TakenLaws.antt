@@ -154,7 +154,8 @@ module _ (book : Book) (text : List ℕ) (fit : Fit book text) where
           (variable_in book.names (suc d) scope spelling ≡ some v → ItemIn (some v.item)) →
           ItemIn (some v.item)
       by (Found.Name i kind) e h =
-          let p : some (record { kind = kind; item = tokens.Item.declared d i }) ≡ some v = rw (← e, variable_in) at q in
+          let p : some (record { kind = kind; item = tokens.Item.declared d i }) ≡ some v = rw (← e, variable_in) at q
+          in
           let s : record { kind = kind; item = tokens.Item.declared d i } ≡ v = cc in
           rw (← s) tt
       by Found.Nothing e h = h (rw (← e, variable_in) at q)
@@ -242,7 +243,8 @@ module _ (book : Book) (text : List ℕ) (scope : Scope) (fit : Fit book text) (
   reject_variable_taken : TakenIn (step_at book text scope Step.RejectVariable x)
   unfolding step_at
   reject_variable_taken =
-      by_option (variable_at book text scope (skip_from text x)) (λ v e. rw (e, step_at) tt) (λ e. rw (e, step_at) (h, tt))
+      by_option (variable_at book text scope (skip_from text x)) (λ v e. rw (e, step_at) tt)
+      (λ e. rw (e, step_at) (h, tt))
 
   reject_reserved_taken : TakenIn (step_at book text scope Step.RejectReserved x)
   unfolding step_at

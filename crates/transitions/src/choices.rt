@@ -20,7 +20,8 @@ fn first_stop(
     state: State,
 ) -> Reached
     requires { Fitting book.now index.now text.now }
-    ensures { Reaches book.now index.now text.now store.old store.new here state result (first_side (Next.Elements list) here) }
+    ensures { Reaches book.now index.now text.now store.old store.new here state result
+        (first_side (Next.Elements list) here) }
 {
     let spent = spend(state);
     if spent.limit != 0 {

@@ -104,7 +104,8 @@ fn run_identifier(
     state: State,
 ) -> Outcome
     requires { Ready book.now index.now text.now rows.old row }
-    ensures { Does book.now index.now text.now store.old store.new rows.old rows.new state result (identifies row binder nonterminal at) }
+    ensures { Does book.now index.now text.now store.old store.new rows.old rows.new state result
+        (identifies row binder nonterminal at) }
 {
     calls::clear_set(rows, row);
     calls::end_call(rows, row);
@@ -162,7 +163,8 @@ fn open(
     state: State,
 ) -> Entered
     requires { Ready book.now index.now text.now rows.old row }
-    ensures { Opens book.now index.now text.now store.old store.new rows.old rows.new row binder nonterminal at minimum state result }
+    ensures { Opens book.now index.now text.now store.old store.new rows.old rows.new row binder nonterminal at minimum
+        state result }
 {
     if row == 0 {
         return without_runs(without_failure(TOO_DEEP, state));
@@ -203,7 +205,8 @@ pub fn begin_use(
     state: State,
 ) -> Entered
     requires { Ready book.now index.now text.now rows.old row }
-    ensures { BeginsUse book.now index.now text.now store.old store.new rows.old rows.new row binder nonterminal at state result }
+    ensures { BeginsUse book.now index.now text.now store.old store.new rows.old rows.new row binder nonterminal at
+        state result }
 {
     let spent = spend(state);
     if spent.limit != 0 {

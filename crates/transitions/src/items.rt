@@ -92,7 +92,8 @@ pub fn with_cell(
     item: u32,
     state: State,
 ) -> CellOutcome
-    ensures { MakesCell text.now store.old store.new state result (run.with_cell (book_at book.now index.now) text.now j items item) }
+    ensures { MakesCell text.now store.old store.new state result
+        (run.with_cell (book_at book.now index.now) text.now j items item) }
 {
     if is_passing(book, index, j) {
         cell_outcome(item, state)
@@ -161,7 +162,8 @@ pub fn value(
     items: u32,
     state: State,
 ) -> CellOutcome
-    ensures { MakesCell text.now store.old store.new state result (cell_of_value (book_at book.now index.now) text.now j items) }
+    ensures { MakesCell text.now store.old store.new state result
+        (cell_of_value (book_at book.now index.now) text.now j items) }
 {
     if is_passing(book, index, j) {
         cell_outcome(items, state)

@@ -120,7 +120,8 @@ pub fn declare_name(
     state: State,
 ) -> Named
     requires { Ready book.now index.now text.now rows.old free × (0 < free) }
-    ensures { DeclaresName book.now index.now text.now store.old store.new rows.old rows.new free here names state result }
+    ensures { DeclaresName book.now index.now text.now store.old store.new rows.old rows.new free here names state
+        result }
 {
     let at = skipped(text, here.place);
     match tokens::declaration_at(book, index, text, at) {

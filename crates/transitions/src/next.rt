@@ -25,7 +25,8 @@ fn next_element(
     state: State,
 ) -> Stage
     requires { Fitting book.now index.now text.now }
-    ensures { Stages book.now index.now text.now store.old store.new here state result (follows (Next.Elements list) (parse_of q) here) }
+    ensures { Stages book.now index.now text.now store.old store.new here state result
+        (follows (Next.Elements list) (parse_of q) here) }
 {
     let m = make(text, store, cells::chain(list.values, q.value), state);
     if m.limit != 0 {

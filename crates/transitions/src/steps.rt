@@ -71,7 +71,8 @@ pub fn stop(
     state: State,
 ) -> Reached
     requires { Fitting book.now index.now text.now }
-    ensures { GoesOn book.now index.now text.now store.old store.new here state result (stops values closing place here) }
+    ensures { GoesOn book.now index.now text.now store.old store.new here state result
+        (stops values closing place here) }
 {
     let m = make(text, store, cells::list(values), state);
     if m.limit != 0 {
@@ -191,7 +192,8 @@ fn begin_list(
     place: u32,
     state: State,
 ) -> Stage
-    ensures { StagesAll text.now store.old store.new here state result (lists comma names nonterminal closing place here) }
+    ensures { StagesAll text.now store.old store.new here state result
+        (lists comma names nonterminal closing place here) }
 {
     let m = make(text, store, cells::empty(), state);
     let outcome = without_failure(m.limit, m.state);
@@ -253,7 +255,8 @@ fn take_token(
     state: State,
 ) -> Reached
     requires { ItemFits item }
-    ensures { Reaches book.now index.now text.now store.old store.new here state result (reads (item_of item) next here) }
+    ensures { Reaches book.now index.now text.now store.old store.new here state result
+        (reads (item_of item) next here) }
 {
     reached_with(
         with_token(

@@ -58,7 +58,8 @@ use_no_opening e = false≢true (sym (ap is_use e))
     is_use (behind names) = false
 
 -- so the uses around a body are those around its opening
-pub behind_any_in : (opening : Option (List Entry)) {P : Path} {f : Use} → within f ∈ behind_any opening P → within f ∈ P
+pub behind_any_in : (opening : Option (List Entry)) {P : Path} {f : Use} → within f ∈ behind_any opening P → within f ∈
+    P
 behind_any_in none m = m
 behind_any_in (some names) (Memᴰ.head e) = absurd (use_no_opening e)
 behind_any_in (some names) (Memᴰ.tail m) = m
@@ -239,7 +240,8 @@ module _ (book : Book) (text : List ℕ) where
         option_cases (variable_at book text scope (skip_from text x)) (λ e. rw (e, step_at) (omega arith))
         (λ v e. rw (e, step_at) tt)
     step_on Step.RejectReserved =
-        by_test (reserved_at book text (skip_from text x)) (λ t. rw (t, step_at) tt) (λ t. rw (t, step_at) (omega arith))
+        by_test (reserved_at book text (skip_from text x)) (λ t. rw (t, step_at) tt)
+        (λ t. rw (t, step_at) (omega arith))
     step_on (Step.Nonterminal M) = tt
     step_on (Step.Optional M) = tt
     step_on (Step.Many M) = omega arith
@@ -258,7 +260,8 @@ module _ (book : Book) (text : List ℕ) where
     step_forward step e = subst (TakenOn x) e (step_on step)
 
   -- the error of a step stands where it was wanted
-  identifier_error_place : (at : ℕ) (other : Error) → other.place ≡ at → (identifier_error book text at other).place ≡ at
+  identifier_error_place : (at : ℕ) (other : Error) → other.place ≡ at → (identifier_error book text at other).place ≡
+      at
   unfolding identifier_error
   identifier_error_place at other h =
       by_test (eqb at (length text))

@@ -15,7 +15,7 @@ use Rattle.semantics.specs.Run.{Result, ok, ◌>>=◌, State, Parsed, parsed, Ca
 use Rattle.semantics.specs.Run.{others, with_asked}
 use Rattle.semantics.specs.Run.{spend, make, open_scope, chosen, with_cell, with_token, complete}
 use Rattle.semantics.specs.Run.{run_call, named, plain_next, list_next, stops, nested, reentry, followed}
-use Rattle.semantics.specs.Run.{step_unit, declares, run}
+use Rattle.semantics.specs.Run.{step_unit, declares}
 
 module _ (told : ℕ → ℕ → Error) (book : Book) (text : List ℕ) (inner : Option Runner) where
   unfoldable pub identifier_with : Call → State → Result Parsed
@@ -101,7 +101,8 @@ module _ (told : ℕ → ℕ → Error) (book : Book) (text : List ℕ) (inner :
       | Taken.token t ↦
           with_token book text j items t.item s >>= (λ m. steps_with c j rest t.next m.cell set m.state)
       | Taken.child M ↦
-          enter_child_with none c j M x s >>= (λ r. followed book text inner (plain_next book text c j rest items) set r)
+          enter_child_with none c j M x s >>= (λ r. followed book text inner (plain_next book text c j rest items) set
+          r)
       | Taken.optional M ↦ or_absent_with c j M rest (steps_with c j rest) x items set s
       | Taken.list comma M close y ↦
           make text Cell.empty s

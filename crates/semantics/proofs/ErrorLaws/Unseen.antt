@@ -40,7 +40,8 @@ module _ (book : Book) (text : List ℕ) where
     module _ (c : Call) (h : Ready text c) where
       module _ (j : ℕ) (rest : List (Todo ℕ)) (go go' : Go) (like : LikeGo text c go go') where
         or_absent_like : (M : ℕ) →
-            LikeGo text c (or_absent_with told book text inner c j M rest go) (or_absent book text inner' c j M rest go')
+            LikeGo text c (or_absent_with told book text inner c j M rest go)
+            (or_absent book text inner' c j M rest go')
         unfolding or_absent_with or_absent
         or_absent_like M x items set s l b =
             like_next text (make text Cell.absent s) _ _ (λ absent missing.
@@ -126,4 +127,5 @@ module _ (book : Book) (text : List ℕ) where
     pub answer_with_lem : (cells parses : List ℕ) (start allowance : ℕ) →
         at_end cells parses text allowance (run_with told book text allowance start)
         ≡ at_end cells parses text allowance (run book text allowance start)
-    answer_with_lem cells parses start allowance = ap (at_end cells parses text allowance) (run_with_lem allowance start)
+    answer_with_lem cells parses start allowance = ap (at_end cells parses text allowance)
+        (run_with_lem allowance start)

@@ -247,7 +247,8 @@ module _ (book : Book) (text : List ℕ) where
               claims t =
                   let k =
                   claimant book text P u
-                  ((and-eq-true_iff (is_some (variable_at book text (scope_of P) u)) (has_claimant book text P u)).0 t).1 in
+                  ((and-eq-true_iff (is_some (variable_at book text (scope_of P) u)) (has_claimant book text P u)).0
+                  t).1 in
                   alone k.by k.member k.start
 
       -- a child's call, of a call that begins at v, where every use around it that begins there makes the call begin
@@ -269,7 +270,8 @@ module _ (book : Book) (text : List ℕ) where
             claims t =
                 let k =
                 claimant book text P u
-                ((and-eq-true_iff (is_some (variable_at book text (scope_of P) u)) (has_claimant book text P u)).0 t).1 in
+                ((and-eq-true_iff (is_some (variable_at book text (scope_of P) u)) (has_claimant book text P u)).0 t).1
+                in
                 starts k.by k.member k.start
 
         stored : (i : ℕ) (f : Use) (Q : Path) → governor P N u ≡ same_start i f Q →

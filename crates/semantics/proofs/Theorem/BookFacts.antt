@@ -5,7 +5,8 @@
 --   passing_step       a passing variant has one step, of kind 8
 --   variants_inside    a nonterminal's variants are among those of the book
 --   steps_inside       a variant's steps are among those of the book
-use Rattle.std.specs.Prelude.{◌≡◌, refl, true, false, cond, List, [], ◌∷◌, ℕ, zero, suc, ◌+◌, ◌≤◌, eqb, length, get_or, take, drop}
+use Rattle.std.specs.Prelude.{◌≡◌, refl, true, false, cond, List, [], ◌∷◌, ℕ, zero, suc, ◌+◌, ◌≤◌, eqb, length, get_or}
+use Rattle.std.specs.Prelude.{take, drop}
 use Rattle.std.proofs.Common.{sym, ap, subst, ◌∙◌, arith, eq-eqb, eqb-true}
 use Rattle.std.proofs.lemmas.Bool.{false≢true}
 use Rattle.std.proofs.Math.Bool.{and-eq-true_iff}
@@ -63,7 +64,8 @@ nonterminal_fits bytes first place x end e =
     subst Fits (accepted_inj all) (fitting (get_or bytes place 0) first (get_or bytes (place + 1) 0) number.fitted)))
 
 -- what stands for one that the book doesn't have has mark 0
-all_fit : (bytes : List ℕ) (book : Book) → check_book bytes ≡ Outcome.book book → (N : ℕ) → Fits (nth_nonterminal book N)
+all_fit : (bytes : List ℕ) (book : Book) → check_book bytes ≡ Outcome.book book → (N : ℕ) → Fits
+    (nth_nonterminal book N)
 all_fit bytes book e =
     let a = book_sections bytes book e in
     records_each (λ n. n.count) (λ i. nonterminal) Fits bytes (λ i. nonterminal_fits bytes) _

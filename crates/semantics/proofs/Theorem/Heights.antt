@@ -7,7 +7,7 @@ use Rattle.characters.specs.Skipping.{skip_from}
 use Rattle.book.specs.Book.{Book, nth_nonterminal, nth_variant}
 use Rattle.semantics.specs.Values.{Tree, Trees, no_trees, ◌▸◌, number, absent, list, Parse}
 use Rattle.semantics.specs.Uses.{behind, Path, has_mark, minimum, same_start, governor, keeps}
-use Rattle.semantics.specs.Tokens.{Read, character_end, free_end, claimed, declaration_at}
+use Rattle.semantics.specs.Tokens.{character_end, free_end, claimed, declaration_at}
 use Rattle.semantics.specs.Steps.{Taken, goes, halts, after_element, closed, Todo, taking, elements}
 use Rattle.semantics.specs.Steps.{ending, naming, closing, todo_of}
 use Rattle.semantics.specs.Derivations.{parse_of, identifier_parse, with_item, Attempt, attempt, variant_of, inside}

@@ -362,4 +362,5 @@ pub run_limits : (book : Book) (text : List ℕ) (allowance start number units :
     run book text allowance start ≡ met number units → is_limit number ≡ true
 unfolding run
 run_limits book text allowance start number units e =
-    (enter_limited book text (runner book text 200) (runner_limited book text 200) [] [] start _ _).limits number units e
+    (enter_limited book text (runner book text 200) (runner_limited book text 200) [] [] start _ _).limits number units
+    e

@@ -21,7 +21,7 @@ use Rattle.semantics.specs.Cells.{Cell}
 use Rattle.semantics.specs.Errors.{Error}
 use Rattle.semantics.specs.Run.{ok, State, Parsed, parsed, Made, Call, call, with_mine, Runner, all_in, kept, ask}
 use Rattle.semantics.specs.Run.{newest, others, with_asked, spend, variants, one_run, rounds, run_call, named}
-use Rattle.semantics.specs.Run.{run_identifier, reentry, enter, run}
+use Rattle.semantics.specs.Run.{run_identifier, reentry, enter}
 use Rattle.semantics.proofs.Theorem.Lists.{◌∈◌, sift, nth, Joins, either}
 use Rattle.semantics.proofs.Theorem.BigStep.{Open, open', identifiers, Enters, again, identifier, quiet, barren}
 use Rattle.semantics.proofs.Theorem.BigStep.{grown, Runs, runs, Rounds, last, more, Variants, no_more, too_low}

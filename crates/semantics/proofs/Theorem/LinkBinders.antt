@@ -108,12 +108,14 @@ module _ (book : Book) (text : List ℕ) (Cf : List Cell) (table : Table text Cf
       }
 
   -- both sides of a choice between the closing and one more name
-  with_name_lem : {c : Call} {j : ℕ} {names : List Entry} {kinds close M : ℕ} {rest : List (Todo ℕ)} {x : ℕ} {ts : Trees}
+  with_name_lem : {c : Call} {j : ℕ} {names : List Entry} {kinds close M : ℕ} {rest : List (Todo ℕ)} {x : ℕ}
+      {ts : Trees}
       {set mid out : List (Parse ℕ)} {s t u : State} →
       Finds c j (closing names kinds close M ∷ rest) x ts set s mid t →
       NameFinds c j names kinds close M rest x ts mid t out u →
       Finds c j (naming names kinds close M ∷ rest) x ts set s out u
-  with_name_lem {c} {j} {names} {kinds} {close} {M} {rest} {x} {ts} {set} {mid} {out} {s} {t} {u} f (no_name e is same) =
+  with_name_lem {c} {j} {names} {kinds} {close} {M} {rest} {x} {ts} {set} {mid} {out} {s} {t} {u} f (no_name e is same)
+      =
       record {
         R = f.R;
         run = s_no_name e (subst (λ B. Steps book text (open_for text Cf c) j (map (todo_for text Cf)

@@ -187,7 +187,8 @@ module _ (book : Book) (text : List ℕ) (Cf : List Cell) (table : Table text Cf
       where
         more_or_stop : {ts : Trees} {s : State} {out : List (Parse ℕ)} {u : State} →
             BothFind c j M x (listed comma M (trees_for text Cf values) close (map (todo_for text Cf) rest) ts)
-            (Steps book text (open_for text Cf c) j (ending (trees_for text Cf values) close ∷ map (todo_for text Cf) rest)
+            (Steps book text (open_for text Cf c) j
+            (ending (trees_for text Cf values) close ∷ map (todo_for text Cf) rest)
             x ts) set s out u → Finds c j (elements comma M values close ∷ rest) x ts set s out u
         more_or_stop z = record {
           R = z.R₁ ++ z.R₂;

@@ -16,7 +16,8 @@ use Rattle.characters.specs.Cases.{by_test}
 use Rattle.characters.specs.Skipping.{skip_from}
 use Rattle.book.specs.Book.{Book}
 use Rattle.book.specs.Check.{check_book, Outcome}
-use Rattle.semantics.specs.Numbers.{cells_size, parses_size, most_units, longest_text, most_nesting, most_cells, no_unit}
+use Rattle.semantics.specs.Numbers.{cells_size, parses_size, most_units, longest_text, most_nesting, most_cells}
+use Rattle.semantics.specs.Numbers.{no_unit}
 use Rattle.semantics.specs.Numbers.{too_many_cells}
 use Rattle.semantics.specs.Values.{Parse}
 use Rattle.semantics.specs.Uses.{scope_of, governor}

@@ -175,7 +175,8 @@ module _ (text : List ℕ) where
       ∷ [])
       (form - 1) (several no_trees)
 
-  by_identity_lem : (before : List Meaning) (c : Cell) → meaning_of text before c ≡ by_identity before (identity_of text c)
+  by_identity_lem : (before : List Meaning) (c : Cell) → meaning_of text before c ≡ by_identity before
+      (identity_of text c)
   unfolding meaning_of by_identity identity_of numbers_of
   by_identity_lem before Cell.empty = refl
   by_identity_lem before (Cell.chain c item) = refl

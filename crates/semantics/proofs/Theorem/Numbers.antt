@@ -57,7 +57,11 @@ cell_in_lem (Cell.declared depth index) l = refl
 pub cells_in_lem : (C : List Cell) (l : List ℕ) → cells_in (cell_numbers C ++ l) ≡ C ++ cells_in l
 unfolding cell_numbers
 cells_in_lem [] l = refl
-cells_in_lem (c ∷ C) l = rw (append_assoc (numbers_of c) (cell_numbers C) l, cell_in_lem c (cell_numbers C ++ l), cells_in_lem C l)
+cells_in_lem (c ∷ C) l = rw (
+  append_assoc (numbers_of c) (cell_numbers C) l,
+  cell_in_lem c (cell_numbers C ++ l),
+  cells_in_lem C l,
+)
 
 three : (c : Cell) → length (numbers_of c) ≡ 3
 unfolding numbers_of

@@ -228,7 +228,8 @@ module _ (book : Book) (text : List ℕ) where
         let f = s_each es h t p m in
         by_opening e
         (s_enters c
-        (truthful_behind names (inside book text o j (skip_from text y)) (around o) (truthful o j (skip_from text y) h t))
+        (truthful_behind names (inside book text o j (skip_from text y)) (around o)
+        (truthful o j (skip_from text y) h t))
         f.q f.found) f.way
 
     s_each : {o : Open} {j : ℕ} {c : Follows} {Q : List (Parse Tree)} {B : List Bool} {R : List (Parse Tree)}

@@ -5,7 +5,8 @@
 -- The plan. What a cell stands for follows from its numbers and from cells before it, and so does its meaning, in the
 -- same way (`stands_means`, of a chain `chain_means`): one induction over `StandsFor`. The other way round goes by the
 -- table: a cell that is made fits the cells before it, which already stand for their meanings.
-use Rattle.std.specs.Prelude.{◌≡◌, List, [], ◌∷◌, ◌++◌, ◌⊎◌, ℕ, zero, suc, ◌+◌, ◌-◌, ◌*◌, ◌≤◌, ◌<◌, length, get_or, take, drop}
+use Rattle.std.specs.Prelude.{◌≡◌, List, [], ◌∷◌, ◌++◌, ◌⊎◌, ℕ, zero, suc, ◌+◌, ◌-◌, ◌*◌, ◌≤◌, ◌<◌, length, get_or}
+use Rattle.std.specs.Prelude.{take, drop}
 use Rattle.std.proofs.Math.Path.{refl}
 use Rattle.std.proofs.Common.{sym, ◌∙◌, ap, inl, inr, arith, length-append, length-take, length-drop, length-take-le}
 use Rattle.std.proofs.Math.Seq.{split_at, append_snoc}

@@ -4,7 +4,8 @@
 -- it (`table_at`). A new cell is made only if no other has its identity, so none has its meaning, and `same_cell`
 -- follows by induction. A cell that is found instead has the same identity as the one asked for, so the same meaning
 -- (`make_ok`, `make_means`).
-use Rattle.std.specs.Prelude.{◌≡◌, true, false, List, [], ◌∷◌, ◌++◌, ◌⊎◌, ℕ, zero, suc, ◌+◌, ◌≤◌, ◌<◌, leb, ltb, eqb, length}
+use Rattle.std.specs.Prelude.{◌≡◌, true, false, List, [], ◌∷◌, ◌++◌, ◌⊎◌, ℕ, zero, suc, ◌+◌, ◌≤◌, ◌<◌, leb, ltb, eqb}
+use Rattle.std.specs.Prelude.{length}
 use Rattle.std.proofs.Math.Path.{refl, sym, ap}
 use Rattle.std.proofs.Common.{◌∙◌, inl, inr, arith, length-append}
 use borrow.Author.Tests.{ltb-true, leb-true, leb-false, eqb-true, eqb-false}
@@ -117,7 +118,8 @@ module _ (text : List ℕ) where
       (λ t. let first = found_first c d C n t in omega arith)
       (λ t. not_here t (none_found c C (suc n) (omega arith) (sym (found_later c d C n t) ∙ e)) i h equal)
     where
-      not_here : same (identity_of text c) (identity_of text d) ≡ false → ((i : ℕ) → i < length C → Equal c C (suc i) → ⊥)
+      not_here : same (identity_of text c) (identity_of text d) ≡ false →
+          ((i : ℕ) → i < length C → Equal c C (suc i) → ⊥)
           → (i : ℕ) → i < suc (length C) → Equal c (d ∷ C) (suc i) → ⊥
       not_here t later zero h equal = clash (rw equal (same_itself (identity_of text d))) t
       not_here t later (suc i) h equal = later i (omega arith) equal

@@ -188,7 +188,8 @@ module _ (book : Book) (text : List ℕ) (scope : Scope) (x : ℕ) where
       (λ t. rw (e, t, step_at) (variable_fits book text scope (skip_from text x) v e))
       (λ t. rw (e, t, step_at) tt))
   step_fits Step.RejectVariable =
-      option_cases (variable_at book text scope (skip_from text x)) (λ e. rw (e, step_at) tt) (λ v e. rw (e, step_at) tt)
+      option_cases (variable_at book text scope (skip_from text x)) (λ e. rw (e, step_at) tt)
+      (λ v e. rw (e, step_at) tt)
   step_fits Step.RejectReserved =
       by_test (reserved_at book text (skip_from text x)) (λ t. rw (t, step_at) tt) (λ t. rw (t, step_at) tt)
   step_fits (Step.Nonterminal M) = tt

@@ -93,9 +93,11 @@ module _ (some other : List ℕ) (from to shift : ℕ)
       (λ i first. entry_end some greatest) (λ i first. entry_alike greatest) n i sum
 
   -- ---- Nonterminals, variants and steps
-  byte_on : (place k : ℕ) → from ≤ place → place + k < to → get_or other (place + shift + k) 0 ≡ get_or some (place + k) 0
+  byte_on : (place k : ℕ) → from ≤ place → place + k < to → get_or other (place + shift + k) 0 ≡ get_or some
+      (place + k) 0
   byte_on place k low high =
-      subst (λ (i : ℕ). get_or other i 0 ≡ get_or some (place + k) 0) (omega arith) (agree (place + k) (omega arith) high)
+      subst (λ (i : ℕ). get_or other i 0 ≡ get_or some (place + k) 0) (omega arith)
+      (agree (place + k) (omega arith) high)
 
   nonterminal_alike : (first : ℕ) → Alike (nonterminal first) (nonterminal first)
   nonterminal_alike first place x y p q low high e e' =

@@ -1,6 +1,7 @@
 -- The bytes of a book and of its extension, place by place.
 use Rattle.std.specs.Prelude.{◌≡◌, refl, ◌≢◌, List, ◌++◌, ℕ, ◌+◌, ◌-◌, ◌≤◌, ◌<◌, length, get_or, take, drop}
-use Rattle.std.proofs.Common.{sym, subst, ◌∙◌, append_assoc, arith, length-set, length-drop, length-take-le, get_or-append-add, get_or-set_same, get_or-set_other, get_or-take, get_or-drop}
+use Rattle.std.proofs.Common.{sym, subst, ◌∙◌, append_assoc, arith, length-set, length-drop, length-take-le}
+use Rattle.std.proofs.Common.{get_or-append-add, get_or-set_same, get_or-set_other, get_or-take, get_or-drop}
 use Rattle.std.proofs.Math.ListN.{get_or-append}
 use Rattle.book.specs.Book.{Book}
 use Rattle.book.specs.Numbers.{record_size}
@@ -14,7 +15,8 @@ pub record BytesAgree (book : Book) (bytes other : List ℕ) (stepsMore : ℕ) :
   pub variant_count : get_or other (variant_count_at book) 0 ≡ get_or bytes (variant_count_at book) 0 + 1
   pub variants : (i : ℕ) → variant_count_at book + 1 ≤ i → i < step_count_at book → get_or other i 0 ≡ get_or bytes i 0
   pub step_count : get_or other (step_count_at book + record_size) 0 ≡ get_or bytes (step_count_at book) 0 + stepsMore
-  pub steps : (i : ℕ) → step_count_at book + 1 ≤ i → i < length bytes → get_or other (i + record_size) 0 ≡ get_or bytes i 0
+  pub steps : (i : ℕ) → step_count_at book + 1 ≤ i → i < length bytes → get_or other (i + record_size) 0 ≡ get_or bytes
+      i 0
 
 raised_there : (place more : ℕ) (bytes : List ℕ) → place < length bytes →
     get_or (raised place more bytes) place 0 ≡ get_or bytes place 0 + more
@@ -66,7 +68,8 @@ module _ (book : Book) (variant steps bytes : List ℕ)
       raised_elsewhere (last_count_at book) 1 (variant_count_at book) bytes₂ (λ e. omega arith)
       ∙ raised_there (variant_count_at book) 1 bytes₁ (omega (arith, length₁)) ∙ rw same
 
-  new_step_count : get_or counted (step_count_at book) 0 ≡ get_or bytes (step_count_at book) 0 + (own_step_count variant)
+  new_step_count : get_or counted (step_count_at book) 0 ≡ get_or bytes (step_count_at book) 0 +
+      (own_step_count variant)
   new_step_count =
       raised_elsewhere (last_count_at book) 1 (step_count_at book) bytes₂ (λ e. omega arith)
       ∙ raised_elsewhere (variant_count_at book) 1 (step_count_at book) bytes₁ (λ e. omega arith)

@@ -111,7 +111,8 @@ module _ (book : Book) (text : List ℕ) (P m u : ℕ) (scope : Scope) where
   -- of both runs, where k calls are open and these are the stored sets: a minimum, or one of the k calls
   pub data Same (k : ℕ) (S₁ S₂ : Sets) : Governor → Governor → Type 0 where
     least : (n : ℕ) → Same k S₁ S₂ (minimum n) (minimum n)
-    asked : (i : ℕ) (f : Use) (Q₁ Q₂ : Path) → get_or S₂ i [] ≡ get_or S₁ i [] → Good (Onwards u) (get_or S₁ i []) → i < k →
+    asked : (i : ℕ) (f : Use) (Q₁ Q₂ : Path) → get_or S₂ i [] ≡ get_or S₁ i [] → Good (Onwards u) (get_or S₁ i []) → i
+        < k →
         Same k S₁ S₂ (same_start i f Q₁) (same_start i f Q₂)
 
   module _ (k : ℕ) (mine : List (Parse ℕ)) (S₁ S₂ : Sets) where
