@@ -379,7 +379,8 @@ pub fn governor_of(rows: &[u32], row: usize, binder: u32, nonterminal: u32, at: 
 // The set of row `into` becomes what the use of row `from` keeps of that row's set.
 fn put_kept(rows: &mut [u32], into: usize, from: usize)
     requires { Below into from rows.old }
-    ensures { Changes rows.old rows.new into (with_set (kept (use_at (row_in rows.old from)) (row_in rows.old from).set)) }
+    ensures { Changes rows.old rows.new into
+        (with_set (kept (use_at (row_in rows.old from)) (row_in rows.old from).set)) }
 {
     let associativity = sets::associativity_of(get(rows, from, ASSOCIATIVITY));
     let level = get(rows, from, LEVEL);
@@ -468,7 +469,8 @@ fn claims(book: &[u8], index: &[usize], rows: &[u32], row: usize, at: u32) -> bo
 // A call above a row claims, up to where a scope begins.
 fn any_claims(book: &[u8], index: &[usize], rows: &[u32], row: usize, at: u32) -> bool
     requires { InTable row rows.now }
-    ensures { result ≡ model.any_claims (book_at book.now index.now) (table_at rows.now) at (most_nesting - row) (suc row) }
+    ensures { result
+        ≡ model.any_claims (book_at book.now index.now) (table_at rows.now) at (most_nesting - row) (suc row) }
 {
     let mut above = row + 1;
     while above <= MOST_NESTING {

@@ -57,7 +57,8 @@ fn identifier_error(book: &[u8], index: &[usize], text: &[u8], at: u32, other: E
 
 // The error of an identifier's step.
 pub fn name_error(book: &[u8], index: &[usize], text: &[u8], at: u32) -> Error
-    ensures { error_of result ≡ identifier_error (book_at book.now index.now) text.now at (error at identifier_wanted 0) }
+    ensures { error_of result
+        ≡ identifier_error (book_at book.now index.now) text.now at (error at identifier_wanted 0) }
 {
     identifier_error(book, index, text, at, error_at(at, IDENTIFIER_WANTED, 0))
 }
