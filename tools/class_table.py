@@ -1,14 +1,15 @@
 #!/usr/bin/env python3
 """Looks whether the compiled reader has the class table once, and reads it in place.
 
-    python3 tools/class_table.py
+    python3 tools/class_table.py [LIBRARY]
 
 No proof speaks of that: the proofs are of what the reader answers, and whether the compiler keeps a constant array in
 read-only memory or lays it out on the stack at each reading is the compiler's choice (docs/DECISIONS.md, 36). So this
-compiles the reader as it stands, without its proofs, and searches the static library: the table of
-crates/characters/src/table.rt must stand there once, and no row of it anywhere else, as code that lays the table out
+searches the static library, or else compiles the reader as it stands, without its proofs, and searches that: the table
+of crates/characters/src/table.rt must stand there once, and no row of it anywhere else, as code that lays the table out
 would have it.
 """
+import argparse
 import re
 import struct
 import sys
@@ -27,9 +28,11 @@ def rows():
 
 
 def main():
-    table = b"".join(rows())
+    options = argparse.ArgumentParser(description=__doc__, formatter_class=argparse.RawDescriptionHelpFormatter)
+    options.add_argument("library", nargs="?", metavar="LIBRARY")
+    given, table = options.parse_args().library, b"".join(rows())
     with tempfile.TemporaryDirectory() as folder:
-        with open(reader.static_library(folder), "rb") as library:
+        with open(given or reader.static_library(folder), "rb") as library:
             parts = library.read().split(table)
     strays = sum(part.count(row) for part in parts for row in set(rows()))
     print(f"class table of {len(table)} bytes: {len(parts) - 1} in the library, rows elsewhere: {strays}")

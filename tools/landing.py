@@ -1,13 +1,15 @@
 #!/usr/bin/env python3
-"""Makes the tables of a landing's note (docs/landings) from git and from the prover's logs.
+"""Makes the tables of a landing's note (docs/landings) from git and from what the prover printed.
 
     python3 tools/landing.py BEFORE AFTER [--proved LOG LOG]
 
 prints, for two commits, what happened to the definitions, laws, worked answers, contracts and proofs: how many files
 (of contracts: functions) were changed, added, removed or stayed as they were, and their lines; and the names of the
 files of definitions and of the functions whose contracts changed, which a note speaks of. A file that was only moved or
-renamed counts as it is compared by git. With the outputs of `rt prove` of both commits, each from a fresh clone with
-nothing beside it, it prints the seconds of each crate too.
+renamed counts as it is compared by git. With logs of both commits, each of a run of `rt all verdict` in a clone with
+nothing beside it, it prints the seconds of each crate too. A log has before each line the seconds since the run began:
+
+    SECONDS=0; PYTHONUNBUFFERED=1 rt all verdict --jobs 1 | while read -r line; do echo "$SECONDS $line"; done >LOG
 """
 import argparse
 import collections
@@ -19,8 +21,11 @@ import sys
 ROOT = os.path.dirname(os.path.dirname(os.path.abspath(__file__)))
 KINDS = ["definitions", "laws", "worked answers", "code", "proofs"]
 FATES = ["changed", "added", "removed", "untouched"]
-LAWS = re.compile(r"Laws\b|Laws/|Theorem|run_model/specs/(Keeps|Sim|Views)")
-WORKED = re.compile(r"specs/(ExampleBook|ExtensionExample|ReservedNameExample|DeclaredNameExample|Worked|Cases)\.antt$")
+LAWS = re.compile(r"Laws\b|Laws/|Theorem|run_model/(specs|proofs)/(Keeps|Sim|Views|Named)")
+WORKED = re.compile(
+    r"(specs|proofs)/(ExampleBook|ExtensionExample|ReservedNameExample|DeclaredNameExample|Worked|Cases)\.antt$"
+)
+PROOF = re.compile(r"/(Proof|Invariants|Answers)\.antt$")
 
 
 def git(*words):
@@ -32,11 +37,13 @@ def kind(path):
     """What a file of a crate holds, by its name; None for one that holds none of these."""
     if re.match(r"crates/\w+/src/.*\.rt$", path):
         return "code"
-    if re.match(r"crates/\w+/proofs/.*\.antt$", path):
-        return "proofs"
-    if not re.match(r"crates/\w+/specs/.*\.antt$", path) or path.endswith("/Lib.antt"):
+    if not re.match(r"crates/\w+/(specs|proofs)/.*\.antt$", path) or path.endswith("/Lib.antt"):
         return None
-    return "worked answers" if WORKED.search(path) else "laws" if LAWS.search(path) else "definitions"
+    if PROOF.search(path):
+        return "proofs"
+    if WORKED.search(path):
+        return "worked answers"
+    return "laws" if LAWS.search(path) or "/proofs/" in path else "definitions"
 
 
 def lines(commit):
@@ -86,8 +93,8 @@ def module(path):
 
 
 def contracts(commit):
-    """The clauses of each function of a commit, as one text."""
-    clauses_of = re.compile(r"\bfn (\w+)(?:(?!\bfn \w).)*?\n((?:\s+(?:requires|ensures) \{.*?⌝ \}\n)+)", re.S)
+    """The clauses of each function of a commit, as one text: what stands between its head and its body."""
+    clauses_of = re.compile(r"\bfn (\w+)(?:(?!\bfn \w|\{).)*?\n(\s+(?:requires|ensures)\b.*?)\n\s*\{\n", re.S)
     found = {}
     for path in git("ls-tree", "-r", "--name-only", commit, "crates").split("\n"):
         if kind(path) == "code":
@@ -114,8 +121,11 @@ def contract_table(before, after):
 
 # ---- Times
 def seconds(log):
-    with open(log) as said:
-        return {name: int(n) for name, n in re.findall(r"^rt: (\w+) proved \((\d+) s\)", said.read(), re.M)}
+    """The seconds between the lines `== CRATE`, each of which comes when the crate is done; the summary is none."""
+    with open(log, encoding="utf-8") as said:
+        done = re.findall(r"^(\d+) == (\w+)$", said.read(), re.M)
+    begun = [0] + [int(at) for at, _ in done]
+    return {crate: int(at) - before for (at, crate), before in zip(done, begun) if crate != "summary"}
 
 
 def time_table(before, after):

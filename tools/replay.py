@@ -5,13 +5,13 @@
 
 The reader compiled without its proofs, by the program of the crate known_answers (tools/reader.py --replay).
 --at O0,O3,checked,interpreter chooses how it is compiled: at -O0, at -O3 (this one alone without --at), with the
-compiler's assumptions checked, or not at all. The interpreter stops after ten million steps, so it gets only up to
+compiler's assumptions checked, or not at all. The interpreter stops after twenty million steps, so it gets only up to
 three vectors of little work for each refusal.
 
     python3 tools/replay.py --through library VECTORS.jsonl ..
 
-The static library, called as C does: target/staticlib/libmidgebillon.a, which `rt staticlib midgebillon` proves and
-writes, or --library FILE. Each vector is read by midgebillon_read, and by midgebillon_read_in in working memory that is
+The static library, called as C does: crates/midgebillon/out/libmidgebillon.a, which `rt lib` proves and writes, or
+--library FILE. Each vector is read by midgebillon_read, and by midgebillon_read_in in working memory that is
 full of rubbish; the first that isn't refused with 1 also with each list of that memory one number too short.
 
     python3 tools/replay.py --through definitions VECTORS.jsonl ..
@@ -41,8 +41,8 @@ import tempfile
 
 from cases.vectors import BEYOND, CELLS, PARSES, REFUSAL, WORK, lent, line, parse_numbers, read, record
 from definitions import Definitions, NotUnderstood, Unended
-from library import linked
-from reader import NOTHING_REPLAYED, ROOT, TOOLCHAIN, WAYS, compiled_replay, replay_source, tried
+from library import PROVED, linked
+from reader import NOTHING_REPLAYED, REPLAY, ROOT, WAYS, compiled_replay, replay_source, tried
 
 MOST_UNITS = 1_000_000  # the largest allowance
 SHOWN = 12  # how many vectors that differ are printed
@@ -110,9 +110,9 @@ def interpreted(folder, vectors):
     chosen, differing, main = light(vectors), [], replay_source(folder)
     for i in range(0, len(chosen), AT_ONCE):
         part = chosen[i : i + AT_ONCE]
-        said = tried(main, TOOLCHAIN, written(part, f"{folder}/part.bin"), all_equal(part))
-        if said.returncode or "ok: the interpreter" not in said.stdout:
-            differing += [(place, said.stdout) for place, _ in part]
+        said = tried(main, REPLAY, data=written(part, f"{folder}/part.bin"))
+        if said.stdout != all_equal(part) or "interpreter: ended status=0\n" not in said.stderr:
+            differing += [(place, said.stdout + said.stderr) for place, _ in part]
     return told("interpreter", len(chosen), differing)
 
 
@@ -267,7 +267,7 @@ def short_memory(library, v, memory):
 
 def through_library(vectors, options):
     if not os.path.exists(options.library):
-        sys.exit(f"no {options.library}: `rt staticlib midgebillon` writes it")
+        sys.exit(f"no {options.library}: `rt lib` in crates/midgebillon writes it")
     memory = Memory()
     with tempfile.TemporaryDirectory() as folder:
         library = loaded(options.library, folder)
@@ -342,7 +342,7 @@ def main():
     options = argparse.ArgumentParser(description=__doc__, formatter_class=argparse.RawDescriptionHelpFormatter)
     options.add_argument("--through", choices=THROUGH, required=True)
     options.add_argument("--at", default="O3", metavar="WAYS")
-    options.add_argument("--library", default=f"{ROOT}/target/staticlib/libmidgebillon.a", metavar="FILE")
+    options.add_argument("--library", default=PROVED, metavar="FILE")
     options.add_argument("--processes", type=int, default=1, metavar="N")
     options.add_argument("--limit-work", type=int, default=MOST_UNITS, metavar="N")
     options.add_argument("--least-work", type=int, default=0, metavar="N")

@@ -3,12 +3,3 @@ pub mod Numbers
 pub mod Book
 pub mod Check
 pub mod Index
-pub mod ReaderLaws
-pub mod RecordLaws
-pub mod EntryLaws
-pub mod SectionLaws
-pub mod ReadingLaws
-pub mod BinderLaws
-pub mod WholeLaws
-pub mod EndLaws
-pub mod BoundLaws

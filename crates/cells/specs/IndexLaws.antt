@@ -13,7 +13,7 @@ use Prim.Native.Nat.{ℕ, zero, suc, ◌+◌, ◌≤◌, ◌<◌}
 use Rattle.std.proofs.lemmas.Bool.{eqb-false}
 use Rattle.characters.specs.Cases.{by_test}
 use Rattle.characters.specs.Spelling.{same}
-use Rattle.characters.specs.SpellingLaws.{same_equal, same_itself}
+use Rattle.characters.proofs.SpellingLaws.{same_equal, same_itself}
 use Rattle.semantics.specs.Cells.{Cell, numbers_of, identity_of, find_cell}
 use Rattle.cells.specs.declared.numbers.CellNumbers.{CellNumbers}
 use Rattle.cells.specs.Store.{listed, identity_in, same_in, hash_of, numbers_at, link_at, head_at, find_in, Leads, here}

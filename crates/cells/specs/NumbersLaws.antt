@@ -10,7 +10,7 @@ use Rattle.std.proofs.Math.Numerals.{add-one}
 use borrow.Author.Tests.{eq-eqb, ne_eqb, eqb-true, eqb-false}
 use Rattle.characters.specs.Cases.{by_test}
 use Rattle.characters.specs.Spelling.{part_of, same}
-use Rattle.characters.specs.SpellingLaws.{same_equal}
+use Rattle.characters.proofs.SpellingLaws.{same_equal}
 use Rattle.semantics.specs.Cells.{Cell, numbers_of, identity_of}
 use Rattle.cells.specs.declared.numbers.CellNumbers.{CellNumbers}
 use Rattle.cells.specs.Store.{listed, identity_in, same_in, mixed, hash_from, hash_of}

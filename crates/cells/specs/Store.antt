@@ -3,7 +3,8 @@
 --
 -- The store has the three numbers of cell n at 3n - 3, its link at `links` + n, and the head of hash h at `heads` + h.
 -- A head is the newest cell of its hash, a link the next older one of the same hash, and 0 ends the bucket.
-use Rattle.std.specs.Prelude.{◌≡◌, Bool, cond, List, [], ◌∷◌, ◌++◌, ℕ, zero, suc, ◌+◌, ◌-◌, ◌*◌, ◌%◌, ◌≤◌, ◌<◌, eqb, ltb, length, get_or, set, take}
+use Rattle.std.specs.Prelude.{◌≡◌, Bool, cond, List, [], ◌∷◌, ◌++◌, ℕ, zero, suc, ◌+◌, ◌-◌, ◌*◌, ◌%◌, ◌≤◌, ◌<◌, eqb}
+use Rattle.std.specs.Prelude.{ltb, length, get_or, set, take}
 use Rattle.characters.specs.Spelling.{part_of, same}
 use Rattle.semantics.specs.Numbers.{cell_size, cells_size, most_cells, too_many_cells, name_form}
 use Rattle.semantics.specs.Cells.{Cell, numbers_of, identity_of, cells_in}
@@ -61,7 +62,11 @@ place_of n = n * cell_size - cell_size
 
 abbrev pub numbers_at : List ℕ → ℕ → CellNumbers
 numbers_at store n =
-    record { form = get_or store (place_of n) 0; a = get_or store (place_of n + 1) 0; b = get_or store (place_of n + 2) 0 }
+    record {
+      form = get_or store (place_of n) 0;
+      a = get_or store (place_of n + 1) 0;
+      b = get_or store (place_of n + 2) 0;
+    }
 
 abbrev pub link_at : List ℕ → ℕ → ℕ
 link_at store n = get_or store (links + n) 0

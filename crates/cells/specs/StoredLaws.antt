@@ -7,7 +7,7 @@ use Rattle.std.proofs.Common.{sym, ap, ◌∙◌, arith}
 use mathlib.Core.List.{List, [], ◌∷◌, ◌++◌, append-nil}
 use Rattle.semantics.specs.Cells.{Cell, numbers_of, cells_in}
 use Rattle.semantics.specs.Answer.{cell_numbers}
-use Rattle.semantics.specs.Theorem.Numbers.{cells_in_lem}
+use Rattle.semantics.proofs.Theorem.Numbers.{cells_in_lem}
 use Rattle.cells.specs.Store.{stored_cells, Holds}
 
 -- the three numbers from 3i on

@@ -5,8 +5,8 @@
 // of the definitions gives for that list, the number of the first equal cell, or of a new one, or the limit; and the
 // store holds the list after it. `clear` makes any store of `STORE_SIZE` numbers hold no cells. Neither has a
 // `requires`, and neither stores past those numbers. The numbers of a wanted cell come from a function for each form of
-// cell; they are `numbers_of` it. The cells stand at the head of the store as document 01 numbers them (`stored_numbers`
-// of specs/StoredLaws.antt).
+// cell; they are `numbers_of` it. The cells stand at the head of the store as document 01 numbers them
+// (`stored_numbers` of specs/StoredLaws.antt).
 //
 // The crate relies on the promises of `characters` and on the definitions of `semantics`, and assumes nothing. specs/
 // has the store and what it holds (Store), and laws.

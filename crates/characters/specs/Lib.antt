@@ -5,8 +5,5 @@ pub mod Slices
 pub mod Classes
 pub mod ClassLaws
 pub mod Skipping
-pub mod SkippingLaws
 pub mod Lexemes
-pub mod LexemeLaws
 pub mod Spelling
-pub mod SpellingLaws

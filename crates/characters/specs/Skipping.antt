@@ -1,5 +1,6 @@
 -- Document 01, "Characters": longest spans, and skipping.
-use Rattle.std.specs.Prelude.{Bool, true, false, cond, not, ◌&&◌, ◌||◌, List, [], ◌∷◌, ℕ, zero, suc, ◌+◌, ltb, eqb, length, get_or, drop}
+use Rattle.std.specs.Prelude.{Bool, true, false, cond, not, ◌&&◌, ◌||◌, List, [], ◌∷◌, ℕ, zero, suc, ◌+◌, ltb, eqb}
+use Rattle.std.specs.Prelude.{length, get_or, drop}
 use Rattle.characters.specs.Classes.{is_of}
 use Rattle.characters.specs.declared.classes.Class.TheVariants.{Whitespace, Digit, Letter}
 use Rattle.characters.specs.declared.skipping.Span.{Span}

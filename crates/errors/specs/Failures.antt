@@ -49,7 +49,8 @@ chosen_run c at none b = refl
 chosen_run c at (some a) b = chosen_both c at a b b.failure refl
 
 -- ---- Errors that consumed nothing since a choice drop; another stays
-pub choice_drops : (at N : ℕ) (a b : Error) → beyond at (join a b) ≡ none → choice_error at N a b ≡ error at more_wanted N
+pub choice_drops : (at N : ℕ) (a b : Error) → beyond at (join a b) ≡ none →
+    choice_error at N a b ≡ error at more_wanted N
 unfolding choice_error
 choice_drops at N a b e = rw (e, choice_error)
 

@@ -11,7 +11,7 @@ use mathlib.Core.List.Memᴰ
 use Rattle.semantics.specs.Errors as definition
 use Rattle.semantics.specs.Errors.{join}
 use Rattle.semantics.specs.Furthest.{Furthest}
-use Rattle.semantics.specs.FurthestLaws as laws
+use Rattle.semantics.proofs.FurthestLaws as laws
 use Rattle.errors.specs.Maps.{error_of}
 use Rattle.errors.specs.Lists.{error_size, error_at, errors_in, Joins, JoinsTo}
 use Rattle.errors.specs.declared.Error.{Error}

@@ -1,5 +1,6 @@
 -- What the functions for other languages promise that read and print, in the terms of the call and of the line.
-use Rattle.std.specs.Prelude.{◌≡◌, Bool, true, false, cond, ◌&&◌, ◌||◌, List, [], ◌++◌, ℕ, ◌*◌, ◌≤◌, ◌<◌, leb, eqb, length, get_or, set, drop}
+use Rattle.std.specs.Prelude.{◌≡◌, Bool, true, false, cond, ◌&&◌, ◌||◌, List, [], ◌++◌, ℕ, ◌*◌, ◌≤◌, ◌<◌, leb, eqb}
+use Rattle.std.specs.Prelude.{length, get_or, set, drop}
 use Rattle.characters.specs.Slices.{Slice}
 use Rattle.characters.specs.Classes.{between}
 use Rattle.book.specs.Book.{Entry}
@@ -20,7 +21,8 @@ answer_size = 7
 
 -- the answer that the first seven numbers of a list are
 abbrev pub answer_at : List ℕ → Answer
-answer_at l = answer (get_or l 0 0) (get_or l 1 0) (get_or l 2 0) (get_or l 3 0) (get_or l 4 0) (get_or l 5 0) (get_or l 6 0)
+answer_at l =
+    answer (get_or l 0 0) (get_or l 1 0) (get_or l 2 0) (get_or l 3 0) (get_or l 4 0) (get_or l 5 0) (get_or l 6 0)
 
 -- the list with an answer's numbers at its front
 abbrev pub storing : code.Answer → List ℕ → List ℕ
@@ -54,8 +56,7 @@ pub record ReadIntoWith (book text : Slice) (start allowance : ℕ)
     (cells cells' parses parses' index index' store store' rows rows' answer answer' : Slice) : Type 0 where
   pub answers :
       AnswersInto book text start
-      (answer_with index store rows cells parses book
-      text start allowance)
+      (answer_with index store rows cells parses book text start allowance)
       cells cells' parses parses' answer answer'
   pub few : length answer < answer_size → Stays index index' × Stays store store' × Stays rows rows'
 

@@ -4,7 +4,8 @@
 --   with_room                                with enough working memory `midgebillon_read_in` is `midgebillon_read`
 --   some_line                                no line is empty
 --   few_numbers, no_answer, line_printed     `midgebillon_print`: too few numbers, numbers that are no answer, the line
-use Rattle.std.specs.Prelude.{◌≡◌, refl, Bool, true, false, cond, ◌&&◌, List, [], ◌∷◌, ℕ, ◌≤◌, ◌<◌, leb, eqb, length, drop}
+use Rattle.std.specs.Prelude.{◌≡◌, refl, Bool, true, false, cond, ◌&&◌, List, [], ◌∷◌, ℕ, ◌≤◌, ◌<◌, leb, eqb, length}
+use Rattle.std.specs.Prelude.{drop}
 use Rattle.std.proofs.Common.{sym, subst, ap, ◌∙◌, arith, le-leb, le-ltb, eqb-true, eq-eqb, ne_eqb}
 use Rattle.std.proofs.lemmas.Bool.{lt-leb, eqb-false}
 use Rattle.characters.specs.Cases.{by_test, clash}
@@ -35,34 +36,36 @@ stored a (x ∷ y ∷ z ∷ t ∷ u ∷ []) h = absurd (omega arith)
 stored a (x ∷ y ∷ z ∷ t ∷ u ∷ v ∷ []) h = absurd (omega arith)
 stored a (x ∷ y ∷ z ∷ t ∷ u ∷ v ∷ w ∷ l) h = (refl, refl)
 
-module _ (book text : Slice) (start : ℕ) (expected : Answered) (cells cells' parses parses' answer answer' : Slice) where
-  pub untouched : length answer < 7 → Stays cells cells' → Stays parses parses' → Stays answer answer' →
-      AnswersInto book text start expected cells cells' parses parses' answer answer'
-  untouched h same_cells same_parses same_answer =
-      record {
-        few = λ k. (same_cells, same_parses, same_answer);
-        reads = λ k. absurd (omega (arith, h, k));
-        behind = ap (λ (l : List ℕ). drop 7 l) same_answer;
-      }
+module _ (book text : Slice) (start : ℕ) (expected : Answered) (cells cells' parses parses' answer answer' : Slice)
+  where
+    pub untouched : length answer < 7 → Stays cells cells' → Stays parses parses' → Stays answer answer' →
+        AnswersInto book text start expected cells cells' parses parses' answer answer'
+    untouched h same_cells same_parses same_answer =
+        record {
+          few = λ k. (same_cells, same_parses, same_answer);
+          reads = λ k. absurd (omega (arith, h, k));
+          behind = ap (λ (l : List ℕ). drop 7 l) same_answer;
+        }
 
-  pub answers : (a : code.Answer) → 7 ≤ length answer →
-      Reads book text start expected (answered a cells' parses') →
-      answer' ≡ storing a answer → AnswersInto book text start expected cells cells' parses parses' answer answer'
-  answers a h r e =
-      let at = stored a answer h in
-      record {
-        few = λ k. absurd (omega (arith, h, k));
-        reads = λ k. subst (λ (x : Answer). Reads book text start expected
-            (record { answer = x; cells = cells'; parses = parses' }))
-            (sym (ap (λ (l : List ℕ). answer_at l) e ∙ at.0)) r;
-        behind = ap (λ (l : List ℕ). drop 7 l) e ∙ at.1;
-      }
+    pub answers : (a : code.Answer) → 7 ≤ length answer →
+        Reads book text start expected (answered a cells' parses') →
+        answer' ≡ storing a answer → AnswersInto book text start expected cells cells' parses parses' answer answer'
+    answers a h r e =
+        let at = stored a answer h in
+        record {
+          few = λ k. absurd (omega (arith, h, k));
+          reads = λ k. subst (λ (x : Answer). Reads book text start expected
+              (record { answer = x; cells = cells'; parses = parses' }))
+              (sym (ap (λ (l : List ℕ). answer_at l) e ∙ at.0)) r;
+          behind = ap (λ (l : List ℕ). drop 7 l) e ∙ at.1;
+        }
 
 -- with enough working memory what `midgebillon_read_in` promises is what `midgebillon_read` promises
 module _ (book text : Slice) (start allowance : ℕ)
     (cells cells' parses parses' index index' store store' rows rows' answer answer' : Slice) where
   pub with_room : no_room index store rows ≡ false →
-      ReadIntoWith book text start allowance cells cells' parses parses' index index' store store' rows rows' answer answer' →
+      ReadIntoWith book text start allowance cells cells' parses parses' index index' store store' rows rows' answer
+      answer' →
       ReadInto book text start allowance cells cells' parses parses' answer answer'
   with_room room r = rw room at r.answers
 

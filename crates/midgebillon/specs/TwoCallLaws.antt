@@ -24,8 +24,9 @@ module _ (book text : Slice) (start allowance : ℕ) (cells cells' parses parses
       }
 
   abbrev pub call_into_with : (index index' store store' rows rows' : Slice) →
-      ReadIntoWith book text start allowance cells cells' parses parses' index index' store store' rows rows' answer answer' →
+      ReadIntoWith book text start allowance cells cells' parses parses' index index' store store' rows rows' answer
+      answer' →
       no_room index store rows ≡ false → answer_size ≤ length answer → Call
   call_into_with index index' store store' rows rows' r enough =
-      call_into (with_room book text start allowance cells cells' parses parses' index index' store store' rows rows' answer answer'
-      enough r)
+      call_into (with_room book text start allowance cells cells' parses parses' index index' store store' rows rows'
+      answer answer' enough r)

@@ -42,7 +42,8 @@ pub extern "C" fn midgebillon_read(
     parses: &mut [u32],
     answer: &mut [u32],
 )
-    ensures { ReadInto book.now text.now start allowance cells.old cells.new parses.old parses.new answer.old answer.new }
+    ensures { ReadInto book.now text.now start allowance cells.old cells.new parses.old parses.new
+        answer.old answer.new }
 {
     if answer.len() < ANSWER_SIZE {
         return;
@@ -66,7 +67,8 @@ pub extern "C" fn midgebillon_read_in(
     rows: &mut [u32],
     answer: &mut [u32],
 )
-    ensures { ReadIntoWith book.now text.now start allowance cells.old cells.new parses.old parses.new index.old index.new store.old store.new rows.old rows.new answer.old answer.new }
+    ensures { ReadIntoWith book.now text.now start allowance cells.old cells.new parses.old parses.new
+        index.old index.new store.old store.new rows.old rows.new answer.old answer.new }
 {
     if ANSWER_SIZE <= answer.len() {
         let a = read_in(

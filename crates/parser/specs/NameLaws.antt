@@ -18,11 +18,11 @@ use Rattle.run_model.specs.Model as model
 use Rattle.run_model.specs.Model.{RowState, row_state, outcome, RowRunner, spend_rows, nested_rows, opens_rows}
 use Rattle.run_model.specs.Model.{declares_rows}
 use Rattle.run_model.specs.Model.{name_choice_rows, chosen_rows, steps_rows, runner_rows}
-use Rattle.run_model.specs.Named.{names_length}
-use Rattle.run_model.specs.Keeps.{KeepsAt, On}
-use Rattle.run_model.specs.KeepsBinders.{keeps_opens}
-use Rattle.run_model.specs.KeepsRun.{keeps_runner}
-use Rattle.run_model.specs.SimChild.{names_still}
+use Rattle.run_model.proofs.Named.{names_length}
+use Rattle.run_model.proofs.Keeps.{KeepsAt, On}
+use Rattle.run_model.proofs.KeepsBinders.{keeps_opens}
+use Rattle.run_model.proofs.KeepsRun.{keeps_runner}
+use Rattle.run_model.proofs.SimChild.{names_still}
 use Rattle.errors.specs.Maps.{failure_of}
 use Rattle.transitions.specs.declared.outcomes.Outcome.{Outcome}
 use Rattle.transitions.specs.declared.outcomes.State.{State}

@@ -25,7 +25,7 @@ use Rattle.semantics.specs.Values.{Tree, no_trees, ◌▸◌}
 use Rattle.semantics.specs.Cells.{Cell, numbers_of, cell_of, cells_in, Meaning, one, several, tree_in, trees_in}
 use Rattle.semantics.specs.Cells.{meaning_of}
 use Rattle.semantics.specs.Cells.{meanings}
-use Rattle.semantics.specs.Theorem.Meanings.{meaning, Prefix, still, new_meaning}
+use Rattle.semantics.proofs.Theorem.Meanings.{meaning, Prefix, still, new_meaning}
 use Rattle.cells.specs.Store.{listed}
 use Rattle.cells.specs.declared.numbers.CellNumbers.{CellNumbers}
 use Rattle.printing.specs.Printing.{decimal, declared_bytes, printed, spaced}

@@ -1,7 +1,7 @@
 -- Document 01, "Printing": "start 0, allowance 1,000,000". The answer to a book and a text, over lists of zeros.
 use Rattle.std.specs.Prelude.{◌≡◌, List, ℕ, replicate}
 use Rattle.semantics.specs.Numbers.{cells_size, parses_size, most_units}
-use Rattle.semantics.specs.Answer.{Answer, Answered, answer_of}
+use Rattle.semantics.specs.Answer.{Answered, answer_of}
 use Rattle.run.specs.Promise.{answer_in}
 use Rattle.run.specs.declared.reader.Answer as code
 

@@ -1,6 +1,6 @@
 -- A law of the parts of a line: a part lies within the slice that it was printed into (`window_counts`).
-use Rattle.std.specs.Prelude.{◌≡◌, refl, List, ◌++◌, ℕ, ◌≤◌, ◌+◌, min, length, drop}
-use Rattle.std.proofs.Common.{sym, ap, ◌∙◌, arith, length-take, length-append}
+use Rattle.std.specs.Prelude.{List, ℕ, ◌≤◌, length, drop}
+use Rattle.std.proofs.Common.{ap, ◌∙◌, arith, length-take, length-append}
 use Rattle.characters.specs.Spelling.{part_of}
 use Rattle.program.specs.Counts.{IsPrefixLen}
 use Rattle.printing.specs.Lines.{Window}

@@ -1,6 +1,6 @@
 -- What a user of the call has to read: the promise of `read` and of `read_in`. It is stated over the definitions of
--- document 01 and of what document 02 changed in it, d and f (`answer_of` of semantics, specs/Answer.antt), and over the
--- derivations (`Exact` of specs/Exact.antt there), and over nothing of how the call works.
+-- document 01 and of what document 02 changed in it, d and f (`answer_of` of semantics, specs/Answer.antt), and over
+-- the derivations (`Exact` of specs/Exact.antt there), and over nothing of how the call works.
 use Rattle.std.specs.Prelude.{◌≡◌, Bool, false, cond, ◌||◌, List, ℕ, ltb, length}
 use Rattle.characters.specs.Slices.{Slice}
 use Rattle.book.specs.Book.{Book}

@@ -13,7 +13,7 @@ use Rattle.semantics.specs.Values.{Parse, whole}
 use Rattle.semantics.specs.Run.{Result, Parsed}
 use Rattle.semantics.specs.Run as definition
 use Rattle.semantics.specs.Answer.{Answer, Answered, answer, written, parse_numbers}
-use Rattle.run_model.specs.Theorem.{seen}
+use Rattle.run_model.proofs.Theorem.{seen}
 use Rattle.cells.specs.Store.{store_size}
 use Rattle.calls.specs.Table.{rows_size, table, row_in}
 use Rattle.transitions.specs.declared.outcomes.Outcome.{Outcome}

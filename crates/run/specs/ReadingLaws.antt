@@ -25,13 +25,14 @@ use Rattle.semantics.specs.Cells.{Cell, cells_in}
 use Rattle.semantics.specs.Errors.{Error}
 use Rattle.semantics.specs.Run as definition
 use Rattle.semantics.specs.Run.{Result, met, ok, Parsed, parsed}
-use Rattle.semantics.specs.Answer.{Answer, Answered, answer, written, cell_numbers, parse_numbers, whole_values, first_high}
+use Rattle.semantics.specs.Answer.{Answer, Answered, answer, written, cell_numbers, parse_numbers, whole_values}
+use Rattle.semantics.specs.Answer.{first_high}
 use Rattle.semantics.specs.Answer.{untouched, at_end, on_book, answer_of}
 use Rattle.semantics.specs.Exact.{Exact}
-use Rattle.semantics.specs.Theorem.Found.{found_is_exactly_derivable}
+use Rattle.semantics.proofs.Theorem.Found.{found_is_exactly_derivable}
 use Rattle.run_model.specs.Rows.{row_of}
 use Rattle.run_model.specs.Model.{row_state, enter_rows, runner_rows}
-use Rattle.run_model.specs.Theorem.{seen, rows_run}
+use Rattle.run_model.proofs.Theorem.{seen, rows_run}
 use Rattle.calls.specs.Table.{table}
 use Rattle.calls.specs.TableLaws.{table_length}
 use Rattle.cells.specs.Store.{Holds, Cleared}
@@ -95,7 +96,8 @@ module _ (book : Book) (text store₀ store₁ store₂ rows rows' : List ℕ) (
 
   pub run_is : Cleared store₀ store₁ → 17408 ≤ length store₀ → first ≡ skip_from text 0 →
       Runs text store₁ 0 store₂ (table rows') o
-      (λ cells. enter_rows book text (runner_rows book text 200) 200 0 start first (row_state units cells (table rows))) →
+      (λ cells. enter_rows book text (runner_rows book text 200) 200 0 start first
+      (row_state units cells (table rows))) →
       RunsText book text units start store₂ rows' o
   run_is c room e runs =
       let ran = runs (held_none text store₀ store₁ c room) in record { is = run_seen ran e; held = ran.held }

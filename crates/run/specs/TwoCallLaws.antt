@@ -3,8 +3,8 @@ use Rattle.std.specs.Prelude.{◌≡◌, refl, List, ℕ}
 use Rattle.std.proofs.Common.{sym, ap, subst, ◌∙◌}
 use Rattle.semantics.specs.Answer.{Answered, answer_of}
 use Rattle.semantics.specs.Extension.{LosesNothing}
-use Rattle.semantics.specs.Theorem.Extension.Adding.{adding_loses_nothing}
-use Rattle.semantics.specs.Theorem.Longer.{same_under_larger}
+use Rattle.semantics.proofs.Theorem.Extension.Adding.{adding_loses_nothing}
+use Rattle.semantics.proofs.Theorem.Longer.{same_under_larger}
 use Rattle.run.specs.TwoCalls.{Call, CallsLoseNothing, CallsSameUnderLarger}
 
 -- what document 01 says of a call's lists, book and allowance, with a text and a start

@@ -58,7 +58,8 @@ pub fn clear_lists(cells: &mut [u32], parses: &mut [u32])
 // The cells of the store, and what the outermost row found.
 pub fn fill_lists(cells: &mut [u32], parses: &mut [u32], store: &[u32], rows: &[u32], count: u32)
     requires { CanFill cells.old parses.old store.now rows.now count }
-    ensures { Writes cells.old cells.new cells_size (take (cell_size * count) store.now) × WritesParses parses.old parses.new rows.now }
+    ensures { Writes cells.old cells.new cells_size (take (cell_size * count) store.now)
+        × WritesParses parses.old parses.new rows.now }
 {
     write(cells, CELLS_SIZE, store, CELL_SIZE * count as usize);
     write_parses(parses, rows);

@@ -302,7 +302,8 @@ pub fn read_in(
     store: &mut [u32],
     rows: &mut [u32],
 ) -> Answer
-    ensures { ReadIn book.now text.now start allowance cells.old cells.new parses.old parses.new index.old store.old rows.old result }
+    ensures { ReadIn book.now text.now start allowance cells.old cells.new parses.old parses.new
+        index.old store.old rows.old result }
 {
     if no_room(index, store, rows) {
         return refused(SHORT_LISTS, 0);

@@ -1,14 +1,2 @@
 pub mod Rows
 pub mod Model
-pub mod Keeps
-pub mod KeepsCalls
-pub mod KeepsBinders
-pub mod KeepsRun
-pub mod Views
-pub mod Named
-pub mod Sim
-pub mod SimCalls
-pub mod SimChild
-pub mod SimBinders
-pub mod SimSteps
-pub mod Theorem

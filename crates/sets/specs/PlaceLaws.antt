@@ -7,10 +7,12 @@
 -- - counts: count_le, count_suc
 -- - sets: set_length, set_list, set_le, size_le, set_apart, set_none, set_item
 -- - a parse that is put, number by number: put_length, put_only, put_parse_at
-use Rattle.std.specs.Prelude.{◌≡◌, refl, Bool, true, false, cond, List, [], ◌∷◌, ◌++◌, ◌⊎◌, ℕ, zero, suc, ◌+◌, ◌*◌, ◌<◌, ◌≤◌, ltb, get_or, set, length}
-use Rattle.std.proofs.Common.{sym, ap, ◌∙◌, inl, inr, arith, length-set, get_or-set_same, get_or-set_other, ltb-true, ltb-false}
+use Rattle.std.specs.Prelude.{◌≡◌, refl, Bool, true, false, cond, List, [], ◌∷◌, ◌++◌, ◌⊎◌, ℕ, zero, suc, ◌+◌, ◌*◌, ◌<◌}
+use Rattle.std.specs.Prelude.{◌≤◌, ltb, get_or, set, length}
+use Rattle.std.proofs.Common.{sym, ap, ◌∙◌, inl, inr, arith, length-set, get_or-set_same, get_or-set_other, ltb-true}
+use Rattle.std.proofs.Common.{ltb-false}
 use Rattle.book.specs.Book.{associativity_number}
-use Rattle.book.specs.ReadingLaws.{associativity_of_number}
+use Rattle.book.proofs.ReadingLaws.{associativity_of_number}
 use Rattle.semantics.specs.Values.{Parse, absent_parse}
 use Rattle.sets.specs.Sets.{parse_at, list_at, count_of, set_at, put_parse, Only}
 
@@ -82,7 +84,8 @@ list_snoc f b zero p h = let e : p ≡ b = omega arith in rw e
 list_snoc f b (suc k) p h =
     let e : suc k + 1 ≡ suc (k + 1) = omega arith in rw e (rw (list_snoc f (b + 4) k p (omega arith)))
 
-pub list_item : (f : List ℕ) (b k i p : ℕ) → i < k → p ≡ b + 4 * i → get_or (list_at f b k) i absent_parse ≡ parse_at f p
+pub list_item : (f : List ℕ) (b k i p : ℕ) → i < k → p ≡ b + 4 * i →
+    get_or (list_at f b k) i absent_parse ≡ parse_at f p
 unfolding list_at
 list_item f b zero i p h e = absurd (omega arith)
 list_item f b (suc k) zero p h e = let q : p ≡ b = omega arith in rw q

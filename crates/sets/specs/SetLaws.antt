@@ -11,7 +11,8 @@
 -- - kept: keep_yes, keep_no, Keeping, keeping_start, keeping_again, keeping_end
 use Rattle.std.specs.Prelude.{◌≡◌, refl, Bool, true, false, cond, List, [], ◌∷◌, ◌++◌, ltb, get_or, set, length}
 use Rattle.std.proofs.Math.Path.{sym}
-use Rattle.std.proofs.Common.{◌∙◌, append_assoc, append-nil, inl, inr, arith, sub-one, length-append, get_or-set_same, get_or-set_other, below_more}
+use Rattle.std.proofs.Common.{◌∙◌, append_assoc, append-nil, inl, inr, arith, sub-one, length-append, get_or-set_same}
+use Rattle.std.proofs.Common.{get_or-set_other, below_more}
 use Prim.Native.Nat.{ℕ, zero, suc, ◌+◌, ◌-◌, ◌*◌, ◌<◌, ◌≤◌}
 use borrow.Author.Tests.{lt-ltb, le-ltb}
 use Rattle.book.specs.declared.records.Associativity.{Associativity}
@@ -79,7 +80,8 @@ has_none p f b k h = let e : k ≡ 0 = omega arith in rw e
 abbrev longer : List ℕ → ℕ → ℕ → Parse ℕ → List ℕ
 longer f b n p = set (put_parse f (b + 1 + 4 * n) p) b (n + 1)
 
-module _ (f : List ℕ) (b n : ℕ) (p : Parse ℕ) (len : b + 257 ≤ length f) (h : n < 64) (e : n ≡ length (set_at f b)) where
+module _ (f : List ℕ) (b n : ℕ) (p : Parse ℕ) (len : b + 257 ≤ length f) (h : n < 64)
+    (e : n ≡ length (set_at f b)) where
   count_stored : Only (put_parse f (b + 1 + 4 * n) p) (longer f b n p) b 1
   count_stored = only_set (put_parse f (b + 1 + 4 * n) p) b (n + 1) b 1 (omega arith) (omega arith)
 
@@ -179,7 +181,8 @@ pub record Joining (f g : List ℕ) (into from at left : ℕ) : Type 0 where
   pub high : at + 4 * left ≤ from + 257
 
 -- a parse of one set, while another is written
-parse_of_lem : {f g : List ℕ} (into from at : ℕ) → Apart into from → Only f g into 257 → from ≤ at → at + 4 ≤ from + 257 →
+parse_of_lem : {f g : List ℕ} (into from at : ℕ) → Apart into from → Only f g into 257 → from ≤ at →
+    at + 4 ≤ from + 257 →
     parse_at g at ≡ parse_at f at
 parse_of_lem into from at (inl a) o l h = parse_apart at o (inr (omega arith))
 parse_of_lem into from at (inr a) o l h = parse_apart at o (inl (omega arith))
@@ -272,7 +275,8 @@ pub keep_no : (f : List ℕ) (b : ℕ) (p : Parse ℕ) (t u : Bool) → t ≡ u 
 unfolding keep_end
 keep_no f b p t u e n = record { now = rw (sym e ∙ n); only = only_refl }
 
-keep_turn : (t : Bool) (T R : List (Parse ℕ)) (q : Parse ℕ) → length T < 64 → keep_end t T q ++ R ≡ T ++ cond t (q ∷ R) R
+keep_turn : (t : Bool) (T R : List (Parse ℕ)) (q : Parse ℕ) → length T < 64 →
+    keep_end t T q ++ R ≡ T ++ cond t (q ∷ R) R
 unfolding keep_end appended
 keep_turn true T R q h = rw (lt-ltb (length T) 64 h) (append_assoc T (q ∷ []) R)
 keep_turn false T R q h = refl

@@ -1,6 +1,7 @@
 -- Sets of parses in a list of numbers, "in first-found order": at a set's place stands its count, and behind it four
 -- numbers for each parse.
-use Rattle.std.specs.Prelude.{◌≡◌, Bool, true, false, cond, List, [], ◌∷◌, ◌++◌, ◌⊎◌, ℕ, zero, suc, ◌+◌, ◌*◌, ◌<◌, ◌≤◌, ltb, length, get_or, set}
+use Rattle.std.specs.Prelude.{◌≡◌, Bool, true, false, cond, List, [], ◌∷◌, ◌++◌, ◌⊎◌, ℕ, zero, suc, ◌+◌, ◌*◌, ◌<◌, ◌≤◌}
+use Rattle.std.specs.Prelude.{ltb, length, get_or, set}
 use Rattle.characters.specs.Slices.{Slice}
 use Rattle.book.specs.Book.{associativity_number}
 use Rattle.book.specs.Check.{associativity_of}

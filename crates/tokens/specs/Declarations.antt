@@ -10,14 +10,14 @@ use Rattle.std.proofs.Math.Option.{Option, none, some}
 use native.Mathlib.Omega.{arith}
 use Rattle.std.proofs.Math.ListN.{length}
 use Rattle.characters.specs.Skipping.{skip_from}
-use Rattle.characters.specs.SkippingLaws.{skip_within}
+use Rattle.characters.proofs.SkippingLaws.{skip_within}
 use Rattle.book.specs.Book.{Book, Entry, kind_word}
 use Rattle.book.specs.declared.names.KindWord.{KindWord}
 use Rattle.semantics.specs.Numbers.{identifier_wanted, nonterminal_wanted, declared_name}
 use Rattle.semantics.specs.Tokens.{Read, identifier_end, spelled, free_end, kind_at, name_of_kind, declaration_at}
 use Rattle.semantics.specs.Errors.{error, identifier_error, declaration_error}
-use Rattle.semantics.specs.Theorem.Results.{none_some, some_inj, option_cases}
-use Rattle.semantics.specs.Theorem.Tokens.{identifier_within, free_end_within}
+use Rattle.semantics.proofs.Theorem.Results.{none_some, some_inj, option_cases}
+use Rattle.semantics.proofs.Theorem.Tokens.{identifier_within, free_end_within}
 use Rattle.run_model.specs.Model.{name_place}
 use Rattle.errors.specs.Maps.{error_of}
 use Rattle.errors.specs.declared.Error as code

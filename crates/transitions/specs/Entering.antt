@@ -2,16 +2,16 @@
 -- definition of document 01.
 --
 -- The letters are the model's; n is the row of the use or call, T and U are the tables before and after.
-use Rattle.std.specs.Prelude.{◌≡◌, Bool, true, false, List, ℕ, ◌-◌, ◌<◌}
-use Rattle.std.proofs.Math.Option.{Option, none, some}
+use Rattle.std.specs.Prelude.{◌≡◌, true, List, ℕ, ◌-◌, ◌<◌}
+use Rattle.std.proofs.Math.Option.{Option}
 use Rattle.book.specs.Book.{Book}
 use Rattle.semantics.specs.Tokens.{when}
 use Rattle.semantics.specs.Steps.{Todo}
-use Rattle.semantics.specs.Errors.{Error, join_with}
+use Rattle.semantics.specs.Errors.{join_with}
 use Rattle.semantics.specs.Cells.{Cell}
 use Rattle.semantics.specs.Uses.{has_mark}
-use Rattle.semantics.specs.Run.{Result, met, ok, ◌>>=◌, begin, counted}
-use Rattle.run_model.specs.Rows.{Row, row_of, on_row}
+use Rattle.semantics.specs.Run.{Result, ok, ◌>>=◌, begin, counted}
+use Rattle.run_model.specs.Rows.{Row, row_of}
 use Rattle.run_model.specs.Model.{RowState, row_state, Outcome, outcome, RowRunner, makes, at_row, bare_call, take_variant}
 use Rattle.run_model.specs.Model.{settle, settle_first}
 use Rattle.run_model.specs.Model.{run_call_rows, run_identifier_rows, nested_rows, stored_rows, enter_rows, steps_rows}

@@ -13,13 +13,13 @@ use Rattle.characters.specs.Classes.{between}
 use Rattle.book.specs.Book.{Entry, Book, no_variant}
 use Rattle.book.specs.Check.{accepted, placed, spelling, entry, variant, Outcome, check_book}
 use Rattle.book.specs.Numbers.{bad_field}
-use Rattle.book.specs.ReaderLaws.{between_high, fixed_most}
+use Rattle.book.proofs.ReaderLaws.{between_high, fixed_most}
 use Rattle.book.specs.declared.records.Variant.{Variant}
-use Rattle.semantics.specs.Theorem.Records.{accepted_inj, by_then, by_byte, records_length, records_each}
-use Rattle.semantics.specs.Theorem.Records.{records_total}
-use Rattle.semantics.specs.Theorem.Sections.{Sections, book_sections}
-use Rattle.semantics.specs.Theorem.BookFacts.{unplaced_variant, variants_length, variants_inside, steps_length}
-use Rattle.semantics.specs.Theorem.BookFacts.{steps_inside}
+use Rattle.semantics.proofs.Theorem.Records.{accepted_inj, by_then, by_byte, records_length, records_each}
+use Rattle.semantics.proofs.Theorem.Records.{records_total}
+use Rattle.semantics.proofs.Theorem.Sections.{Sections, book_sections}
+use Rattle.semantics.proofs.Theorem.BookFacts.{unplaced_variant, variants_length, variants_inside, steps_length}
+use Rattle.semantics.proofs.Theorem.BookFacts.{steps_inside}
 use Rattle.transitions.specs.Fit.{Fits, Fit}
 
 -- ---- The records

@@ -11,13 +11,12 @@ use Rattle.std.proofs.Math.Option.{Option, some}
 use Rattle.characters.specs.Skipping.{skip_from}
 use Rattle.book.specs.Book.{Book, Entry}
 use Rattle.semantics.specs.Tokens.{declaration_at}
-use Rattle.semantics.specs.Theorem.Tokens.{declared_kind}
+use Rattle.semantics.proofs.Theorem.Tokens.{declared_kind}
 use Rattle.semantics.specs.Steps.{Todo, After, goes, halts, naming, closing, after_element, closed}
 use Rattle.semantics.specs.Cells.{Cell, numbers_of}
-use Rattle.semantics.specs.Run as run
 use Rattle.semantics.specs.Run.{Result, met, ◌>>=◌, make, closing_code, declared_names}
 use Rattle.run_model.specs.Rows.{Row, declared, on_row, scope_in}
-use Rattle.run_model.specs.Named.{names_with}
+use Rattle.run_model.proofs.Named.{names_with}
 use Rattle.run_model.specs.Model as model
 use Rattle.run_model.specs.Model.{RowState, row_state, outcome, RowRunner, RowMade, row_made, makes, name_place}
 use Rattle.run_model.specs.Model.{with_declared}

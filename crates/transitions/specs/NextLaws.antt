@@ -4,7 +4,7 @@
 -- - what follows a parse: plain_next_lem, list_next_lem, element_limit, element_on, element_last, joined_limit, joined_first,
 --   joined_both
 -- - choices: spend_stops, spend_goes, side_absent, side_limit, side_stops, first_next, both_limit, both_chosen
-use Rattle.std.specs.Prelude.{◌≡◌, false, List, ℕ, zero, suc, ◌-◌}
+use Rattle.std.specs.Prelude.{◌≡◌, false, List, ℕ, zero, suc}
 use Rattle.std.proofs.Math.Path.{refl, sym, ap}
 use Rattle.std.proofs.Common.{◌∙◌}
 use Rattle.std.proofs.Math.Option.{Option}

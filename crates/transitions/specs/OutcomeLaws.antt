@@ -12,7 +12,6 @@ use Rattle.std.specs.Prelude.{◌≡◌, refl, Bool, true, false, List, ℕ, ◌
 use Rattle.std.proofs.Math.Path.{sym}
 use Rattle.std.proofs.Common.{ap, ◌∙◌, true≢false, arith, eq-eqb, ne_eqb, lt-ltb}
 use Rattle.std.proofs.Math.Option.{Option, none, some}
-use Rattle.characters.specs.Cases.{by_test}
 use Rattle.book.specs.Book.{Book, nth_variant}
 use Rattle.semantics.specs.Tokens as tokens
 use Rattle.semantics.specs.Tokens.{is_some}

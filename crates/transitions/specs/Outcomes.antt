@@ -1,7 +1,7 @@
 -- What the parts of a run give, as the model of the crate run_model has it, and the cells that the store holds.
 -- Scaffolding between that model and the code: no definition of document 01.
 use Rattle.std.specs.Prelude.{◌≡◌, Bool, cond, ◌&&◌, List, [], ℕ, eqb, length}
-use Rattle.std.proofs.Math.Option.{Option, none}
+use Rattle.std.proofs.Math.Option.{none}
 use Rattle.semantics.specs.Tokens.{when}
 use Rattle.semantics.specs.Cells.{Cell}
 use Rattle.semantics.specs.Run as run

@@ -8,7 +8,7 @@
 -- - whether a path goes on: goes_without_limit, goes_without_failure, goes_on, limit_ends, ended
 -- - how a path goes on: goes_met, goes_further, goes_failed, goes_nowhere, goes_there, made_goes, resumes_met,
 --   resumes_on, resumes_failed, made-resumes, gone_reached, gone_child
-use Rattle.std.specs.Prelude.{◌≡◌, refl, Bool, true, ◌&&◌, List, ℕ, ◌-◌, eqb}
+use Rattle.std.specs.Prelude.{◌≡◌, refl, Bool, true, ◌&&◌, List, ℕ, eqb}
 use Rattle.std.proofs.Math.Path.{sym, ap}
 use Rattle.std.proofs.Common.{◌∙◌, arith}
 use Rattle.std.proofs.Math.Bool.{false}

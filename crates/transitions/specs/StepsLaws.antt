@@ -5,8 +5,8 @@
 -- - a list begins, or has no opening: list_begun, unopened_limit, unopened_stops
 -- - a token was read: token_taken
 -- - a step: body_stands, step_limit, step_fails, step_reads, step_descends, step_chooses, step_lists, step_unopens,
---   step_omits, at-step
-use Rattle.std.specs.Prelude.{◌≡◌, refl, Bool, List, ◌∷◌, ℕ, ◌-◌, leb}
+--   step_omits, at_step
+use Rattle.std.specs.Prelude.{◌≡◌, refl, Bool, List, ◌∷◌, ℕ, leb}
 use Rattle.std.proofs.Math.Path.{sym, ap}
 use Rattle.std.proofs.Common.{◌∙◌, arith, leb-true}
 use Rattle.std.proofs.Math.Bool.{true, false}

@@ -5,7 +5,7 @@
 -- - the end of a variant: level_fits, parse_of_variant, finish_limit, finish_added, finish_full
 -- - a list stops: stops_part, stop_limit, stop_unclosed, stop_closed
 -- - an item is absent: omits_part, absent_limit, absent_goes
-use Rattle.std.specs.Prelude.{◌≡◌, Bool, true, false, cond, List, ℕ, ◌-◌, ◌<◌}
+use Rattle.std.specs.Prelude.{◌≡◌, Bool, true, false, cond, List, ℕ, ◌<◌}
 use Rattle.std.proofs.Math.Path.{refl, sym, ap}
 use Rattle.std.proofs.Common.{◌∙◌, arith}
 use Rattle.std.proofs.Math.Option.{Option, none, some}

@@ -9,15 +9,15 @@
 -- - what a step takes: taken_fits
 -- - the same by what was taken: token_fits, list_fits, unopened_fits
 use Rattle.std.proofs.Math.Path.{◌≡◌, refl}
-use Rattle.std.specs.Prelude.{Bool, true, false, cond, ℕ, suc, ◌+◌, ◌-◌, ◌≤◌, ◌<◌, ltb, eqb, length, get_or}
+use Rattle.std.specs.Prelude.{Bool, true, false, cond, ℕ, suc, ◌+◌, ◌≤◌, ◌<◌, ltb, eqb, length, get_or}
 use mathlib.Core.List.{List, [], ◌∷◌}
 use Rattle.std.proofs.Math.Option.{Option, none, some}
 use Rattle.std.proofs.Common.{arith, ltb-true, ltb-false}
 use Rattle.characters.specs.Cases.{by_test}
 use Rattle.characters.specs.Skipping.{skip_from}
-use Rattle.characters.specs.SkippingLaws.{skip_within, skip_out}
+use Rattle.characters.proofs.SkippingLaws.{skip_within, skip_out}
 use Rattle.characters.specs.Lexemes.{number_at}
-use Rattle.characters.specs.LexemeLaws.{number_bounds}
+use Rattle.characters.proofs.LexemeLaws.{number_bounds}
 use Rattle.characters.specs.declared.lexemes.Number.{Number}
 use Rattle.characters.specs.Spelling.{same}
 use Rattle.book.specs.Book.{Book, Entry, nth_entry, lookup_from, lookup_name}
@@ -27,7 +27,7 @@ use Rattle.semantics.specs.Uses.{Scope}
 use Rattle.semantics.specs.Tokens as tokens
 use Rattle.semantics.specs.Tokens.{Variable, Read, character_end, identifier_end, spelled, reserved_at, free_end}
 use Rattle.semantics.specs.Tokens.{variable_in, variable_at}
-use Rattle.semantics.specs.Theorem.Tokens.{identifier_within, free_end_within}
+use Rattle.semantics.proofs.Theorem.Tokens.{identifier_within, free_end_within}
 use Rattle.semantics.specs.Steps as steps
 use Rattle.semantics.specs.Steps.{After, goes, halts, after_element, closed, step_at}
 use Rattle.tokens.specs.Maps.{item_of, taken_of}

@@ -56,7 +56,8 @@ invariant-left_recursion::rounds-loop-round l = record {
       (rounds_rows (book_in l.book l.index) l.text (65 - l.round) (inner_runner (book_in l.book l.index) l.text l.row)
       l.row l.minimum (row_state l.s.units (cells_of l.store l.s.cells) (table l.rows)))
       (rounds_rows (book_in l.book l.index) l.text 65 (inner_runner (book_in l.book l.index) l.text l.row)
-      l.row l.minimum (row_state l.initial.s.units (cells_of l.initial.store l.initial.s.cells) (table l.initial.rows)));
+      l.row l.minimum (row_state l.initial.s.units (cells_of l.initial.store l.initial.s.cells)
+      (table l.initial.rows)));
 }
 
 abbrev pub decreases-left_recursion::rounds-loop-round : goal.decreases-left_recursion::rounds-loop-round
@@ -75,7 +76,8 @@ invariant-parser::follow-loop-i l = record {
       (follow_from (book_in l.book l.index) l.text (runner_rows (book_in l.book l.index) l.text l.free) l.free
       (next_rows (book_in l.book l.index) l.text l.here.call l.here.variant (todo_at (book_in l.book l.index) l.here)
       l.next l.here.items) l.parses 0 (failure_of (failure_at l.initial.all))
-      (row_state l.initial.all.state.units (cells_of l.initial.store l.initial.all.state.cells) (table l.initial.rows)));
+      (row_state l.initial.all.state.units (cells_of l.initial.store l.initial.all.state.cells)
+      (table l.initial.rows)));
 }
 
 abbrev pub decreases-parser::follow-loop-i : goal.decreases-parser::follow-loop-i
@@ -87,11 +89,11 @@ invariant-parser::one_run-loop-k l = record {
   unlimited : l.o.limit ≡ 0;
   left :
       Held l.text l.initial.store l.initial.o.state.cells → Going l.text l.store l.o.state.cells
-      (variants_rows (book_in l.book l.index) l.text (inner_runner (book_in l.book l.index) l.text l.row) l.row l.minimum
-      (l.called.count - l.k) (l.called.first + l.k) (failure_of (failure_at l.o))
+      (variants_rows (book_in l.book l.index) l.text (inner_runner (book_in l.book l.index) l.text l.row) l.row
+      l.minimum (l.called.count - l.k) (l.called.first + l.k) (failure_of (failure_at l.o))
       (row_state l.o.state.units (cells_of l.store l.o.state.cells) (table l.rows)))
-      (variants_rows (book_in l.book l.index) l.text (inner_runner (book_in l.book l.index) l.text l.row) l.row l.minimum
-      l.called.count l.called.first (failure_of (failure_at l.initial.o))
+      (variants_rows (book_in l.book l.index) l.text (inner_runner (book_in l.book l.index) l.text l.row) l.row
+      l.minimum l.called.count l.called.first (failure_of (failure_at l.initial.o))
       (row_state l.initial.o.state.units (cells_of l.initial.store l.initial.o.state.cells) (table l.initial.rows)));
 }
 

@@ -5,7 +5,8 @@ use Rattle.sets.specs.SetLaws.{Joining}
 use Rattle.sets.proofs.add_all.Given as goal
 
 abbrev pub invariant-loop-left : goal.invariant-loop-left
-invariant-loop-left l = (length l.numbers ≡ length l.initial.numbers) × Joining l.initial.numbers l.numbers l.into l.from l.at l.left
+invariant-loop-left l = (length l.numbers ≡ length l.initial.numbers)
+    × Joining l.initial.numbers l.numbers l.into l.from l.at l.left
 
 abbrev pub decreases-loop-left : goal.decreases-loop-left
 decreases-loop-left l = l.left

@@ -4,7 +4,8 @@ use Rattle.sets.specs.SetLaws.{Copying}
 use Rattle.sets.proofs.copy.Given as goal
 
 abbrev pub invariant-loop-i : goal.invariant-loop-i
-invariant-loop-i l = (l.most ≤ 257) × (length l.numbers ≡ length l.initial.numbers) × Copying l.initial.numbers l.numbers l.into l.from l.i
+invariant-loop-i l = (l.most ≤ 257) × (length l.numbers ≡ length l.initial.numbers)
+    × Copying l.initial.numbers l.numbers l.into l.from l.i
 
 abbrev pub decreases-loop-i : goal.decreases-loop-i
 decreases-loop-i l = l.most - l.i

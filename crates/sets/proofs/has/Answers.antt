@@ -20,7 +20,8 @@ pub parse_at-requires : goal.parse_at-requires
 parse_at-requires c = omega arith
 
 pub returns-then-same_parse : goal.returns-then-same_parse
-returns-then-same_parse c = sym (has_hit _ _ _ _ _ c.parse_at.ensures c.same_parse.ensures _ c.loop-left-test.true c.if-same_parse.true)
+returns-then-same_parse c =
+    sym (has_hit _ _ _ _ _ c.parse_at.ensures c.same_parse.ensures _ c.loop-left-test.true c.if-same_parse.true)
     ∙ c.loop-left.invariant.1
 
 pub overflow_add-at-in-loop-left : goal.overflow_add-at-in-loop-left

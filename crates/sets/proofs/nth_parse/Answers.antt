@@ -15,7 +15,8 @@ pub parse_at-requires : goal.parse_at-requires
 parse_at-requires c = omega (arith, size_le c.args.numbers.now c.args.place _ c.size.ensures)
 
 pub returns-then-i-size : goal.returns-then-i-size
-returns-then-i-size c = c.parse_at.ensures ∙ sym (set_item _ _ _ _ (rw c.size.ensures at c.if-i-size.true) (omega arith))
+returns-then-i-size c =
+    c.parse_at.ensures ∙ sym (set_item _ _ _ _ (rw c.size.ensures at c.if-i-size.true) (omega arith))
 
 pub returns : goal.returns
 returns c = sym (get_or-eq_default (set_at c.args.numbers.now c.args.place) _

@@ -1,5 +1,5 @@
 -- `book::first_step` meets its contract.
-use Rattle.book.specs.BinderLaws.{first_step_in, first_step_out}
+use Rattle.book.proofs.BinderLaws.{first_step_in, first_step_out}
 use Rattle.book.proofs.binders.first_step.Goals as goal
 
 pub returns-then-j-count : goal.returns-then-j-count

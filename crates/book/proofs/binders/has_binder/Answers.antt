@@ -1,8 +1,8 @@
 -- `book::has_binder` meets its contract. The invariant: the nonterminals from n on decide.
 use Rattle.std.proofs.Common.{arith, refl, sym, ◌∙◌}
-use Rattle.book.specs.BinderLaws.{binder_on, binder_hit, binder_end}
+use Rattle.book.proofs.BinderLaws.{binder_on, binder_hit, binder_end}
 use Rattle.book.specs.Index.{book_in, own_number, sought_number}
-use Rattle.book.specs.ReadingLaws.{nonterminals_length}
+use Rattle.book.proofs.ReadingLaws.{nonterminals_length}
 use Rattle.book.proofs.binders.has_binder.Goals as goal
 
 pub loop-n-init : goal.loop-n-init

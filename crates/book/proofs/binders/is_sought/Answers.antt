@@ -1,5 +1,5 @@
 -- `book::is_sought` meets its contract: each way out is one law of BinderLaws.
-use Rattle.book.specs.BinderLaws.{sought_other, sought_any, sought_variant, sought_step}
+use Rattle.book.proofs.BinderLaws.{sought_other, sought_any, sought_variant, sought_step}
 use Rattle.book.proofs.binders.is_sought.Goals as goal
 
 pub returns-then-not-is_binder : goal.returns-then-not-is_binder

@@ -1,6 +1,6 @@
 -- `book::all_pass` meets its contract. The invariant: the variants from j on decide.
 use Rattle.std.proofs.Common.{arith, refl, sym, ◌∙◌}
-use Rattle.book.specs.EndLaws.{pass_on, pass_stop, pass_end}
+use Rattle.book.proofs.EndLaws.{pass_on, pass_stop, pass_end}
 use Rattle.book.proofs.checking.all_pass.Goals as goal
 
 pub loop-j-init : goal.loop-j-init

@@ -1,7 +1,7 @@
 -- `book::all_pass` meets its contract. The invariant: the variants from j on decide.
 use Rattle.std.proofs.Common.{◌-◌, ◌≡◌}
 use Rattle.book.specs.Check.{all_pass}
-use Rattle.book.specs.EndLaws.{pass_from}
+use Rattle.book.proofs.EndLaws.{pass_from}
 use Rattle.book.specs.Index.{book_in, placed_in}
 use Rattle.book.proofs.checking.all_pass.Given as goal
 

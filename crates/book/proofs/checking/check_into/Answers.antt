@@ -1,6 +1,6 @@
 -- `book::check_into` meets its contract.
 use Rattle.std.proofs.Common.{arith}
-use Rattle.book.specs.EndLaws.{into_short, into_long}
+use Rattle.book.proofs.EndLaws.{into_short, into_long}
 use Rattle.book.proofs.checking.check_into.Goals as goal
 
 pub returns-then-index-lt-INDEX_SIZE : goal.returns-then-index-lt-INDEX_SIZE

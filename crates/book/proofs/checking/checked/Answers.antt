@@ -1,6 +1,6 @@
 -- `book::checked` meets its contract: each way out is one law of EndLaws.
 use Rattle.std.proofs.Common.{ap, arith, ◌∙◌}
-use Rattle.book.specs.EndLaws.{checks_sections, checks_passing, checks_over, checks_accepted}
+use Rattle.book.proofs.EndLaws.{checks_sections, checks_passing, checks_over, checks_accepted}
 use Rattle.book.specs.Index.{verdict_of}
 use Rattle.book.proofs.checking.checked.Goals as goal
 

@@ -1,6 +1,6 @@
 -- `book::five_sections` meets its contract: each way out is one law of WholeLaws.
 use Rattle.std.proofs.Common.{arith, rules}
-use Rattle.book.specs.WholeLaws.{few_read, sections_heads, sections_variants, sections_all}
+use Rattle.book.proofs.WholeLaws.{few_read, sections_heads, sections_variants, sections_all}
 use Rattle.book.proofs.checking.five_sections.Goals as goal
 
 pub returns-in_default : goal.returns-in_default

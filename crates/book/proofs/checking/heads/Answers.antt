@@ -1,5 +1,5 @@
 -- `book::heads` meets its contract: each way out is one law of WholeLaws.
-use Rattle.book.specs.WholeLaws.{heads_words, heads_names, heads_all}
+use Rattle.book.proofs.WholeLaws.{heads_words, heads_names, heads_all}
 use Rattle.book.proofs.checking.heads.Goals as goal
 
 pub returns-in_default : goal.returns-in_default

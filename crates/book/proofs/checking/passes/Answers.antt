@@ -1,5 +1,5 @@
 -- `book::passes` meets its contract.
-use Rattle.book.specs.EndLaws.{passes_plain, passes_not_one, passes_one}
+use Rattle.book.proofs.EndLaws.{passes_plain, passes_not_one, passes_one}
 use Rattle.book.specs.Index.{book_in}
 use Rattle.book.proofs.checking.passes.Goals as goal
 

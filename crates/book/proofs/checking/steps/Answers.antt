@@ -1,6 +1,6 @@
 -- `book::steps` meets its contract: the range asked of the count says the same as the test of `check_book`.
 use Rattle.std.proofs.Common.{arith, eqb}
-use Rattle.book.specs.WholeLaws.{retest, steps_fit, too_many_steps}
+use Rattle.book.proofs.WholeLaws.{retest, steps_fit, too_many_steps}
 use Rattle.characters.specs.Classes.{between}
 use Rattle.book.proofs.checking.steps.Goals as goal
 

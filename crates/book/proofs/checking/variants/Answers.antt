@@ -1,7 +1,7 @@
 -- `book::variants` meets its contract: the range asked of the count says the same as the test of `check_book`.
 use Rattle.std.proofs.Common.{arith, get_or}
 use Rattle.book.specs.Check.{variants_fit}
-use Rattle.book.specs.WholeLaws.{retest, variants_fit_lem, too_many_variants}
+use Rattle.book.proofs.WholeLaws.{retest, variants_fit_lem, too_many_variants}
 use Rattle.book.specs.declared.sections.Sort.{Sort}
 use Rattle.characters.specs.Classes.{between}
 use Rattle.book.proofs.checking.variants.Goals as goal

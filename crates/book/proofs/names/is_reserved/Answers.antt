@@ -1,7 +1,7 @@
 -- `book::is_reserved` meets its contract. The invariant: the words from i on decide.
 use Rattle.std.proofs.Common.{arith, refl, sym, ◌∙◌}
 use Rattle.book.specs.Index.{book_in}
-use Rattle.book.specs.ReadingLaws.{reserved_hit, reserved_on, reserved_end, words_length}
+use Rattle.book.proofs.ReadingLaws.{reserved_hit, reserved_on, reserved_end, words_length}
 use Rattle.book.proofs.names.is_reserved.Goals as goal
 
 pub loop-i-init : goal.loop-i-init

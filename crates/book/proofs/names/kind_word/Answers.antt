@@ -1,7 +1,7 @@
 -- `book::kind_word` meets its contract. The invariant: the words from the kind on decide.
 use Rattle.std.proofs.Common.{arith, refl, sym, ◌∙◌}
 use Rattle.book.specs.Index.{book_in}
-use Rattle.book.specs.ReadingLaws.{kind_on, kind_hit, kind_end}
+use Rattle.book.proofs.ReadingLaws.{kind_on, kind_hit, kind_end}
 use Rattle.book.proofs.names.kind_word.Goals as goal
 
 pub loop-kind-init : goal.loop-kind-init

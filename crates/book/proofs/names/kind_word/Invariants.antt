@@ -2,7 +2,7 @@
 use Rattle.std.proofs.Common.{◌-◌, ◌≡◌}
 use Rattle.book.specs.Book.{kind_word}
 use Rattle.book.specs.Index.{book_in}
-use Rattle.book.specs.ReadingLaws.{kind_from}
+use Rattle.book.proofs.ReadingLaws.{kind_from}
 use Rattle.book.proofs.names.kind_word.Given as goal
 
 abbrev pub invariant-loop-kind : goal.invariant-loop-kind

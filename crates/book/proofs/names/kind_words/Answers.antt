@@ -1,6 +1,6 @@
 -- `book::kind_words` meets its contract.
 use Rattle.std.proofs.Common.{arith}
-use Rattle.book.specs.ReadingLaws.{kind_words}
+use Rattle.book.proofs.ReadingLaws.{kind_words}
 use Rattle.book.proofs.names.kind_words.Goals as goal
 
 pub returns-then-words-lt-KINDS : goal.returns-then-words-lt-KINDS

@@ -1,7 +1,7 @@
 -- `book::label` meets its contract.
 use Rattle.std.proofs.Common.{add-zero, ap, sym, ◌∙◌}
 use Rattle.book.specs.Book.{Entry}
-use Rattle.book.specs.ReadingLaws.{entry_in, entry_out}
+use Rattle.book.proofs.ReadingLaws.{entry_in, entry_out}
 use Rattle.book.proofs.names.label.Goals as goal
 
 pub returns-then-i-count : goal.returns-then-i-count

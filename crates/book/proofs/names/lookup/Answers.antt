@@ -1,7 +1,7 @@
 -- `book::lookup` meets its contract. The invariant: the names below i decide.
 use Rattle.std.proofs.Common.{ap, arith, sym, ◌∙◌}
 use Rattle.book.specs.Index.{book_in}
-use Rattle.book.specs.ReadingLaws.{lookup_below, lookup_all, lookup_none, lookup_hit, lookup_on}
+use Rattle.book.proofs.ReadingLaws.{lookup_below, lookup_all, lookup_none, lookup_hit, lookup_on}
 use Rattle.book.proofs.names.lookup.Goals as goal
 
 pub loop-i-init : goal.loop-i-init

@@ -2,7 +2,7 @@
 use Rattle.std.proofs.Common.{◌≡◌, ◌≤◌}
 use Rattle.book.specs.Book.{lookup_name}
 use Rattle.book.specs.Index.{book_in, count_in}
-use Rattle.book.specs.ReadingLaws.{lookup_below}
+use Rattle.book.proofs.ReadingLaws.{lookup_below}
 use Rattle.book.proofs.names.lookup.Given as goal
 
 abbrev pub invariant-loop-i : goal.invariant-loop-i

@@ -1,7 +1,7 @@
 -- `book::spelling` (of names) meets its contract.
 use Rattle.std.proofs.Common.{ap, sym, ◌∙◌}
 use Rattle.book.specs.Book.{Entry}
-use Rattle.book.specs.ReadingLaws.{entry_in, entry_out}
+use Rattle.book.proofs.ReadingLaws.{entry_in, entry_out}
 use Rattle.book.proofs.names.spelling.Goals as goal
 
 pub returns-then-i-count : goal.returns-then-i-count

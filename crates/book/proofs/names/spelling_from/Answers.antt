@@ -1,6 +1,6 @@
 -- `book::spelling_from` meets its contract: beyond the book's end the part is empty.
 use Rattle.std.proofs.Common.{arith, get_or, sym, ◌+◌, ◌∙◌}
-use Rattle.characters.specs.SpellingLaws.{part_out}
+use Rattle.characters.proofs.SpellingLaws.{part_out}
 use Rattle.book.proofs.names.spelling_from.Goals as goal
 
 pub returns-then-at-book : goal.returns-then-at-book

@@ -1,5 +1,5 @@
 -- `book::field` meets its contract.
-use Rattle.book.specs.ReaderLaws.{checked_short, field_low, field_high, field_read}
+use Rattle.book.proofs.ReaderLaws.{checked_short, field_low, field_high, field_read}
 use Rattle.book.proofs.parts.field.Goals as goal
 
 pub returns-then-book-place : goal.returns-then-book-place

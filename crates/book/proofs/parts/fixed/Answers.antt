@@ -1,5 +1,5 @@
 -- `book::fixed` meets its contract.
-use Rattle.book.specs.ReaderLaws.{fixed_range}
+use Rattle.book.proofs.ReaderLaws.{fixed_range}
 use Rattle.book.proofs.parts.fixed.Goals as goal
 
 pub returns : goal.returns

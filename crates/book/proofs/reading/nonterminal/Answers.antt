@@ -1,5 +1,5 @@
 -- `book::nonterminal` (of reading) meets its contract.
-use Rattle.book.specs.ReadingLaws.{nonterminal_in, nonterminal_out}
+use Rattle.book.proofs.ReadingLaws.{nonterminal_in, nonterminal_out}
 use Rattle.book.proofs.reading.nonterminal.Goals as goal
 
 pub returns-then-i-count : goal.returns-then-i-count

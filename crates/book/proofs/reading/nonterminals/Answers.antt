@@ -1,6 +1,6 @@
 -- `book::nonterminals` meets its contract.
 use Rattle.std.proofs.Common.{sym, ◌∙◌}
-use Rattle.book.specs.ReadingLaws.{nonterminals_length}
+use Rattle.book.proofs.ReadingLaws.{nonterminals_length}
 use Rattle.book.proofs.reading.nonterminals.Goals as goal
 
 pub returns : goal.returns

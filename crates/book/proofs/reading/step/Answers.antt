@@ -1,5 +1,5 @@
 -- `book::step` (of reading) meets its contract.
-use Rattle.book.specs.ReadingLaws.{step_in, step_out}
+use Rattle.book.proofs.ReadingLaws.{step_in, step_out}
 use Rattle.book.proofs.reading.step.Goals as goal
 
 pub returns-then-k-count : goal.returns-then-k-count

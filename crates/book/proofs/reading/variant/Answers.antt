@@ -1,5 +1,5 @@
 -- `book::variant` (of reading) meets its contract.
-use Rattle.book.specs.ReadingLaws.{variant_in_lem, variant_out}
+use Rattle.book.proofs.ReadingLaws.{variant_in_lem, variant_out}
 use Rattle.book.proofs.reading.variant.Goals as goal
 
 pub returns-then-j-count : goal.returns-then-j-count

@@ -1,7 +1,7 @@
 -- `book::arguments` meets its contract, kind by kind; a number that is none of the fourteen is above 13.
 use Rattle.std.proofs.Common.{arith}
-use Rattle.book.specs.ReaderLaws.{between_over}
-use Rattle.book.specs.RecordLaws.{past}
+use Rattle.book.proofs.ReaderLaws.{between_over}
+use Rattle.book.proofs.RecordLaws.{past}
 use Rattle.book.proofs.sections.arguments.Goals as goal
 
 pub returns-in-0 : goal.returns-in-0

@@ -1,6 +1,6 @@
 -- `book::nonterminal` (of sections) meets its contract: each way out is one law of RecordLaws.
-use Rattle.book.specs.ReaderLaws.{read, stopped}
-use Rattle.book.specs.RecordLaws.{one_refused, nonterminal_stop, nonterminal_read}
+use Rattle.book.proofs.ReaderLaws.{read, stopped}
+use Rattle.book.proofs.RecordLaws.{one_refused, nonterminal_stop, nonterminal_read}
 use Rattle.book.specs.declared.sections.Sort.{Sort}
 use Rattle.book.proofs.sections.nonterminal.Goals as goal
 

@@ -1,8 +1,8 @@
 -- `book::records` meets its contract. The invariant (`Begun` of SectionLaws): what has been read and what is read
 -- from here make all of them.
 use Rattle.std.proofs.Common.{arith, refl, ◌∙◌}
-use Rattle.book.specs.ReaderLaws.{small_of}
-use Rattle.book.specs.SectionLaws.{begun_first, begun_on, begun_stop, begun_last, stored_by}
+use Rattle.book.proofs.ReaderLaws.{small_of}
+use Rattle.book.proofs.SectionLaws.{begun_first, begun_on, begun_stop, begun_last, stored_by}
 use Rattle.book.proofs.sections.records.Goals as goal
 
 pub loop-i-init : goal.loop-i-init

@@ -1,7 +1,7 @@
 -- `book::records` meets its contract. The invariant (`Begun` of SectionLaws): what has been read and what is read
 -- from here make all of them.
 use Rattle.std.proofs.Common.{length, ◌*◌, ◌-◌, ◌≡◌, ◌≤◌}
-use Rattle.book.specs.SectionLaws.{Begun}
+use Rattle.book.proofs.SectionLaws.{Begun}
 use Rattle.book.proofs.sections.records.Given as goal
 
 abbrev pub invariant-loop-i : goal.invariant-loop-i

@@ -1,7 +1,7 @@
 -- `book::section` meets its contract.
 use Rattle.std.proofs.Common.{arith}
-use Rattle.book.specs.ReaderLaws.{read, stopped}
-use Rattle.book.specs.SectionLaws.{section_stop, section_read, count_fits, put_behind, before_stays}
+use Rattle.book.proofs.ReaderLaws.{read, stopped}
+use Rattle.book.proofs.SectionLaws.{section_stop, section_read, count_fits, put_behind, before_stays}
 use Rattle.book.proofs.sections.section.Goals as goal
 
 pub returns-in_default : goal.returns-in_default

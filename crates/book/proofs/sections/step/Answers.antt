@@ -1,8 +1,8 @@
 -- `book::step` (of sections) meets its contract: each way out is one law of RecordLaws.
 use Rattle.std.proofs.Common.{refl, sym, ◌∙◌}
-use Rattle.book.specs.ReaderLaws.{read, stopped}
-use Rattle.book.specs.RecordLaws.{one_refused, step_stop_kind, step_unknown, step_stop_a, step_stop_b}
-use Rattle.book.specs.RecordLaws.{step_stop_c, step_read, allowed_known, allowed_refused}
+use Rattle.book.proofs.ReaderLaws.{read, stopped}
+use Rattle.book.proofs.RecordLaws.{one_refused, step_stop_kind, step_unknown, step_stop_a, step_stop_b}
+use Rattle.book.proofs.RecordLaws.{step_stop_c, step_read, allowed_known, allowed_refused}
 use Rattle.book.specs.declared.sections.Sort.{Sort}
 use Rattle.book.proofs.sections.step.Goals as goal
 

@@ -1,7 +1,7 @@
 -- `book::variant` (of sections) meets its contract: each way out is one law of RecordLaws.
-use Rattle.book.specs.ReaderLaws.{read, stopped}
-use Rattle.book.specs.RecordLaws.{one_refused, variant_stop_level, variant_stop_associativity, variant_stop_flags}
-use Rattle.book.specs.RecordLaws.{variant_read}
+use Rattle.book.proofs.ReaderLaws.{read, stopped}
+use Rattle.book.proofs.RecordLaws.{one_refused, variant_stop_level, variant_stop_associativity, variant_stop_flags}
+use Rattle.book.proofs.RecordLaws.{variant_read}
 use Rattle.book.specs.declared.sections.Sort.{Sort}
 use Rattle.book.proofs.sections.variant.Goals as goal
 

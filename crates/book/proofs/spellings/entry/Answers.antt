@@ -1,7 +1,7 @@
 -- `book::entry` meets its contract.
-use Rattle.book.specs.EntryLaws.{entry_stop, entry_read}
-use Rattle.book.specs.ReaderLaws.{read, stopped}
-use Rattle.book.specs.RecordLaws.{one_refused}
+use Rattle.book.proofs.EntryLaws.{entry_stop, entry_read}
+use Rattle.book.proofs.ReaderLaws.{read, stopped}
+use Rattle.book.proofs.RecordLaws.{one_refused}
 use Rattle.book.specs.declared.sections.Sort.{Sort}
 use Rattle.book.proofs.spellings.entry.Goals as goal
 

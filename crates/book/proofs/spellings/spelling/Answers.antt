@@ -1,6 +1,6 @@
 -- `book::spelling` (of spellings) meets its contract.
-use Rattle.book.specs.EntryLaws.{spelling_stop, spelling_read}
-use Rattle.book.specs.ReaderLaws.{read, stopped, handed, no_value}
+use Rattle.book.proofs.EntryLaws.{spelling_stop, spelling_read}
+use Rattle.book.proofs.ReaderLaws.{read, stopped, handed, no_value}
 use Rattle.book.proofs.spellings.spelling.Goals as goal
 
 pub returns-in_default : goal.returns-in_default

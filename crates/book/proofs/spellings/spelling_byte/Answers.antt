@@ -1,6 +1,6 @@
 -- `book::spelling_byte` meets its contract.
 use Rattle.std.proofs.Common.{arith, sym, ◌∙◌}
-use Rattle.book.specs.ReaderLaws.{checked_short, checked_bad, checked_good}
+use Rattle.book.proofs.ReaderLaws.{checked_short, checked_bad, checked_good}
 use Rattle.book.proofs.spellings.spelling_byte.Goals as goal
 
 pub returns-then-book-place : goal.returns-then-book-place

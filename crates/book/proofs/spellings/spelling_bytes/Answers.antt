@@ -1,8 +1,8 @@
 -- `book::spelling_bytes` meets its contract. The invariant (`Begun` of EntryLaws): the bytes read and those from here
 -- make the whole spelling.
 use Rattle.std.proofs.Common.{arith, refl, rules}
-use Rattle.book.specs.EntryLaws.{begun_first, begun_on, begun_stop, begun_last}
-use Rattle.book.specs.ReaderLaws.{read, stopped, handed, no_value}
+use Rattle.book.proofs.EntryLaws.{begun_first, begun_on, begun_stop, begun_last}
+use Rattle.book.proofs.ReaderLaws.{read, stopped, handed, no_value}
 use Rattle.book.proofs.spellings.spelling_bytes.Goals as goal
 
 pub loop-i-init : goal.loop-i-init

@@ -1,7 +1,7 @@
 -- `book::spelling_bytes` meets its contract. The invariant (`Begun` of EntryLaws): the bytes read and those from here
 -- make the whole spelling.
 use Rattle.std.proofs.Common.{◌-◌, ◌≤◌}
-use Rattle.book.specs.EntryLaws.{Begun}
+use Rattle.book.proofs.EntryLaws.{Begun}
 use Rattle.book.proofs.spellings.spelling_bytes.Given as goal
 
 abbrev pub invariant-loop-i : goal.invariant-loop-i

@@ -13,6 +13,7 @@ returns-then-cell-eq-NAME_FORM c = (
 pub returns : goal.returns
 returns c = (
   c.mix-3.ensures.0
-      ∙ rw (c.mix-2.ensures.0, c.mix.ensures.0) (sym (hash_other c.args.text.now c.args.cell c.if-cell-eq-NAME_FORM.false)),
+      ∙ rw (c.mix-2.ensures.0, c.mix.ensures.0)
+      (sym (hash_other c.args.text.now c.args.cell c.if-cell-eq-NAME_FORM.false)),
   c.mix-3.ensures.1,
 )

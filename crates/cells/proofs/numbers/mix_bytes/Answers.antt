@@ -8,7 +8,10 @@ pub loop-i-init : goal.loop-i-init
 loop-i-init c = (c.requires, refl)
 
 pub loop-i-preserved : goal.loop-i-preserved
-loop-i-preserved c = (c.mix-hash.ensures.1, rw c.mix-hash.ensures.0 (sym (hash_on _ _ _ c.loop-i-test.true) ∙ c.loop-i.invariant.1))
+loop-i-preserved c = (
+  c.mix-hash.ensures.1,
+  rw c.mix-hash.ensures.0 (sym (hash_on _ _ _ c.loop-i-test.true) ∙ c.loop-i.invariant.1),
+)
 
 pub returns : goal.returns
 returns c = (sym (hash_end _ _ _ c.loop-i-test.false) ∙ c.loop-i.invariant.1, c.loop-i.invariant.0)

@@ -7,7 +7,8 @@ pub returns-then-c-d : goal.returns-then-c-d
 returns-then-c-d c = sym (same_forms _ c.args.c c.args.d c.if-c-d.true)
 
 pub returns-then-c-eq-NAME_FORM : goal.returns-then-c-eq-NAME_FORM
-returns-then-c-eq-NAME_FORM c = c.same_spelling.ensures ∙ sym (same_names _ c.args.c c.args.d c.if-c-d.false c.if-c-eq-NAME_FORM.true)
+returns-then-c-eq-NAME_FORM c =
+    c.same_spelling.ensures ∙ sym (same_names _ c.args.c c.args.d c.if-c-d.false c.if-c-eq-NAME_FORM.true)
 
 pub returns-then-c-d-2 : goal.returns-then-c-d-2
 returns-then-c-d-2 c = sym (same_a _ c.args.c c.args.d c.if-c-d.false c.if-c-eq-NAME_FORM.false c.if-c-d-2.true)

@@ -1,16 +1,10 @@
 -- `cells::clear` meets its contract. The invariant (`Clearing` of ClearingLaws): the heads passed are 0.
 use Rattle.std.proofs.Common.{arith, length-set, refl}
-use Rattle.cells.specs.ClearingLaws.{clearing_first, clearing_on, clearing_last, too_short}
+use Rattle.cells.specs.ClearingLaws.{clearing_first, clearing_on, clearing_last}
 use Rattle.cells.proofs.store.clear.Goals as goal
-
-pub returns-then-store-lt-STORE_SIZE : goal.returns-then-store-lt-STORE_SIZE
-returns-then-store-lt-STORE_SIZE c = too_short _ c.if-store-lt-STORE_SIZE.true
 
 pub loop-i-init : goal.loop-i-init
 loop-i-init c = (refl, clearing_first _)
-
-pub bounds-store-i : goal.bounds-store-i
-bounds-store-i c = omega (arith, c.loop-i-test.true, c.loop-i.invariant.0, c.if-store-lt-STORE_SIZE.false)
 
 pub loop-i-preserved : goal.loop-i-preserved
 loop-i-preserved c = (

@@ -5,7 +5,8 @@ use Rattle.cells.specs.Store.{find_in}
 use Rattle.cells.proofs.store.find.Given as goal
 
 abbrev pub invariant-loop-left : goal.invariant-loop-left
-invariant-loop-left l = (l.n < 4294967296) × (find_in l.text l.store l.c l.left l.n ≡ find_in l.text l.store l.c l.count l.first)
+invariant-loop-left l = (l.n < 4294967296)
+    × (find_in l.text l.store l.c l.left l.n ≡ find_in l.text l.store l.c l.count l.first)
 
 abbrev pub decreases-loop-left : goal.decreases-loop-left
 decreases-loop-left l = l.left

@@ -16,5 +16,6 @@ pub returns-in-3 : goal.returns-in-3
 returns-in-3 c = class_told c.in-3.is c.number_in-number.ensures
 
 pub returns-in_default : goal.returns-in_default
-returns-in_default c = sym (class_at_rest _ c.in_default.in_default-own.rest.0.0.0.1 c.in_default.in_default-own.rest.0.0.1 c.in_default.in_default-own.rest.0.1 c.in_default.in_default-own.rest.1)
+returns-in_default c = sym (class_at_rest _ c.in_default.in_default-own.rest.0.0.0.1
+    c.in_default.in_default-own.rest.0.0.1 c.in_default.in_default-own.rest.0.1 c.in_default.in_default-own.rest.1)
     ∙ class_told refl c.number_in-number.ensures

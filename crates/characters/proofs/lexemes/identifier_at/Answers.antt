@@ -1,6 +1,6 @@
 -- `characters::identifier_at` meets its contract: past the end no letter stands.
 use Rattle.std.proofs.Common.{ap, sym, ◌∙◌}
-use Rattle.characters.specs.LexemeLaws.{identifier_letter, identifier_none, identifier_out}
+use Rattle.characters.proofs.LexemeLaws.{identifier_letter, identifier_none, identifier_out}
 use Rattle.characters.specs.declared.lexemes.Identifier.{Identifier}
 use Rattle.characters.proofs.lexemes.identifier_at.Goals as goal
 

@@ -1,7 +1,7 @@
 -- `characters::number_of` meets its contract. The invariant: the digits left, read after `value`, spell the whole
 -- number.
 use Rattle.std.proofs.Common.{arith, get_or, refl, rules, sym, ◌*◌, ◌+◌, ◌-◌, ◌<◌, ◌∙◌}
-use Rattle.characters.specs.LexemeLaws.{decimal_large, decimal_on, decimal_end, number_fits, number_large}
+use Rattle.characters.proofs.LexemeLaws.{decimal_large, decimal_on, decimal_end, number_fits, number_large}
 use Rattle.characters.specs.Lexemes.{largest}
 use Rattle.characters.proofs.lexemes.number_of.Goals as goal
 
@@ -24,7 +24,12 @@ pub overflow_mul-value : goal.overflow_mul-value
 overflow_mul-value c = omega (arith, c.if-digit-value.false)
 
 pub overflow_add-value : goal.overflow_add-value
-overflow_add-value c = omega (arith, c.if-digit-value.false, c.digit_value-digit.ensures, c.shared_slice_known-in-loop-i-1.given c.loop-i.i)
+overflow_add-value c = omega (
+  arith,
+  c.if-digit-value.false,
+  c.digit_value-digit.ensures,
+  c.shared_slice_known-in-loop-i-1.given c.loop-i.i,
+)
 
 pub loop-i-preserved : goal.loop-i-preserved
 loop-i-preserved c = let loop = c.loop-i in

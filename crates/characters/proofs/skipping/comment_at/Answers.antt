@@ -6,7 +6,11 @@ use Rattle.characters.proofs.skipping.comment_at.Goals as goal
 
 pub returns-then-byte_at-eq47 : goal.returns-then-byte_at-eq47
 unfolding comment_at
-returns-then-byte_at-eq47 c = rw (c.byte_at-then-byte_at-eq47.ensures, eq-eqb _ 47 (sym c.byte_at.ensures ∙ c.if-byte_at-eq47.true))
+returns-then-byte_at-eq47 c = rw (
+  c.byte_at-then-byte_at-eq47.ensures,
+  eq-eqb _ 47
+      (sym c.byte_at.ensures ∙ c.if-byte_at-eq47.true),
+)
 
 pub returns-else-byte_at-eq47 : goal.returns-else-byte_at-eq47
 unfolding comment_at

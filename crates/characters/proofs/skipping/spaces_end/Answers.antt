@@ -1,6 +1,6 @@
 -- `characters::spaces_end` meets its contract.
 use Rattle.std.proofs.Common.{sym}
-use Rattle.characters.specs.SkippingLaws.{spaces_none}
+use Rattle.characters.proofs.SkippingLaws.{spaces_none}
 use Rattle.characters.proofs.skipping.spaces_end.Goals as goal
 
 pub returns-then-byte_at-gt32 : goal.returns-then-byte_at-gt32

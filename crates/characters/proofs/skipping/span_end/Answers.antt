@@ -1,7 +1,7 @@
 -- `characters::span_end` meets its contract. The invariant: the slice is the table, and the span from here ends where
 -- the span from `place` does.
 use Rattle.std.proofs.Common.{refl, sym, ◌∙◌}
-use Rattle.characters.specs.SkippingLaws.{span_on, span_stop, span_out}
+use Rattle.characters.proofs.SkippingLaws.{span_on, span_stop, span_out}
 use Rattle.characters.proofs.skipping.span_end.Goals as goal
 
 pub loop-at-init : goal.loop-at-init

@@ -1,6 +1,6 @@
 -- `characters::part` meets its contract.
 use Rattle.std.proofs.Common.{arith, sym}
-use Rattle.characters.specs.SpellingLaws.{part_out, part_inside, part_rest}
+use Rattle.characters.proofs.SpellingLaws.{part_out, part_inside, part_rest}
 use Rattle.characters.proofs.spelling.part.Goals as goal
 
 pub returns-then-bytes-start : goal.returns-then-bytes-start

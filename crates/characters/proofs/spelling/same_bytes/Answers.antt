@@ -1,6 +1,6 @@
 -- `characters::same_bytes` meets its contract. The invariant: what is left of both is equal just if the whole is.
 use Rattle.std.proofs.Common.{refl, rules, sym, ◌∙◌}
-use Rattle.characters.specs.SpellingLaws.{same_lengths, same_on, same_differ, same_end}
+use Rattle.characters.proofs.SpellingLaws.{same_lengths, same_on, same_differ, same_end}
 use Rattle.characters.proofs.spelling.same_bytes.Goals as goal
 
 pub returns-then-a-b : goal.returns-then-a-b

@@ -43,19 +43,26 @@ pub loop-left-smaller : goal.loop-left-smaller
 loop-left-smaller c = omega arith
 
 pub loop-left-preserved : goal.loop-left-preserved
-loop-left-preserved c = let more : suc (length c.args.numbers.now / 3 - c.loop-left.left) ≡ length c.args.numbers.now / 3 - (c.loop-left.left - 1) = omega arith in (
-  omega arith,
-  omega arith,
-  omega arith,
-  subst (λ (n : ℕ). Furthest (errors_in c.args.numbers.now n) (error_of c.join-found.result)) more
-      (next_joined c.args.numbers.now (length c.args.numbers.now / 3 - c.loop-left.left) c.loop-left.found c.error_at.result c.join-found.result
-      c.loop-left.invariant.3 (c.error_at.ensures ∙ ap (error_at c.args.numbers.now) c.loop-left.invariant.2) c.join-found.ensures),
-)
+loop-left-preserved c =
+    let numbers = c.args.numbers.now in
+    let left = c.loop-left.left in
+    let more : suc (length numbers / 3 - left) ≡ length numbers / 3 - (left - 1) = omega arith in (
+      omega arith,
+      omega arith,
+      omega arith,
+      subst (λ (n : ℕ). Furthest (errors_in numbers n) (error_of c.join-found.result)) more
+          (next_joined numbers (length numbers / 3 - left) c.loop-left.found c.error_at.result
+          c.join-found.result c.loop-left.invariant.3
+          (c.error_at.ensures ∙ ap (error_at numbers) c.loop-left.invariant.2) c.join-found.ensures),
+    )
 
 pub returns : goal.returns
-returns c = let all : length c.args.numbers.now / 3 - c.loop-left.left ≡ length c.args.numbers.now / 3 = omega arith in
+returns c =
+    let numbers = c.args.numbers.now in
+    let all : length numbers / 3 - c.loop-left.left ≡ length numbers / 3 = omega arith in
     record {
-      count = length c.args.numbers.now / 3;
+      count = length numbers / 3;
       entire = c.loop-left.invariant.0;
-      furthest = subst (λ (n : ℕ). Furthest (errors_in c.args.numbers.now n) (error_of c.loop-left.found)) all c.loop-left.invariant.3;
+      furthest = subst (λ (n : ℕ). Furthest (errors_in numbers n) (error_of c.loop-left.found)) all
+          c.loop-left.invariant.3;
     }

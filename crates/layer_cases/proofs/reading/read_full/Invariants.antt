@@ -1,5 +1,5 @@
 -- `layer_cases::read_full` ends: each turn leaves fewer bytes to be filled, which keep their number.
-use Rattle.std.proofs.Common.{length, ◌-◌, ◌≡◌, ◌≤◌}
+use Rattle.std.proofs.Common.{length, ◌-◌, ◌≤◌}
 use Rattle.layer_cases.proofs.reading.read_full.Given as goal
 
 abbrev pub invariant-loop-done : goal.invariant-loop-done

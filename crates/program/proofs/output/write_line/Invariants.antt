@@ -1,5 +1,5 @@
 -- `program::write_line` ends: each turn is one byte further at least, and no place is past the largest number.
-use Rattle.std.proofs.Common.{◌≡◌, ◌-◌, ◌≤◌, length}
+use Rattle.std.proofs.Common.{◌-◌, ◌≤◌}
 use Rattle.program.proofs.output.write_line.Given as goal
 
 abbrev pub invariant-loop-answer : goal.invariant-loop-answer

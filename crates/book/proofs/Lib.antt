@@ -1,0 +1,9 @@
+pub mod ReaderLaws
+pub mod RecordLaws
+pub mod EntryLaws
+pub mod SectionLaws
+pub mod ReadingLaws
+pub mod BinderLaws
+pub mod WholeLaws
+pub mod EndLaws
+pub mod BoundLaws

@@ -1,0 +1,3 @@
+pub mod SkippingLaws
+pub mod LexemeLaws
+pub mod SpellingLaws

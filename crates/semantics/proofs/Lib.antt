@@ -1,0 +1,9 @@
+pub mod RoundLaws
+pub mod ErrorLaws
+pub mod FurthestLaws
+pub mod ExampleBook
+pub mod ReservedNameLaws
+pub mod ReservedNameExample
+pub mod DeclaredNameExample
+pub mod ExtensionExample
+pub mod Theorem
