@@ -1,5 +1,5 @@
--- Laws for the search for a declared name that say which name is found, by its index in its binder (`name_in` of Names).
--- The others are in NamesLaws of specs/.
+-- Laws for the search for a declared name that say which name is found, by its index in its binder (`name_in` of
+-- Names). The others are in NamesLaws of specs/.
 --
 -- Contents:
 -- - the names of one binder, the nearest row first: looking_name

@@ -19,8 +19,9 @@ use Rattle.book.specs.Check.{associativity_of}
 use Rattle.semantics.specs.Uses.{has_mark, minimum_of}
 use Rattle.semantics.specs.Tokens.{when}
 use Rattle.run_model.specs.Rows.{Row, row, no_row, row_of, on_row, with_set, with_variant, opened, declared}
-use Rattle.run_model.specs.Rows.{use_at, inherited, is_body, begins_scope, governs, in_scope, newest_governor, RowGovernor}
-use Rattle.run_model.specs.Rows.{minimum, same_start, governor_at, governor_of, claims, any_claims, claims_use}
+use Rattle.run_model.specs.Rows.{use_at, inherited, is_body, begins_scope, governs, in_scope, newest_governor}
+use Rattle.run_model.specs.Rows.{RowGovernor, minimum, same_start, governor_at, governor_of}
+use Rattle.run_model.specs.Rows.{claims, any_claims, claims_use}
 use Rattle.calls.specs.Table.{field}
 
 -- ---- Stores to one row
@@ -218,8 +219,9 @@ module _ (T : List Row) (n b N u : ℕ) (t : Bool) (d : t ≡ is_body b) (f : t 
   unfolding governor_at
   governor_same a h f k = sym (rw (le-ltb 200 g h, eq-eqb (row_of T g).start u (sym f ∙ k))) ∙ outer
 
-  pub governor_minimum : (a p l m : ℕ) → g ≤ 200 → a ≡ (row_of T g).start → (a ≡ u → ⊥) → p ≡ (row_of T g).associativity →
-      l ≡ (row_of T g).level → m ≡ minimum_of (associativity_of p) l → minimum m ≡ governor_of T n b N u
+  pub governor_minimum : (a p l m : ℕ) → g ≤ 200 → a ≡ (row_of T g).start → (a ≡ u → ⊥) →
+      p ≡ (row_of T g).associativity → l ≡ (row_of T g).level → m ≡ minimum_of (associativity_of p) l →
+      minimum m ≡ governor_of T n b N u
   unfolding governor_at
   governor_minimum a p l m h f k eb el em =
       sym (rw (le-ltb 200 g h, ne_eqb (row_of T g).start u (λ z. k (f ∙ z)), em, eb, el)) ∙ outer

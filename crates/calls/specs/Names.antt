@@ -1,5 +1,5 @@
--- What the search for a declared name gives, call by call outwards. It is no definition of document 02: `variable_in` of
--- semantics is, on the scope that the rows give (`scope_at` of run_model's Rows).
+-- What the search for a declared name gives, call by call outwards. It is no definition of document 02: `variable_in`
+-- of semantics is, on the scope that the rows give (`scope_at` of run_model's Rows).
 use Rattle.std.specs.Prelude.{cond, List, ℕ, zero, suc, eqb}
 use Rattle.std.proofs.Math.Option.{Option, none, some}
 use Rattle.book.specs.Book.{lookup_name}
@@ -34,4 +34,5 @@ name_in depth Found.Nothing = none
 
 -- which name of the own opening of row i's call, with this binder, a spelling is
 abbrev pub own_name : List ℕ → List Row → ℕ → ℕ → ℕ → List ℕ → Option Variable
-own_name text T i binder depth spelling = name_in depth (lookup_name (names_above text T (name_count binder) i) spelling)
+own_name text T i binder depth spelling =
+    name_in depth (lookup_name (names_above text T (name_count binder) i) spelling)

@@ -34,7 +34,8 @@ stored_law T T1 T2 T3 n g h k e1 e2 e3 =
 -- ---- A parse joins the run's set, in the model
 pub run_added_model : (r : Bool) (T U : List Row) (c : ℕ) (p : Parse ℕ) → RunAdded r T U c p →
     (book : Book) (text : List ℕ) (units : ℕ) (cells : List Cell) →
-    add_run book text c p (row_state units cells T) ≡ cond r (ok (outcome none (row_state units cells U))) (met 22 units)
+    add_run book text c p (row_state units cells T)
+    ≡ cond r (ok (outcome none (row_state units cells U))) (met 22 units)
 unfolding add_run ◌>>=◌
 run_added_model true T U c p a book text units cells =
     rw (a.now _, ◌>>=◌) (ap (λ t. ok (outcome none (row_state units cells t))) (sym a.only))
@@ -79,8 +80,8 @@ module _ (T T1 : List Row) (c k : ℕ) (l : c < length T) (e1 : T1 ≡ on_row T 
             (ap (λ t. again (row_state units cells t)) (sym e1));
       }
 
-  pub first_over : (U : List Row) (a : ℕ) → (k ≡ 0 → ⊥) → a ≡ (row_of T1 c).asked → (a ≡ 1 → ⊥) → U ≡ on_row T1 c ended →
-      SettledFirst Settled.Over T U c
+  pub first_over : (U : List Row) (a : ℕ) → (k ≡ 0 → ⊥) → a ≡ (row_of T1 c).asked → (a ≡ 1 → ⊥) →
+      U ≡ on_row T1 c ended → SettledFirst Settled.Over T U c
   unfolding settle_first
   first_over U a h ea y e =
       record {

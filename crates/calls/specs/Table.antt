@@ -8,8 +8,8 @@ use Rattle.semantics.specs.Values.{Parse}
 use Rattle.semantics.specs.Cells.{Cell}
 use Rattle.semantics.specs.Errors.{Error}
 use Rattle.semantics.specs.Run.{Result, met, ok, State, add, add_all, kept, failed_call}
-use Rattle.run_model.specs.Rows.{Row, row, row_of, on_row, use_at, ended, was_asked, with_set, with_run, RowGovernor, minimum}
-use Rattle.run_model.specs.Rows.{same_start}
+use Rattle.run_model.specs.Rows.{Row, row, row_of, on_row, use_at, ended, was_asked, with_set, with_run, RowGovernor}
+use Rattle.run_model.specs.Rows.{minimum, same_start}
 use Rattle.run_model.specs.Model.{RowState, row_state, Outcome, outcome, bare_call, settle, settle_first}
 use Rattle.sets.specs.Sets.{set_size, set_at, result}
 use Rattle.calls.specs.declared.Governor.{Governor}
@@ -40,7 +40,8 @@ rows_size = row_count * row_size
 -- ---- What a list of numbers says: every list gives a table
 unfoldable pub row_at : List ℕ → ℕ → Row
 row_at numbers place =
-    row (get_or numbers place 0) (get_or numbers (place + 1) 0) (get_or numbers (place + 2) 0) (get_or numbers (place + 3) 0)
+    row (get_or numbers place 0) (get_or numbers (place + 1) 0) (get_or numbers (place + 2) 0)
+    (get_or numbers (place + 3) 0)
     (get_or numbers (place + 4) 0) (get_or numbers (place + 5) 0) (get_or numbers (place + 6) 0)
     (get_or numbers (place + 7) 0) (get_or numbers (place + 8) 0) (get_or numbers (place + 9) 0)
     (get_or numbers (place + 10) 0)
@@ -121,8 +122,8 @@ governor_in (Governor.Minimum m) = minimum m
 governor_in (Governor.SameStart g) = same_start g
 
 -- ---- Stored parses
--- what a row found are the parses that its governor's call has stored, filtered; the governor is asked (`with_stored` of
--- the model)
+-- what a row found are the parses that its governor's call has stored, filtered; the governor is asked (`with_stored`
+-- of the model)
 abbrev pub with_stored_in : List Row → ℕ → ℕ → List Row
 with_stored_in rows row governor =
     let stored = row_of rows governor in

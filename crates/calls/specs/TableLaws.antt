@@ -7,7 +7,8 @@
 -- - the same on the table: table_field, table_get, row_past, table_past, get_past, read_set, read_run, table_set,
 --   table_run
 -- - sets that grow: run_added, run_joined, kept_law, set_one
-use Rattle.std.specs.Prelude.{◌≡◌, refl, Bool, true, false, cond, List, [], ◌∷◌, ◌⊎◌, ℕ, zero, suc, ◌+◌, ◌*◌, ◌<◌, ◌≤◌, eqb, get_or, set, length}
+use Rattle.std.specs.Prelude.{◌≡◌, refl, Bool, true, false, cond, List, [], ◌∷◌, ◌⊎◌, ℕ, zero, suc, ◌+◌, ◌*◌, ◌<◌, ◌≤◌}
+use Rattle.std.specs.Prelude.{eqb, get_or, set, length}
 use Rattle.std.proofs.Common.{sym, ap, ◌∙◌, inl, inr, add-zero, arith, get_or-set_same, get_or-set_other, eqb-true}
 use Rattle.std.proofs.lemmas.Bool.{eqb-false}
 use Rattle.book.specs.Check.{associativity_of}
@@ -105,7 +106,8 @@ at_set f b j i x h = by (eqb j i) refl
     by true e = let q = eqb-true j i (sym e) in rw (← q) (get_or-set_same f (b + j) x 0 h)
     by false e = let q = eqb-false j i (sym e) in get_or-set_other f (b + j) (b + i) x 0 (λ z. q (omega arith))
 
-pub row_field : (f : List ℕ) (b j x : ℕ) → j < 11 → b + j < length f → row_at (set f (b + j) x) b ≡ field j x (row_at f b)
+pub row_field : (f : List ℕ) (b j x : ℕ) → j < 11 → b + j < length f →
+    row_at (set f (b + j) x) b ≡ field j x (row_at f b)
 unfolding row_at
 row_field f b j x k h =
     let e0 = rw add-zero at (at_set f b j 0 x h) in
