@@ -38,6 +38,7 @@ from reader import KIT, LIBRARY, ROOT, dependencies
 
 FOLLOWS = re.compile(r"was not admitted|which was rejected")
 UNFIT = re.compile(r"is not in scope|has no field|has no `[^`]*` that can be named|unresolved|cannot find|is no name")
+PROOF = re.compile(r"^proofs/.*/(Proof|Invariants|Answers)\.antt$")  # of a function; other files of proofs/ have laws
 PARTS = ["src", "specs", "proofs"]
 AT_ONCE = min(4, len(os.sched_getaffinity(0)))
 
@@ -82,7 +83,10 @@ def unit(crate, file, line):
     """The function, constant or definition in which a line stands: the last that begins before it. A line that names
     what it uses is none."""
     lines = text_of(f"{ROOT}/crates/{crate}/{file}").split("\n")
-    if lines[line].startswith(("use ", "ghost use ", "pub use ")):
+    first = line
+    while first and file.endswith(".rt") and lines[first].startswith("    ") and not lines[first - 1].endswith(";"):
+        first -= 1
+    if lines[first].startswith(("use ", "ghost use ", "pub use ")):
         return None
     pattern = ITEM if file.endswith(".rt") else NAMED
     for i in range(line, -1, -1):
@@ -142,7 +146,7 @@ def missing(crate, units, lines):
         fit = [e for e in mine if not UNFIT.search(e.message)]
         if not fit and f not in unproved:
             yield f"`{f.name}` has no error of its own" + (", but that its proof no longer fits it" if mine else "")
-    if any(not u.file.startswith(("src/", "specs/")) for u in units):
+    if any(PROOF.search(u.file) for u in units):
         yield "it changes a proof"
     if len(others) > 1:
         yield "more than one definition or constant is changed: " + ", ".join(u.name for u in others)
