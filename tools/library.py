@@ -3,12 +3,13 @@
 
     python3 tools/library.py
 
-proves it first (`rt lib` in crates/midgebillon, some minutes), and writes target/proved. It needs the Rattle kit and gcc.
+proves it first (`rt lib` in crates/midgebillon, some minutes), and writes target/proved. It needs the Rattle kit and
+gcc.
 
     python3 tools/library.py --quick
 
-compiles the same code without its proofs (tools/reader.py), in seconds, and writes target/quick. That library says of itself that it is
-not proved: it has the symbol `midgebillon_not_proved`, and its pkg-config file says so.
+compiles the same code without its proofs (tools/reader.py), in seconds, and writes target/quick. That library says of
+itself that it is not proved: it has the symbol `midgebillon_not_proved`, and its pkg-config file says so.
 
 Either folder has include/ and lib/ as below /usr/local, and may be copied to any place: the pkg-config file,
 lib/pkgconfig/midgebillon.pc, goes by its own place.

@@ -34,7 +34,7 @@ import subprocess
 import sys
 import tempfile
 
-from reader import KIT, ROOT, dependencies
+from reader import KIT, LIBRARY, ROOT, dependencies
 
 FOLLOWS = re.compile(r"was not admitted|which was rejected")
 UNFIT = re.compile(r"is not in scope|has no field|has no `[^`]*` that can be named|unresolved|cannot find|is no name")
@@ -152,7 +152,7 @@ def missing(crate, units, lines):
             yield f"no error comes from `{others[0].name}`"
 
 
-# ---- The gate's word: that an edit is refused, perhaps in brackets that this shows little, and the first error, cut off
+# ---- The gate's word: that an edit is refused, perhaps in brackets that this shows little, and the first error
 TRIED = re.compile(r"^rt: must-fail (\w+)/(\S+)\.edit: (.*)", re.M)
 REFUSED = re.compile(r"refused, as it must be( \(.*)?(?:: )?(.*)")
 
@@ -163,6 +163,16 @@ def reported(log):
 
 
 # ---- Another check of an edited crate
+def built(name):
+    """The folder of a crate's library, whose definitions are those that stand in the crate."""
+    folder, specs = f"{ROOT}/crates/{name}/out/rlib", f"{ROOT}/crates/{name}/specs"
+    for path in glob.glob(f"{specs}/**/*.antt", recursive=True):
+        copy = f"{folder}/{name}.rlib/lang/antt/specs/{os.path.relpath(path, specs)}"
+        if os.path.basename(path) != "Lib.antt" and not (os.path.exists(copy) and text_of(copy) == text_of(path)):
+            raise Unusable(f"the library {name} is not built as it stands: rt all check builds it")
+    return folder
+
+
 def check(crate, edited, units):
     """Checks a copy of a crate with these changes, and gives the lines that it prints: of the functions that are
     changed, or of the whole crate where a definition is, or a function is not found by its name."""
@@ -173,10 +183,7 @@ def check(crate, edited, units):
         if name not in below:
             below.append(name)
             todo += [each for each in uses[name] if os.path.isdir(f"{ROOT}/crates/{each}")]
-    place = {name: f"{ROOT}/crates/{name}/out/rlib" for name in below}
-    for name in below:
-        if not os.path.isdir(place[name]):
-            raise Unusable(f"the library {name} is not built: rt ci, or rt all check, builds it")
+    place = {name: built(name) for name in below}
     with tempfile.TemporaryDirectory() as copy:
         for part in PARTS:
             if os.path.isdir(f"{ROOT}/crates/{crate}/{part}"):
@@ -196,7 +203,7 @@ def check(crate, edited, units):
         for name in below:
             words += ["-L", f"dependency={place[name]}"]
         words += ["--antt-project", f"{KIT}/rattle/logic/antt-project.json", "--logic-built", f"{KIT}/logic_built"]
-        words += ["--jobs", "1"]
+        words += ["--jobs", "1", *["--crate-type", "staticlib"] * (crate == LIBRARY)]
         only = []
         if all(u.kind == "function" for u in units):
             for u in units:

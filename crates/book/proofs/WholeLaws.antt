@@ -3,7 +3,7 @@
 --   kept-                                numbers of the index that a later section leaves
 --   follow, follow-                      what follows a part
 --   heads-                               words, names and nonterminals
---   variants_fit_lem, ..                     the tests of the counts; `retest`, a section under another test that says the
+--   variants_fit_lem, ..                 the tests of the counts; `retest`, a section under another test that says the
 --                                        same
 --   sections-                            all five
 --
