@@ -1,5 +1,3 @@
--- What the library promises, and the laws by which it does.
+-- What the library promises. The laws by which it does stand in proofs/.
 pub mod Library
-pub mod LibraryLaws
 pub mod Joining
-pub mod TwoCallLaws

@@ -13,9 +13,9 @@
 // length says, and no slice that is written overlaps another. include/midgebillon.h tells a C program so; rust/ has
 // a wrapper whose types do.
 //
-// specs/ has what the functions promise (Library, Joining) and laws: one for each way out of the first three, and that
-// with enough working memory the second promises what the first does (LibraryLaws); that what run says of two calls
-// holds of the library's (TwoCallLaws).
+// specs/ has what the functions promise (Library, Joining), and proofs/ has laws: one for each way out of the first
+// three, and that with enough working memory the second promises what the first does (LibraryLaws); that what run says
+// of two calls holds of the library's (TwoCallLaws).
 #![tactic(auto)]
 
 mod answer;

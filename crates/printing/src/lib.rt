@@ -16,9 +16,9 @@
 // cells, whatever the value's length; and its calls nest at most 4,096 deep, a cell each.
 //
 // The answer is that of `run`. The crate relies on the promises of `characters`, `book` and `cells` and on the
-// definitions of `semantics`, and assumes nothing. specs/ has the line (Printing, with worked examples in Worked), what
-// the public functions answer (Lines), bytes laid into a slice (Laying), what is printed of a cell (Cells),
-// and laws.
+// definitions of `semantics`, and assumes nothing. specs/ has the line (Printing), what the public functions
+// answer (Lines), bytes laid into a slice (Laying) and what is printed of a cell (Cells); proofs/ has laws, and worked
+// examples (Worked).
 #![tactic(auto)]
 
 mod cell;

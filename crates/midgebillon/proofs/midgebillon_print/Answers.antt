@@ -1,6 +1,6 @@
 -- `midgebillon::midgebillon_print` meets its contract.
 use Rattle.std.proofs.Common.{arith, rules}
-use Rattle.midgebillon.specs.LibraryLaws.{few_numbers, no_answer, line_printed}
+use Rattle.midgebillon.proofs.LibraryLaws.{few_numbers, no_answer, line_printed}
 use Rattle.midgebillon.proofs.midgebillon_print.Goals as goal
 
 pub returns-then-answer-lt-ANSWER_SIZE : goal.returns-then-answer-lt-ANSWER_SIZE

@@ -1,6 +1,6 @@
 -- `midgebillon::midgebillon_read` meets its contract.
 use Rattle.std.proofs.Common.{arith, refl, rules}
-use Rattle.midgebillon.specs.LibraryLaws.{untouched, answers}
+use Rattle.midgebillon.proofs.LibraryLaws.{untouched, answers}
 use Rattle.midgebillon.proofs.midgebillon_read.Goals as goal
 
 pub returns-then-answer-lt-ANSWER_SIZE : goal.returns-then-answer-lt-ANSWER_SIZE

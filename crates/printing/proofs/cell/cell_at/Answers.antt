@@ -1,6 +1,6 @@
 -- `printing::cell_at` meets its contract.
 use Rattle.std.proofs.Common.{arith, inl, inr, rules}
-use Rattle.printing.specs.CellLaws.{read_none, read_some}
+use Rattle.printing.proofs.CellLaws.{read_none, read_some}
 use Rattle.printing.proofs.cell.cell_at.Goals as goal
 
 pub returns-then-n-eq0 : goal.returns-then-n-eq0

@@ -1,7 +1,7 @@
 -- `printing::spelling` meets its contract.
 use Rattle.std.proofs.Common.{rules, sym, ◌∙◌}
 use Rattle.book.specs.Index.{book_in}
-use Rattle.printing.specs.CellLaws.{spelling_name, spelling_variable, spelling_none}
+use Rattle.printing.proofs.CellLaws.{spelling_name, spelling_variable, spelling_none}
 use Rattle.printing.proofs.cell.spelling.Goals as goal
 
 pub returns-then-cell-eq-NAME_FORM : goal.returns-then-cell-eq-NAME_FORM

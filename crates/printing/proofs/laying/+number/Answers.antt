@@ -1,7 +1,7 @@
 -- `printing::number` meets its contract. The measure is the number, of which a tenth is left for the call.
 use Rattle.std.proofs.Common.{arith, sym}
-use Rattle.printing.specs.LayingLaws.{lays_then, lays_as}
-use Rattle.printing.specs.NumberLaws.{decimal_digit, decimal_digits}
+use Rattle.printing.proofs.LayingLaws.{lays_then, lays_as}
+use Rattle.printing.proofs.NumberLaws.{decimal_digit, decimal_digits}
 use Rattle.printing.proofs.laying.+number.Goals as goal
 
 pub overflow_add-last : goal.overflow_add-last

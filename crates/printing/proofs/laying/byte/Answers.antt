@@ -1,6 +1,6 @@
 -- `printing::byte` meets its contract.
 use Rattle.std.proofs.Common.{refl}
-use Rattle.printing.specs.LayingLaws.{byte_skipped, byte_stored, byte_dropped}
+use Rattle.printing.proofs.LayingLaws.{byte_skipped, byte_stored, byte_dropped}
 use Rattle.printing.proofs.laying.byte.Goals as goal
 
 pub returns-then-at-gt0 : goal.returns-then-at-gt0

@@ -1,6 +1,6 @@
 -- `printing::bytes` meets its contract.
 use Rattle.std.proofs.Common.{add-one, rules, sym, take-suc, take_all}
-use Rattle.printing.specs.LayingLaws.{lays_none, lays_then, lays_as}
+use Rattle.printing.proofs.LayingLaws.{lays_none, lays_then, lays_as}
 use Rattle.printing.proofs.laying.bytes.Goals as goal
 
 pub loop-i-init : goal.loop-i-init

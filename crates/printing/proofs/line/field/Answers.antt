@@ -1,6 +1,6 @@
 -- `printing::field` meets its contract.
 use Rattle.std.proofs.Common.{rules}
-use Rattle.printing.specs.LayingLaws.{lays_then}
+use Rattle.printing.proofs.LayingLaws.{lays_then}
 use Rattle.printing.proofs.line.field.Goals as goal
 
 pub returns : goal.returns

@@ -1,8 +1,8 @@
 -- `printing::line` meets its contract.
 use Rattle.std.proofs.Common.{rules}
 use Rattle.book.specs.Index.{book_in}
-use Rattle.printing.specs.LayingLaws.{lays_then, lays_as}
-use Rattle.printing.specs.LineLaws.{line_refused, line_value}
+use Rattle.printing.proofs.LayingLaws.{lays_then, lays_as}
+use Rattle.printing.proofs.LineLaws.{line_refused, line_value}
 use Rattle.run.specs.Promise.{answer_in}
 use Rattle.printing.proofs.line.line.Goals as goal
 

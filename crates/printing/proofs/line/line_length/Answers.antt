@@ -3,8 +3,8 @@ use Rattle.std.proofs.Common.{arith, refl, rules}
 use Rattle.book.specs.Index.{book_in}
 use Rattle.run.specs.Promise.{answer_in}
 use Rattle.printing.specs.Printing.{line_bytes}
-use Rattle.printing.specs.LineLaws.{length_in, length_out}
-use Rattle.printing.specs.LayingLaws.{skip_is, within_limit, beyond_limit}
+use Rattle.printing.proofs.LineLaws.{length_in, length_out}
+use Rattle.printing.proofs.LayingLaws.{skip_is, within_limit, beyond_limit}
 use Rattle.printing.proofs.line.line_length.Goals as goal
 
 pub overflow_sub-result : goal.overflow_sub-result

@@ -3,7 +3,7 @@ use Rattle.std.proofs.Common.{rules}
 use Rattle.book.specs.Index.{book_in}
 use Rattle.run.specs.Promise.{answer_in}
 use Rattle.printing.specs.Printing.{line_bytes}
-use Rattle.printing.specs.LineLaws.{prints_whole, prints_nothing}
+use Rattle.printing.proofs.LineLaws.{prints_whole, prints_nothing}
 use Rattle.printing.proofs.line.print.Goals as goal
 
 pub returns-in-Bytes : goal.returns-in-Bytes

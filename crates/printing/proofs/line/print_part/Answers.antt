@@ -1,6 +1,6 @@
 -- `printing::print_part` meets its contract.
 use Rattle.std.proofs.Common.{rules}
-use Rattle.printing.specs.LayingLaws.{window}
+use Rattle.printing.proofs.LayingLaws.{window}
 use Rattle.printing.proofs.line.print_part.Goals as goal
 
 pub returns : goal.returns

@@ -1,7 +1,7 @@
 -- `printing::refused` meets its contract.
 use Rattle.std.proofs.Common.{◌∙◌}
-use Rattle.printing.specs.LayingLaws.{lays_then, lays_as}
-use Rattle.printing.specs.LineLaws.{refused_fields}
+use Rattle.printing.proofs.LayingLaws.{lays_then, lays_as}
+use Rattle.printing.proofs.LineLaws.{refused_fields}
 use Rattle.run.specs.Promise.{answer_in}
 use Rattle.printing.proofs.line.refused.Goals as goal
 

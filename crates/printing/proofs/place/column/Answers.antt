@@ -1,6 +1,6 @@
 -- `printing::column` meets its contract. The invariant: what follows moves the column to where the whole moves 1.
 use Rattle.std.proofs.Common.{ap, arith, get_or, length, length-take, refl, rules, sym, ◌∙◌, ◌≤◌}
-use Rattle.printing.specs.NumberLaws.{column_step, column_end, column_bounds}
+use Rattle.printing.proofs.NumberLaws.{column_step, column_end, column_bounds}
 use Rattle.printing.specs.Printing.{column_from}
 use Rattle.printing.proofs.place.column.Goals as goal
 

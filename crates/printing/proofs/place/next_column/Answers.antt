@@ -1,6 +1,6 @@
 -- `printing::next_column` meets its contract.
 use Rattle.std.proofs.Common.{arith}
-use Rattle.printing.specs.NumberLaws.{after_line_feed, after_tab, after_other}
+use Rattle.printing.proofs.NumberLaws.{after_line_feed, after_tab, after_other}
 use Rattle.printing.proofs.place.next_column.Goals as goal
 
 pub returns-then-byte-eq-LINE_FEED : goal.returns-then-byte-eq-LINE_FEED

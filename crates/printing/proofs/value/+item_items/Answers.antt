@@ -1,9 +1,9 @@
--- `printing::item` and `printing::items` meet their contracts. Each return is one law of specs/CellLaws.antt, applied
+-- `printing::item` and `printing::items` meet their contracts. Each return is one law of proofs/CellLaws.antt, applied
 -- to what the calls before it laid. The measure is the cell's number: a cell refers to older ones.
 use Rattle.std.proofs.Common.{arith, rules, sym, ℕ, ◌<◌, ◌∙◌, ◌≡◌}
 use Rattle.book.specs.Index.{book_in}
-use Rattle.printing.specs.LayingLaws.{lays_none, lays_full, lays_then, lays_as}
-use Rattle.printing.specs.CellLaws.{older_less, item_variant, item_list, item_plain, items_none, items_chain}
+use Rattle.printing.proofs.LayingLaws.{lays_none, lays_full, lays_then, lays_as}
+use Rattle.printing.proofs.CellLaws.{older_less, item_variant, item_list, item_plain, items_none, items_chain}
 use Rattle.printing.proofs.value.+item_items.Goals as goal
 
 pub item-returns-then-is_full : goal.item-returns-then-is_full

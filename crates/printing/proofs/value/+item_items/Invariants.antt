@@ -1,4 +1,4 @@
--- `printing::item` and `printing::items` meet their contracts. Each return is one law of specs/CellLaws.antt, applied
+-- `printing::item` and `printing::items` meet their contracts. Each return is one law of proofs/CellLaws.antt, applied
 -- to what the calls before it laid. The measure is the cell's number: a cell refers to older ones.
 use Rattle.std.proofs.Common.{◌≡◌}
 use Rattle.printing.proofs.value.+item_items.Given as goal

@@ -1,5 +1,5 @@
 -- `printing::declared` meets its contract.
-use Rattle.printing.specs.LayingLaws.{lays_then}
+use Rattle.printing.proofs.LayingLaws.{lays_then}
 use Rattle.printing.proofs.value.declared.Goals as goal
 
 pub returns : goal.returns

@@ -1,7 +1,7 @@
 -- `printing::gap` meets its contract.
 use Rattle.std.proofs.Common.{sym}
-use Rattle.printing.specs.CellLaws.{gap_later, gap_first}
-use Rattle.printing.specs.LayingLaws.{lays_none, lays_as}
+use Rattle.printing.proofs.CellLaws.{gap_later, gap_first}
+use Rattle.printing.proofs.LayingLaws.{lays_none, lays_as}
 use Rattle.printing.proofs.value.gap.Goals as goal
 use Rattle.printing.proofs.value.gap.Goals.{then-in_list+else-before-ne-CHAIN_FORM, else-in_list}
 

@@ -1,8 +1,8 @@
 -- `printing::plain` meets its contract.
 use Rattle.std.proofs.Common.{List, ap, rules, sym, ℕ, ◌∙◌, ◌∷◌}
 use Rattle.book.specs.Index.{book_in}
-use Rattle.printing.specs.LayingLaws.{lays_then, lays_as}
-use Rattle.printing.specs.CellLaws.{plain_number, plain_name, plain_variable, plain_declared, plain_absent}
+use Rattle.printing.proofs.LayingLaws.{lays_then, lays_as}
+use Rattle.printing.proofs.CellLaws.{plain_number, plain_name, plain_variable, plain_declared, plain_absent}
 use Rattle.printing.proofs.value.plain.Goals as goal
 
 pub returns-then-cell-eq-NUMBER_FORM : goal.returns-then-cell-eq-NUMBER_FORM

@@ -6,7 +6,7 @@ use Rattle.characters.specs.Slices.{Slice}
 use Rattle.run.specs.Promise.{no_room}
 use Rattle.run.specs.TwoCalls.{Call}
 use Rattle.midgebillon.specs.Library.{answer_size, answer_at, ReadInto, ReadIntoWith}
-use Rattle.midgebillon.specs.LibraryLaws.{with_room}
+use Rattle.midgebillon.proofs.LibraryLaws.{with_room}
 
 module _ (book text : Slice) (start allowance : ℕ) (cells cells' parses parses' answer answer' : Slice) where
   abbrev pub call_into : ReadInto book text start allowance cells cells' parses parses' answer answer' →

@@ -14,7 +14,7 @@ use Rattle.book.specs.Book.{Entry}
 use Rattle.semantics.specs.Answer.{Answer}
 use Rattle.printing.specs.Printing.{decimal, line_of, column_of, value_word, refused_word, place_word, kind_word}
 use Rattle.printing.specs.Printing.{argument_word, line_word, column_word, refused_line, line_bytes}
-use Rattle.printing.specs.LayingLaws.{whole_line}
+use Rattle.printing.proofs.LayingLaws.{whole_line}
 use Rattle.printing.specs.Cells.{item_bytes}
 use Rattle.printing.specs.Lines.{length_within, Prints, Window}
 use Rattle.printing.specs.declared.line.Length.{Length}

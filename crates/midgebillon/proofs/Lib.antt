@@ -1,0 +1,2 @@
+pub mod LibraryLaws
+pub mod TwoCallLaws

@@ -1,0 +1,5 @@
+pub mod LayingLaws
+pub mod NumberLaws
+pub mod CellLaws
+pub mod LineLaws
+pub mod Worked
