@@ -3,7 +3,6 @@
 use Rattle.std.specs.Prelude.{◌≡◌, List, ℕ, ◌≤◌, ◌<◌, length, set}
 use Rattle.book.specs.Numbers.{short_lists}
 use Rattle.errors.specs.Lists.{error_size, Joins}
-use Rattle.errors.specs.declared.Error.{Error}
 use Rattle.errors.specs.declared.list.Joined.{Joined}
 
 -- the list has no errors; its length is not three times a number. No refusal of documents 01 and 02 has these numbers

@@ -16,13 +16,12 @@ use borrow.Author.Tests.{ltb-false, lt-ltb, le-ltb, le-leb, lt-leb, eq-eqb, ne_e
 use Rattle.characters.specs.Cases.{clash}
 use Rattle.characters.specs.Classes.{between}
 use Rattle.characters.specs.Skipping.{skip_from}
-use Rattle.book.specs.Book.{Book, nth_step}
+use Rattle.book.specs.Book.{Book}
 use Rattle.book.specs.Check.{check_book, Outcome}
 use Rattle.book.specs.Index.{verdict, CheckedInto}
 use Rattle.book.specs.declared.checking.Verdict.{Verdict}
 use Rattle.semantics.specs.Numbers.{is_limit}
 use Rattle.semantics.specs.Cells.{Cell, cells_in}
-use Rattle.semantics.specs.Errors.{Error}
 use Rattle.semantics.specs.Run as definition
 use Rattle.semantics.specs.Run.{Result, met, ok, Parsed, parsed}
 use Rattle.semantics.specs.Answer.{Answer, Answered, answer, written, cell_numbers, parse_numbers, whole_values}
@@ -42,7 +41,6 @@ use Rattle.errors.specs.declared.Failure.{Failure}
 use Rattle.errors.specs.declared.Error as tokens
 use Rattle.transitions.specs.declared.outcomes.Outcome as code
 use Rattle.transitions.specs.Outcomes.{cells_of, Held, given, Ran, Runs, failure_at}
-use Rattle.transitions.specs.Fit.{Fits, Fit}
 use Rattle.run.specs.declared.reader.Answer as parse
 use Rattle.run.specs.declared.whole.Values.{Values}
 use Rattle.run.specs.Promise.{answer_in, answered, no_room, Reads, answer_with}

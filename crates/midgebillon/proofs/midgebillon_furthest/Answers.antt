@@ -1,5 +1,5 @@
 -- `midgebillon::midgebillon_furthest` meets its contract.
-use Rattle.std.proofs.Common.{arith, refl, rules}
+use Rattle.std.proofs.Common.{arith, refl}
 use Rattle.midgebillon.proofs.midgebillon_furthest.Goals as goal
 
 pub returns-then-out-lt-ERROR_SIZE : goal.returns-then-out-lt-ERROR_SIZE

@@ -1,5 +1,5 @@
 -- `midgebillon::midgebillon_print` meets its contract.
-use Rattle.std.proofs.Common.{arith, rules}
+use Rattle.std.proofs.Common.{arith}
 use Rattle.midgebillon.proofs.LibraryLaws.{few_numbers, no_answer, line_printed}
 use Rattle.midgebillon.proofs.midgebillon_print.Goals as goal
 

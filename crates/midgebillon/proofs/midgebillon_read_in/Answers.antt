@@ -1,5 +1,5 @@
 -- `midgebillon::midgebillon_read_in` meets its contract.
-use Rattle.std.proofs.Common.{arith, refl, rules}
+use Rattle.std.proofs.Common.{arith, refl}
 use Rattle.midgebillon.proofs.LibraryLaws.{untouched, answers}
 use Rattle.midgebillon.proofs.midgebillon_read_in.Goals as goal
 

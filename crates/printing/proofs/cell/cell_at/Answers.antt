@@ -1,5 +1,5 @@
 -- `printing::cell_at` meets its contract.
-use Rattle.std.proofs.Common.{arith, inl, inr, rules}
+use Rattle.std.proofs.Common.{arith, inl, inr}
 use Rattle.printing.proofs.CellLaws.{read_none, read_some}
 use Rattle.printing.proofs.cell.cell_at.Goals as goal
 

@@ -1,5 +1,5 @@
 -- `printing::spelling` meets its contract.
-use Rattle.std.proofs.Common.{rules, sym, ◌∙◌}
+use Rattle.std.proofs.Common.{sym, ◌∙◌}
 use Rattle.book.specs.Index.{book_in}
 use Rattle.printing.proofs.CellLaws.{spelling_name, spelling_variable, spelling_none}
 use Rattle.printing.proofs.cell.spelling.Goals as goal

@@ -1,5 +1,4 @@
 -- `printing::field` meets its contract.
-use Rattle.std.proofs.Common.{rules}
 use Rattle.printing.proofs.LayingLaws.{lays_then}
 use Rattle.printing.proofs.line.field.Goals as goal
 

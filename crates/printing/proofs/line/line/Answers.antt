@@ -1,5 +1,4 @@
 -- `printing::line` meets its contract.
-use Rattle.std.proofs.Common.{rules}
 use Rattle.book.specs.Index.{book_in}
 use Rattle.printing.proofs.LayingLaws.{lays_then, lays_as}
 use Rattle.printing.proofs.LineLaws.{line_refused, line_value}

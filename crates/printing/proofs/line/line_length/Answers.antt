@@ -1,5 +1,5 @@
 -- `printing::line_length` meets its contract.
-use Rattle.std.proofs.Common.{arith, refl, rules}
+use Rattle.std.proofs.Common.{arith, refl}
 use Rattle.book.specs.Index.{book_in}
 use Rattle.run.specs.Promise.{answer_in}
 use Rattle.printing.specs.Printing.{line_bytes}

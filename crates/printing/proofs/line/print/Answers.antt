@@ -1,5 +1,4 @@
 -- `printing::print` meets its contract.
-use Rattle.std.proofs.Common.{rules}
 use Rattle.book.specs.Index.{book_in}
 use Rattle.run.specs.Promise.{answer_in}
 use Rattle.printing.specs.Printing.{line_bytes}

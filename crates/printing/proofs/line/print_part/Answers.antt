@@ -1,5 +1,4 @@
 -- `printing::print_part` meets its contract.
-use Rattle.std.proofs.Common.{rules}
 use Rattle.printing.proofs.LayingLaws.{window}
 use Rattle.printing.proofs.line.print_part.Goals as goal
 

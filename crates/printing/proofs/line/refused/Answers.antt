@@ -1,5 +1,4 @@
 -- `printing::refused` meets its contract.
-use Rattle.std.proofs.Common.{◌∙◌}
 use Rattle.printing.proofs.LayingLaws.{lays_then, lays_as}
 use Rattle.printing.proofs.LineLaws.{refused_fields}
 use Rattle.run.specs.Promise.{answer_in}

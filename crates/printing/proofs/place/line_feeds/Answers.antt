@@ -1,5 +1,5 @@
 -- `printing::line_feeds` meets its contract. The invariant: those found and those ahead are all.
-use Rattle.std.proofs.Common.{arith, rules, sym, ⊎_elim, ◌∙◌}
+use Rattle.std.proofs.Common.{arith, rules, sym, ◌∙◌}
 use Rattle.printing.proofs.NumberLaws.{feeds_hit, feeds_miss, feeds_end}
 use Rattle.printing.proofs.place.line_feeds.Goals as goal
 use Rattle.printing.proofs.place.line_feeds.Goals.{then-bytes-i-eq-LINE_FEED, else-bytes-i-eq-LINE_FEED}

@@ -1,6 +1,6 @@
 -- `printing::item` and `printing::items` meet their contracts. Each return is one law of proofs/CellLaws.antt, applied
 -- to what the calls before it laid. The measure is the cell's number: a cell refers to older ones.
-use Rattle.std.proofs.Common.{arith, rules, sym, ℕ, ◌<◌, ◌∙◌, ◌≡◌}
+use Rattle.std.proofs.Common.{arith, sym, ◌∙◌}
 use Rattle.book.specs.Index.{book_in}
 use Rattle.printing.proofs.LayingLaws.{lays_none, lays_full, lays_then, lays_as}
 use Rattle.printing.proofs.CellLaws.{older_less, item_variant, item_list, item_plain, items_none, items_chain}

@@ -1,6 +1,5 @@
 -- `printing::item` and `printing::items` meet their contracts. Each return is one law of proofs/CellLaws.antt, applied
 -- to what the calls before it laid. The measure is the cell's number: a cell refers to older ones.
-use Rattle.std.proofs.Common.{◌≡◌}
 use Rattle.printing.proofs.value.+item_items.Given as goal
 
 abbrev pub decreases-item : goal.decreases-item

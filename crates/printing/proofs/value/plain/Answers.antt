@@ -1,5 +1,5 @@
 -- `printing::plain` meets its contract.
-use Rattle.std.proofs.Common.{List, ap, rules, sym, ℕ, ◌∙◌, ◌∷◌}
+use Rattle.std.proofs.Common.{List, ap, sym, ℕ, ◌∙◌, ◌∷◌}
 use Rattle.book.specs.Index.{book_in}
 use Rattle.printing.proofs.LayingLaws.{lays_then, lays_as}
 use Rattle.printing.proofs.CellLaws.{plain_number, plain_name, plain_variable, plain_declared, plain_absent}

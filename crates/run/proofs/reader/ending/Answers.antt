@@ -1,5 +1,5 @@
 -- `run::ending` meets its contract.
-use Rattle.std.proofs.Common.{arith, rules, sym, ◌∙◌}
+use Rattle.std.proofs.Common.{arith, sym, ◌∙◌}
 use Rattle.run.specs.ReadingLaws.{end_limit, end_failed, end_found}
 use Rattle.run.specs.ListLaws.{found_few}
 use Rattle.run.proofs.reader.ending.Goals as goal

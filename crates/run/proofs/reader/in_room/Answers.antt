@@ -1,5 +1,5 @@
 -- `run::in_room` meets its contract.
-use Rattle.std.proofs.Common.{arith, rules}
+use Rattle.std.proofs.Common.{arith}
 use Rattle.book.proofs.BoundLaws.{refusal_bounds}
 use Rattle.run.specs.ReadingLaws.{call_short, call_allowance, call_refused, call_book, long_cells}
 use Rattle.run.specs.ReadingLaws.{verdict_refused}

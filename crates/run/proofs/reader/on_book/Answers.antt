@@ -1,5 +1,4 @@
 -- `run::on_book` meets its contract.
-use Rattle.std.proofs.Common.{rules}
 use Rattle.transitions.specs.FitLaws.{accepted_fits}
 use Rattle.run.specs.ReadingLaws.{not_in_book, too_long, high_found, book_run}
 use Rattle.run.proofs.reader.on_book.Goals as goal

@@ -1,5 +1,4 @@
 -- `run::read_in` meets its contract.
-use Rattle.std.proofs.Common.{rules}
 use Rattle.run.specs.ReadingLaws.{reads_nothing, reads_in, room}
 use Rattle.run.proofs.reader.read_in.Goals as goal
 

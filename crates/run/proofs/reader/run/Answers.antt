@@ -1,5 +1,5 @@
 -- `run::run` meets its contract.
-use Rattle.std.proofs.Common.{arith, rules}
+use Rattle.std.proofs.Common.{arith}
 use Rattle.book.specs.Index.{book_in}
 use Rattle.transitions.specs.TakenLaws.{skip_fits}
 use Rattle.run.specs.ReadingLaws.{run_is}

@@ -1,10 +1,8 @@
 -- `run::whole_values` meets its contract. The invariant: the parses from i on decide.
-use Rattle.std.proofs.Common.{arith, drop, refl, rules, sym, ◌-◌, ◌∙◌, ◌≡◌}
+use Rattle.std.proofs.Common.{drop, ◌-◌, ◌≡◌}
 use Rattle.semantics.specs.Answer.{whole_values}
 use Rattle.run_model.specs.Rows.{row_of}
-use Rattle.sets.specs.Sets.{parse_of}
 use Rattle.calls.specs.Table.{table}
-use Rattle.run.specs.ListLaws.{values_again, values_end}
 use Rattle.run.specs.Reading.{with_values}
 use Rattle.run.specs.declared.whole.Values.{Values}
 use Rattle.run.proofs.whole.whole_values.Given as goal
