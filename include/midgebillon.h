@@ -3,7 +3,7 @@
  *
  * The library is proved: what each function says below holds for every book, text and list (crates/midgebillon/specs
  * has it as definitions). `python3 tools/library.py` proves it and writes it, for x86-64, with this header; `rt lib` in
- * crates/midgebillon writes the static library alone. It needs nothing but the C library's memory functions.
+ * crates/midgebillon_c writes the static library alone. It needs nothing but the C library's memory functions.
  *
  * What the caller owes:
  * - a list is passed as a pointer and a number of elements. The pointer is never null, also where the number is 0, and

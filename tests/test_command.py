@@ -287,7 +287,7 @@ class Command(unittest.TestCase):
         free = {name: value for name, value in os.environ.items() if name != "MIDGEBILLON_LIBRARY"}
         done = subprocess.run([sys.executable, "-c", script], capture_output=True, text=True, env=free)
         self.assertEqual(done.returncode, 2)
-        for part in ("`rt lib` in crates/midgebillon", "tools/library.py --quick", "without its proofs"):
+        for part in ("`rt lib` in crates/midgebillon_c", "tools/library.py --quick", "without its proofs"):
             self.assertIn(part, done.stderr)
 
     def test_what_is_not_proved_says_so(self):

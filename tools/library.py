@@ -3,7 +3,7 @@
 
     python3 tools/library.py
 
-proves it first (`rt lib` in crates/midgebillon, some minutes), and writes target/proved. It needs the Rattle kit and
+proves it first (`rt lib` in crates/midgebillon_c, some minutes), and writes target/proved. It needs the Rattle kit and
 gcc.
 
     python3 tools/library.py --quick
@@ -24,8 +24,8 @@ import sys
 from reader import LIBRARY, ROOT, static_library
 
 HEADER = f"{ROOT}/include/midgebillon.h"
-CRATE = f"{ROOT}/crates/{LIBRARY}"
-PROVED = f"{CRATE}/out/lib{LIBRARY}.a"
+CRATE = f"{ROOT}/crates/{LIBRARY}_c"
+PROVED = f"{CRATE}/out/lib{LIBRARY}_c.a"
 NOT_PROVED = "not proved: compiled without its proofs"
 
 PKG_CONFIG = """prefix=${{pcfiledir}}/../..
@@ -79,7 +79,7 @@ def build(quick):
     os.makedirs(f"{folder}/lib/pkgconfig")
     for header in os.listdir(f"{ROOT}/include"):
         shutil.copy(f"{ROOT}/include/{header}", f"{folder}/include")
-    archive = compiled(f"{folder}/lib") if quick else shutil.copy(PROVED, f"{folder}/lib")
+    archive = compiled(f"{folder}/lib") if quick else shutil.copy(PROVED, f"{folder}/lib/lib{LIBRARY}.a")
     linked(archive, f"{folder}/lib/libmidgebillon.so")
     with open(f"{folder}/lib/pkgconfig/midgebillon.pc", "w", encoding="utf-8") as file:
         file.write(PKG_CONFIG.format(version=version(), remark=f" ({NOT_PROVED})" if quick else ""))

@@ -154,6 +154,8 @@ def missing(crate, units, lines):
         outside = [e for e in told if not any(own(f, e) for f in functions) and not UNFIT.search(e.message)]
         if not outside and not unproved - set(functions):
             yield f"no error comes from `{others[0].name}`"
+    if told and UNFIT.search(told[0].message):
+        yield f"the first error only says that a proof no longer fits: {told[0].file}: {told[0].message[:160]}"
 
 
 # ---- The gate's word: that an edit is refused, perhaps in brackets that this shows little, and the first error
@@ -207,7 +209,7 @@ def check(crate, edited, units):
         for name in below:
             words += ["-L", f"dependency={place[name]}"]
         words += ["--antt-project", f"{KIT}/rattle/logic/antt-project.json", "--logic-built", f"{KIT}/logic_built"]
-        words += ["--jobs", "1", *["--crate-type", "staticlib"] * (crate == LIBRARY)]
+        words += ["--jobs", "1", *["--crate-type", "staticlib"] * (crate == f"{LIBRARY}_c")]
         only = []
         if all(u.kind == "function" for u in units):
             for u in units:

@@ -10,7 +10,7 @@ three vectors of little work for each refusal.
 
     python3 tools/replay.py --through library VECTORS.jsonl ..
 
-The static library, called as C does: crates/midgebillon/out/libmidgebillon.a, which `rt lib` proves and writes, or
+The static library, called as C does: crates/midgebillon_c/out/libmidgebillon_c.a, which `rt lib` proves and writes, or
 --library FILE. Each vector is read by midgebillon_read, and by midgebillon_read_in in working memory that is
 full of rubbish; the first that isn't refused with 1 also with each list of that memory one number too short.
 
@@ -267,7 +267,7 @@ def short_memory(library, v, memory):
 
 def through_library(vectors, options):
     if not os.path.exists(options.library):
-        sys.exit(f"no {options.library}: `rt lib` in crates/midgebillon writes it")
+        sys.exit(f"no {options.library}: `rt lib` in crates/midgebillon_c writes it")
     memory = Memory()
     with tempfile.TemporaryDirectory() as folder:
         library = loaded(options.library, folder)

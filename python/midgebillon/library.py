@@ -16,7 +16,7 @@ STACK = 8 << 20  # twice what a call can need
 
 HOW_TO_BUILD = """in the reader's folder,
 
-    python3 tools/library.py            proves it and builds it, in some minutes (by `rt lib` in crates/midgebillon)
+    python3 tools/library.py            proves it and builds it, in some minutes (by `rt lib` in crates/midgebillon_c)
     python3 tools/library.py --quick    builds the same code without its proofs, in seconds
 
 (or set MIDGEBILLON_LIBRARY to the path of a libmidgebillon.so)"""

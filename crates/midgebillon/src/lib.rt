@@ -1,5 +1,6 @@
 // The reader for C and Rust: the call of document 01, "The answer", the line of "Printing", and the furthest of several
-// errors of document 02 g, each as a function that other languages link.
+// errors of document 02 g, each as a function over lists of numbers. The crate midgebillon_c exports them to other
+// languages.
 //
 // `midgebillon_read` writes the seven numbers of the answer to the front of a lent list: what `run::read` promises
 // holds of those numbers and of both lists (`ReadInto` of specs/Library.antt). `midgebillon_read_in` does so with
@@ -8,10 +9,7 @@
 // specs/Joining.antt). None has a `requires`: too short a list for the answer, the line or the error, and numbers that
 // are no answer or no list of errors, leave everything as it is. None keeps anything between calls.
 //
-// The crate relies on the promises of `run`, `printing`, `errors` and `book`, and assumes nothing. What no theorem
-// says: whoever calls from another language owes what a slice is: a pointer that is not null to as many numbers as the
-// length says, and no slice that is written overlaps another. include/midgebillon.h tells a C program so; rust/ has
-// a wrapper whose types do.
+// The crate relies on the promises of `run`, `printing`, `errors` and `book`, and assumes nothing.
 //
 // specs/ has what the functions promise (Library, Joining), and proofs/ has laws: one for each way out of the first
 // three, and that with enough working memory the second promises what the first does (LibraryLaws); that what run says
@@ -32,8 +30,7 @@ use printing::print;
 use run::{SHORT_LISTS, read, read_in};
 
 // Reads a text by a book. With fewer than seven places for the answer nothing at all is touched.
-#[unsafe(no_mangle)]
-pub extern "C" fn midgebillon_read(
+pub fn midgebillon_read(
     book: &[u8],
     text: &[u8],
     start: u32,
@@ -54,8 +51,7 @@ pub extern "C" fn midgebillon_read(
 
 // The same with working memory that is lent, whatever it holds: a book's index, a store of cells, the rows of calls.
 // Too little of it is refused as too short lists are. With fewer than seven places for the answer it isn't touched.
-#[unsafe(no_mangle)]
-pub extern "C" fn midgebillon_read_in(
+pub fn midgebillon_read_in(
     book: &[u8],
     text: &[u8],
     start: u32,
@@ -80,8 +76,7 @@ pub extern "C" fn midgebillon_read_in(
 
 // The line of an answer and its length. Where the line does not fit, or the numbers are no answer, 0, and `out` stays
 // as it is. (A spelling is a part of the book or of the text, so both have one lifetime; for C that is no difference.)
-#[unsafe(no_mangle)]
-pub extern "C" fn midgebillon_print<'a>(
+pub fn midgebillon_print<'a>(
     book: &'a [u8],
     text: &'a [u8],
     cells: &[u32],
@@ -107,8 +102,7 @@ pub extern "C" fn midgebillon_print<'a>(
 // The furthest, least of a list of errors, three numbers each: place, kind, argument. 0, and the error at the front of
 // `out`. Else `out` stays as it is: 1 where it has fewer than three places, 60 for no errors, 61 for a length that is
 // not three times a number.
-#[unsafe(no_mangle)]
-pub extern "C" fn midgebillon_furthest(errors: &[u32], out: &mut [u32]) -> u32
+pub fn midgebillon_furthest(errors: &[u32], out: &mut [u32]) -> u32
     ensures { JoinsInto errors.now out.old out.new result }
 {
     if out.len() < ERROR_SIZE {

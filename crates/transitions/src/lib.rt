@@ -3,8 +3,8 @@
 //
 // Each function equals a part of the model of the run in the crate run_model (specs/Model.antt there), on the table
 // that the rows give and on the cells that the store holds (`Held` of specs/Outcomes.antt); the contracts say so by the
-// names of specs/Contracts.antt. Where the model runs what is left of a variant, a part that calls nothing says what
-// the path does next, and promises that whatever does that gives what the model gives (specs/Steps.antt,
+// names of specs/LayerContracts.antt. Where the model runs what is left of a variant, a part that calls nothing says
+// what the path does next, and promises that whatever does that gives what the model gives (specs/Steps.antt,
 // specs/Entering.antt). The contracts ask only that the rows have their 105,525 numbers, that row numbers are at most
 // 200, and that the numbers of the book and the text fit into 32 bits (`Fit` of specs/Fit.antt).
 //

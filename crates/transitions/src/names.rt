@@ -1,8 +1,8 @@
 // What the names of an opening do that calls nothing. Document 02 d.
 //
 // A declared name stands in the row of its level, and what follows it runs one level further in; so the names of an
-// opening are those of the rows next above the first free one (`names_above` of run_model's Rows), and only their number
-// is handed on.
+// opening are those of the rows next above the first free one (`names_above` of run_model's Rows), and only their
+// number is handed on.
 ghost use Rattle.std.specs.Prelude.{◌≡◌, ◌<◌};
 ghost use Rattle.transitions.specs.Fit.{Fits};
 ghost use Rattle.transitions.specs.Names.{no_names, not_named, IsNamed};

@@ -69,7 +69,8 @@ pub fn next_of(
     state: State,
 ) -> Stage
     requires { Fitting book.now index.now text.now }
-    ensures { Stages book.now index.now text.now store.old store.new here state result (follows next (parse_of q) here) }
+    ensures { Stages book.now index.now text.now store.old store.new here state result
+        (follows next (parse_of q) here) }
 {
     match next {
         Next::Steps => then_steps(reached_with(
