@@ -83,29 +83,25 @@ module _ (book : Book) (text : List ℕ) where
   -- ---- Fresh uses
   -- a child of f at u, where f and the uses around it began before u
   module _ (r u : ℕ) (f : Use) (around : Path) (w : Within r around) (h : r < u) (before : f.start < u) where
-    child_governs : f.child ≡ u → (N v : ℕ) → u ≤ v →
-        governor (within f ∷ around) N v
-        ≡ minimum (minimum_at f.nonterminal (minimum_of f.associativity f.level) u N v)
-    unfolding governor govern outwards
-    child_governs child N v le =
-        let t : eqb f.start v ≡ false = ne_eqb f.start v (λ e. omega arith) in
-        let far : governor around N v ≡ minimum 0 = governs_none r around N v w (omega arith) in
-        rw child
-        (by_test (eqb f.nonterminal N && eqb u v)
-        (λ b. rw (b, t) refl)
-        (λ b. rw (b, far) refl))
-
-    child_claims : (v : ℕ) → u ≤ v → has_claimant book text (within f ∷ around) v ≡ false
-    unfolding has_claimant
-    child_claims v le =
-        let t : eqb f.start v ≡ false = ne_eqb f.start v (λ e. omega arith) in
-        rw (t, and-false (has_mark book 1 f.nonterminal)) (claims_none r around v w (omega arith))
-
     pub fresh_child : f.child ≡ u →
         Fresh book text f.nonterminal (minimum_of f.associativity f.level) u (scope_of around)
         (within f ∷ around)
-    unfolding scope_of
-    fresh_child child = record { governs = child_governs child; claims = child_claims; scoped = refl }
+    unfolding scope_of governor govern outwards has_claimant
+    fresh_child child =
+        let past : (v : ℕ) → u ≤ v → eqb f.start v ≡ false = λ v le. ne_eqb f.start v (λ e. omega arith) in
+        record {
+          governs = λ N v le.
+              let t = past v le in
+              let far : governor around N v ≡ minimum 0 = governs_none r around N v w (omega arith) in
+              rw child
+              (by_test (eqb f.nonterminal N && eqb u v)
+              (λ b. rw (b, t) refl)
+              (λ b. rw (b, far) refl));
+          claims = λ v le.
+              let t = past v le in
+              rw (t, and-false (has_mark book 1 f.nonterminal)) (claims_none r around v w (omega arith));
+          scoped = refl;
+        }
 
   -- without a minimum, the parent's nonterminal does not matter
   no_minimum : (P u N v : ℕ) → minimum (minimum_at P 0 u N v) ≡ minimum 0
