@@ -11,6 +11,7 @@ module that the check makes.
 """
 import os
 import re
+import subprocess
 import sys
 
 SAY = "--say" in sys.argv
@@ -68,7 +69,7 @@ def spelled(name):
 
 def library_names():
     names = set()
-    kit = os.path.dirname(os.path.realpath("/opt/rattle/START-HERE.md"))
+    kit = os.path.dirname(subprocess.run(["rt", "doc"], capture_output=True, text=True, check=True).stdout.strip())
     for folder, dirs, files in os.walk(os.path.join(kit, "rattle")):
         dirs[:] = [d for d in dirs if d not in ("examples", "tests", "docs")]
         for f in files:
