@@ -80,9 +80,11 @@ NAMED = re.compile(r"\s*(?:abbrev |unfoldable |pub )*(?:record |data )?([\w·◌
 
 
 def unit(crate, file, line):
-    """The function, constant or definition in which a line stands: the last that begins before it. A line that names
-    what it uses is none."""
+    """The function, constant or definition in which a line stands: the last that begins before it; of an attribute, the
+    one below it. A line that names what it uses is none."""
     lines = text_of(f"{ROOT}/crates/{crate}/{file}").split("\n")
+    while lines[line].startswith("#["):
+        line += 1
     first = line
     while first and file.endswith(".rt") and lines[first].startswith("    ") and not lines[first - 1].endswith(";"):
         first -= 1
@@ -154,8 +156,6 @@ def missing(crate, units, lines):
         outside = [e for e in told if not any(own(f, e) for f in functions) and not UNFIT.search(e.message)]
         if not outside and not unproved - set(functions):
             yield f"no error comes from `{others[0].name}`"
-    if told and UNFIT.search(told[0].message):
-        yield f"the first error only says that a proof no longer fits: {told[0].file}: {told[0].message[:160]}"
 
 
 # ---- The gate's word: that an edit is refused, perhaps in brackets that this shows little, and the first error
