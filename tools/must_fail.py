@@ -232,6 +232,8 @@ def looked_at(crate, edit, said):
             refused = REFUSED.match(said)
             if not refused:
                 return len(units), False, [f"rt ci says of it: {said}"]
+            if UNFIT.search(refused[2]):
+                return len(units), False, [f"the first error only says that a proof no longer fits: {refused[2][:160]}"]
             if not refused[1] and not list(missing(crate, units, [refused[2]])):
                 return len(units), False, []
         return len(units), True, list(missing(crate, units, check(crate, edited, units)))
