@@ -3,8 +3,8 @@
 
     python3 tools/class_table.py [LIBRARY]
 
-No proof speaks of that: the proofs are of what the reader answers, and whether the compiler keeps a constant array in
-read-only memory or lays it out on the stack at each reading is the compiler's choice (docs/DECISIONS.md, 36). So this
+No proof speaks of that: the proofs are of what the reader answers. The table is a static, since the compiler lays a
+constant array out on the stack at each reading (docs/DECISIONS.md, 36); what it does is its own choice. So this
 searches the static library, or else compiles the reader as it stands, without its proofs, and searches that: the table
 of crates/characters/src/table.rt must stand there once, and no row of it anywhere else, as code that lays the table out
 would have it.

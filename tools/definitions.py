@@ -4,7 +4,7 @@ and the rules of `crates/semantics/specs/Derivations.antt` into a search for all
 
 The definitions are read as they stand and translated word by word into Python functions; nothing of what they say is
 written again here. What is written here by hand is only what the definitions take from libraries: booleans, numbers,
-lists, options, and the comparisons and list functions of `lib.Dec` and `lib.ListN` (see BUILTINS). Whatever in a file
+lists, options, and the comparisons and list functions of std's `Prelude` (see BUILTINS). Whatever in a file
 is not understood stops the program with the file and the line.
 
     python3 tools/definitions.py --python
@@ -93,6 +93,14 @@ def take(n, xs):
     return from_python(items)
 
 
+def prefix_len(test, xs):
+    n = 0
+    while xs is not NIL and apply(test, xs[0]):
+        xs = xs[1]
+        n += 1
+    return n
+
+
 def apply(f, *arguments):
     """A function that is a value, applied: it may give a function that takes the arguments left over."""
     n = f.__code__.co_argcount
@@ -105,6 +113,7 @@ def apply(f, *arguments):
 
 RUNTIME = {
     "NIL": NIL, "cons": cons, "append": append, "get_or": get_or, "drop": drop, "take": take, "apply": apply,
+    "prefix_len": prefix_len,
     "replicate": lambda n, x: from_python([x] * n),
     "map_list": lambda f, xs: from_python([apply(f, x) for x in to_python(xs)]),
     "NotUnderstood": NotUnderstood,
@@ -120,10 +129,10 @@ BUILTINS = {
     "leb": (2, "({} <= {})"), "ltb": (2, "({} < {})"), "eqb": (2, "({} == {})"),
     "◌∷◌": (2, "cons({}, {})"), "◌++◌": (2, "append({}, {})"), "length": (1, "{}[2]"), "get_or": (3, "get_or({}, {}, {})"),
     "take": (2, "take({}, {})"), "drop": (2, "drop({}, {})"), "replicate": (2, "replicate({}, {})"),
-    "map": (2, "map_list({}, {})"),
+    "map": (2, "map_list({}, {})"), "prefix_len": (2, "prefix_len({}, {})"),
 }
-CONSTRUCTORS = {"none": 0, "some": 1}
-TYPES = {"Bool", "List", "Option", "ℕ", "Unit", "◌≡◌", "◌<◌"}
+CONSTRUCTORS = {"None": 0, "Some": 1, "Ok": 1, "Err": 1}
+TYPES = {"Bool", "List", "Option", "Result", "ℕ", "Unit", "◌≡◌", "◌<◌"}
 ALWAYS = ["tt"]
 FIXITIES = {
     "◌||◌": (30, "l"), "◌&&◌": (35, "l"), "◌++◌": (65, "l"), "◌+◌": (65, "l"), "◌-◌": (65, "l"), "◌∷◌": (67, "r"),

@@ -75,15 +75,16 @@ def changes(crate, edit):
     return found
 
 
-ITEM = re.compile(r'\s*(?:pub )?(?:extern "C" )?(fn|const|struct|enum) (\w+)')
+ITEM = re.compile(r'\s*(?:pub(?:\(\w+\))? )?(?:extern "C" )?(fn|const|static|struct|enum) (\w+)')
+IMPL = re.compile(r"impl(?:<[^>]*>)? (?:.* for )?(\w+)")
 NAMED = re.compile(r"\s*(?:abbrev |unfoldable |pub )*(?:record |data )?([\w·◌'′-]+)(?: \([^:]*)? :(?: |$)")
 
 
 def unit(crate, file, line):
     """The function, constant or definition in which a line stands: the last that begins before it; of an attribute, the
-    one below it. A line that names what it uses is none."""
+    one below it. A method has its type's name before its own. A line that names what it uses is none."""
     lines = text_of(f"{ROOT}/crates/{crate}/{file}").split("\n")
-    while lines[line].startswith("#["):
+    while lines[line].lstrip().startswith("#["):
         line += 1
     first = line
     while first and file.endswith(".rt") and lines[first].startswith("    ") and not lines[first - 1].endswith(";"):
@@ -95,14 +96,35 @@ def unit(crate, file, line):
         found = pattern.match(lines[i])
         if found and found.group(1) not in ("use", "module", "where"):
             function = found.group(1) == "fn" and pattern is ITEM
-            return Unit("function" if function else "definition", file, found.group(found.lastindex), i + 1)
+            owner = owner_of(lines, i) if function else ""
+            name = found.group(found.lastindex)
+            return Unit("function" if function else "definition", file, owner + name, i + 1)
     raise Unusable(f"{file}:{line + 1}: no declaration stands before this line")
 
 
-def module_of(function):
-    """The path of a function's module below its crate, '' at the root."""
-    module = os.path.splitext(os.path.relpath(function.file, "src"))[0]
+def owner_of(lines, line):
+    """The type of a method, with `::`, and '' of a function that is none."""
+    if not lines[line].startswith(" "):
+        return ""
+    heads = [found for found in map(IMPL.match, lines[:line]) if found]
+    return heads[-1][1] + "::" if heads else ""
+
+
+def module_of(file):
+    """The path of a file's module below its crate, '' at the root."""
+    module = os.path.splitext(os.path.relpath(file, "src"))[0]
     return "" if module in ("lib", "main") else module.replace("/mod", "")
+
+
+def path_of(crate, function):
+    """The path of a function below its crate: a method's begins with the module of its type."""
+    file, owner = function.file, function.name.rpartition("::")[0]
+    if owner:
+        source = f"{ROOT}/crates/{crate}/src"
+        for path in glob.glob(f"{source}/**/*.rt", recursive=True):
+            if re.search(rf"^(?:pub(?:\(\w+\))? )?(?:struct|enum) {owner}\b", text_of(path), re.M):
+                file = os.path.join("src", os.path.relpath(path, source))
+    return [*filter(None, module_of(file).split("/")), *function.name.split("::")]
 
 
 # ---- What a check says
@@ -123,18 +145,17 @@ def errors(lines):
     return [e for e in found if not FOLLOWS.search(e.message)], unproved
 
 
-def own(function, error):
-    """Whether an error stands in the proof of a function. Functions that call each other have one proof, in which each
-    has declarations by its name."""
-    module = module_of(function)
-    folder = f"{module}/" if module else ""
-    if re.match(rf"proofs/{folder}{function.name}/\w+\.antt$", error.file):
+def own(crate, function, error):
+    """Whether an error stands in the proof of a function. One that calls itself has a `+` before its name. Functions that
+    call each other have one proof, in which each has declarations by its name."""
+    path = path_of(crate, function)
+    if re.match(rf"proofs/{'/'.join([*path[:-1], ''])}\+?{path[-1]}/\w+\.antt$", error.file):
         return True
     shared = re.match(r"proofs/(?:(.+)/)?\+[^/]*/\w+\.antt$", error.file)
     if not shared:
         return False
-    whole = f"{module.replace('/', '::')}::{function.name}-"
-    return error.declaration.startswith(f"{function.name}-" if shared[1] == module else whole)
+    short = shared[1] == module_of(function.file)
+    return error.declaration.startswith(f"{function.name if short else '::'.join(path)}-")
 
 
 def missing(crate, units, lines):
@@ -144,7 +165,7 @@ def missing(crate, units, lines):
     others = [u for u in units if u.kind != "function"]
     unproved = {unit(crate, e.file, e.line - 1) for e in unproved if e.file.startswith("src/")}
     for f in functions:
-        mine = [e for e in told if own(f, e)]
+        mine = [e for e in told if own(crate, f, e)]
         fit = [e for e in mine if not UNFIT.search(e.message)]
         if not fit and f not in unproved:
             yield f"`{f.name}` has no error of its own" + (", but that its proof no longer fits it" if mine else "")
@@ -153,7 +174,7 @@ def missing(crate, units, lines):
     if len(others) > 1:
         yield "more than one definition or constant is changed: " + ", ".join(u.name for u in others)
     if others:
-        outside = [e for e in told if not any(own(f, e) for f in functions) and not UNFIT.search(e.message)]
+        outside = [e for e in told if not any(own(crate, f, e) for f in functions) and not UNFIT.search(e.message)]
         if not outside and not unproved - set(functions):
             yield f"no error comes from `{others[0].name}`"
 
@@ -213,7 +234,7 @@ def check(crate, edited, units):
         only = []
         if all(u.kind == "function" for u in units):
             for u in units:
-                only += ["--only", "::".join([crate, *filter(None, [module_of(u).replace("/", "::")]), u.name])]
+                only += ["--only", "::".join([crate, *path_of(crate, u)])]
         how = {"cwd": copy, "stdin": subprocess.DEVNULL, "stdout": subprocess.PIPE, "stderr": subprocess.STDOUT}
         said = subprocess.run([*words, *only], text=True, errors="replace", **how)
         if said.returncode == 2 and only:

@@ -2,19 +2,24 @@
 --
 --   first_step_in, -out       the number of a variant's first step, by the index
 --   sought-                   whether a nonterminal is the one that is looked for
---   binder_on, -hit, -end     the loop over them
+--   binder_on, -hit, -end     those before n are none
+--   binder_any                whether there is the one that is looked for
 --   among_any                 the one that is looked for is one of any
-use Rattle.std.specs.Prelude.{◌≡◌, refl, Bool, true, false, ◌&&◌, ◌||◌, List, [], ◌∷◌, ℕ, ◌+◌, ◌≤◌, ◌<◌, eqb, length}
-use Rattle.std.specs.Prelude.{get_or, drop}
-use Rattle.std.proofs.Common.{sym, ◌∙◌, arith, add-one, drop_of_length-le, drop-cons}
+use Rattle.std.specs.Prelude.{◌≡◌, refl, Bool, true, false, ◌&&◌, ◌||◌, List, [], ◌∷◌, ℕ, ◌≤◌, ◌<◌, eqb}
+use Rattle.std.specs.Prelude.{get_or}
+use Rattle.std.specs.List.{list_any}
+use Rattle.std.proofs.Common.{arith}
 use Rattle.book.specs.Book.{mark_number, no_variant}
 use Rattle.book.specs.Check.{of_binder}
-use Rattle.book.specs.Index.{count_in, place_in, first_in, variant_from, placed_in, is_sought}
+use Rattle.book.specs.Index.{count_in, place_in, first_in, variant_from, placed_in}
 use Rattle.book.specs.Numbers.{binder_mark}
 use Rattle.book.proofs.ReadingLaws.{up_to_in, up_to_out}
-use Rattle.book.specs.declared.binders.Sought.{Sought}
 use Rattle.book.specs.declared.records.Nonterminal.{Nonterminal}
 use Rattle.book.specs.declared.records.Variant.{Variant}
+use Rattle.std.specs.Prelude.{◌+◌, length, drop}
+use Rattle.std.proofs.Common.{sym, ◌∙◌, add-one, drop_of_length-le, drop-cons}
+use Rattle.book.specs.Index.{is_sought}
+use Rattle.book.specs.declared.binders.Sought.{Sought}
 
 -- ---- The first step of a variant
 module _ (book index : List ℕ) (j first count : ℕ) (count_is : count ≡ count_in index 323) where
@@ -64,6 +69,13 @@ module _ (at : Nonterminal → ℕ) (i : ℕ) (nonterminals : List Nonterminal) 
     pub binder_hit : n < length nonterminals → Here true → of_binder at (drop n nonterminals) i ≡ true
     unfolding of_binder
     binder_hit h e = rw (drop-cons nonterminals n d h, e)
+
+-- ---- Whether there is one
+pub binder_any : (at : Nonterminal → ℕ) (i : ℕ) (nonterminals : List Nonterminal) →
+    list_any (λ n. eqb (mark_number n.mark) binder_mark && eqb (at n) i) nonterminals ≡ of_binder at nonterminals i
+unfolding of_binder
+binder_any at i [] = refl
+binder_any at i (n ∷ ns) = rw (binder_any at i ns)
 
 -- ---- Any, and the one that is looked for
 among : (binder there any found : Bool) → (any && found) ≡ found →

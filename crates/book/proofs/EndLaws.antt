@@ -1,31 +1,38 @@
 -- Laws of what comes after the five sections.
 --
 --   pass-            the loop over the variants: those before a number pass
---   says_case        a verdict that is an outcome's has its numbers
---   checks-          the check: refused in a section, at a passing variant, for bytes left over; or accepted
+--   says-            a verdict that is an outcome's has its numbers
 --   passes-          whether one variant passes
---   into-            the public check, with an index that is long enough and with one that isn't
+--   into-            the check with an index that is long enough, and with one that isn't
+--   checks-          the check: refused in a section, at a passing variant, for bytes left over; or accepted
 --
 -- Not here: the sections (SectionLaws, WholeLaws).
-use Rattle.std.specs.Prelude.{◌≡◌, true, false, List, [], ◌∷◌, ◌++◌, map, ℕ, zero, suc, ◌+◌, ◌≤◌, ◌<◌, eqb, drop}
+use Rattle.std.specs.Prelude.{◌≡◌, Ok, Err, true, false, List, [], ◌∷◌, ◌++◌, map, ℕ, zero, suc, ◌+◌, ◌≤◌, ◌<◌, drop}
 use Rattle.std.proofs.Math.Path.{refl}
 use Rattle.std.proofs.Common.{ap, ◌∙◌, drop_of_length-le}
 use native.Mathlib.Omega.{arith}
 use Rattle.std.proofs.Math.Numerals.{add-one}
 use Rattle.std.proofs.Math.ListN.{length}
 use Rattle.std.proofs.Math.Seq.{drop-cons}
-use borrow.Author.Tests.{lt-ltb, le-ltb, eq-eqb, ne_eqb}
-use Rattle.book.specs.Book.{Book, nth_variant, step_number, nth_step}
+use borrow.Author.Tests.{lt-ltb, le-ltb}
+use Rattle.book.specs.Book.{Book, nth_variant}
 use Rattle.book.specs.Check.{Checked, refused, accepted, and_then, passes, all_pass, ended, entire_book, Outcome}
 use Rattle.book.specs.Check.{check_book}
-use Rattle.book.specs.Index.{reading_of, up_to, count_in, place_in, first_in, variant_from, entries_in, nonterminals_in}
-use Rattle.book.specs.Index.{placed_in, steps_in, book_in, five_sections, Sections, SectionsRead, refusal_of, place_of}
-use Rattle.book.specs.Index.{verdict, Says, Checks, CheckedInto, KeptOutside}
+use Rattle.book.specs.Index.{up_to, count_in, place_in, first_in, variant_from, entries_in, nonterminals_in}
+use Rattle.book.specs.Index.{placed_in, steps_in, book_in, five_sections, Sections, SectionsRead}
+use Rattle.book.specs.Numbers.{fault_number}
+use Rattle.book.specs.Index.{Part, Verdict, refused_as, passed_of, fault_of, Says, Checks, KeptOutside}
 use Rattle.book.proofs.ReadingLaws.{up_to_in, up_to_length}
 use Rattle.book.proofs.WholeLaws.{follow_read}
-use Rattle.book.specs.declared.checking.Verdict.{Verdict}
-use Rattle.book.specs.declared.parts.Part.{Part}
+use Rattle.book.specs.declared.parts.Read.{Read}
+use Rattle.book.specs.declared.refusals.Fault.{Fault}
+use Rattle.book.specs.declared.refusals.Refusal.{Refusal}
 use Rattle.book.specs.declared.records.Variant.{Variant}
+use Rattle.std.specs.Prelude.{eqb}
+use borrow.Author.Tests.{eq-eqb, ne_eqb}
+use Rattle.book.specs.Book.{step_number, nth_step}
+use Rattle.book.specs.Index.{refusal_of, place_of, verdict, CheckedInto}
+use Rattle.book.specs.Check.{outcome_refusal}
 use Rattle.book.specs.declared.records.Step.{Step}
 
 -- ---- Passing variants: those before j pass
@@ -101,43 +108,65 @@ entire_is : (book : List ℕ) → entire_book book 0 ≡ five_sections book (res
 unfolding entire_book
 entire_is book = refl
 
-pub says_case : (o : Outcome) (r : Verdict) → r ≡ verdict o → Says o r
-says_case (Outcome.book b) r e = record { refusal = ap refusal_of e; place = ap place_of e; case = e }
-says_case (Outcome.refusal n p) r e = record { refusal = ap refusal_of e; place = ap place_of e; case = e }
+fault_back : (f : Fault) → fault_of (fault_number f) ≡ f
+fault_back Fault.ShortIndex = refl
+fault_back Fault.EndsEarly = refl
+fault_back Fault.BadCount = refl
+fault_back Fault.BadSpelling = refl
+fault_back Fault.BadField = refl
+fault_back Fault.BadPassing = refl
+fault_back Fault.BytesLeftOver = refl
 
-refused_checks : (book f g : List ℕ) {n p : ℕ} → entire_book book 0 ≡ refused n p → KeptOutside 0 1091 f g →
-    Checks book f g (Verdict.Refused n p)
+-- of an outcome whose number is a fault's
+pub says_case : (o : Outcome) (r : Verdict) → refusal_of (verdict o) ≡ outcome_refusal o → r ≡ verdict o → Says o r
+says_case (Outcome.book b) r n e = record { refusal = ap refusal_of e; place = ap place_of e; case = e }
+says_case (Outcome.refusal number place) r n e =
+    record { refusal = ap refusal_of e ∙ n; place = ap place_of e; case = e }
+
+pub says_refused : (d : Refusal) {o : Outcome} → o ≡ Outcome.refusal (fault_number d.fault) d.place → Says o (Err d)
+says_refused d e = rw e (says_case _ _ (ap fault_number (fault_back d.fault)) (rw (fault_back d.fault)))
+
+pub says_book : {b : Book} {o : Outcome} → o ≡ Outcome.book b → Says o (Ok tt)
+says_book e = rw e (says_case _ _ refl refl)
+
+refused_checks : (book f g : List ℕ) (d : Refusal) → entire_book book 0 ≡ refused_as d → KeptOutside 0 1091 f g →
+    Checks book f g (Err d)
 unfolding check_book
-refused_checks book f g w k =
-    record { says = says_case _ _ (rw w); gives = λ e. let z : ◌≡◌ {A = ℕ} 0 1 = cc in absurd (omega arith); kept = k }
+refused_checks book f g d w k =
+    record {
+      says = says_refused d (rw w);
+      gives = λ e. let z : ◌≡◌ {A = ℕ} 0 1 = cc in absurd (omega arith);
+      kept = k;
+    }
 
 module _ (book f g : List ℕ) (part : Part) (s : SectionsRead book f g part) where
   -- the sections are refused
-  pub checks_sections : {n p : ℕ} → part ≡ Part.Refused n p → Checks book f g (Verdict.Refused n p)
-  checks_sections told = refused_checks book f g (entire_is book ∙ s.reads (rest book) ∙ rw told) s.kept
+  pub checks_sections : {d : Refusal} → part ≡ Err d → Checks book f g (Err d)
+  checks_sections {d} told = refused_checks book f g d (entire_is book ∙ s.reads (rest book) ∙ rw told) s.kept
 
-  module _ (v next : ℕ) (told : part ≡ Part.Read v next) (passed : Part)
-      (p_is : all_pass (book_in book g).steps (placed_in book g) book next ≡ reading_of passed (λ v. tt)) where
+  module _ (r : Read) (told : part ≡ Ok r) (passed : Verdict)
+      (p_is : (next : ℕ) → all_pass (book_in book g).steps (placed_in book g) book next ≡ passed_of passed next) where
     the_rest : entire_book book 0 ≡ rest book (entries_in book g 0) (entries_in book g 129) (nonterminals_in book g)
-        (placed_in book g) (steps_in book g) next
+        (placed_in book g) (steps_in book g) r.next
     the_rest = entire_is book ∙ s.reads (rest book) ∙ follow_read part _ told
 
     steps_are : (book_in book g).steps ≡ steps_in book g
     unfolding book_in
     steps_are = refl
 
-    pass_is : all_pass (steps_in book g) (placed_in book g) book next ≡ reading_of passed (λ v. tt)
-    pass_is = rw steps_are at p_is
+    pass_is : all_pass (steps_in book g) (placed_in book g) book r.next ≡ passed_of passed r.next
+    pass_is = rw steps_are at (p_is r.next)
 
     -- a variant doesn't pass
-    pub checks_passing : {n p : ℕ} → passed ≡ Part.Refused n p → Checks book f g (Verdict.Refused n p)
-    checks_passing told' = refused_checks book f g (the_rest ∙ rw (pass_is, told')) s.kept
+    pub checks_passing : {d : Refusal} → passed ≡ Err d → Checks book f g (Err d)
+    checks_passing {d} told' = refused_checks book f g d (the_rest ∙ rw (pass_is, told')) s.kept
 
-    module _ (v' last : ℕ) (told' : passed ≡ Part.Read v' last) where
+    module _ (told' : passed ≡ Ok tt) where
       -- bytes are left over
-      pub checks_over : last < length book → Checks book f g (Verdict.Refused 8 last)
+      pub checks_over : r.next < length book →
+          Checks book f g (Err (record { fault = Fault.BytesLeftOver; place = r.next }))
       unfolding ended
-      checks_over h = refused_checks book f g (the_rest ∙ rw (pass_is, told', lt-ltb last (length book) h)) s.kept
+      checks_over h = refused_checks book f g _ (the_rest ∙ rw (pass_is, told', lt-ltb r.next (length book) h)) s.kept
 
       abbrev gathered : Book
       gathered = record {
@@ -152,12 +181,12 @@ module _ (book f g : List ℕ) (part : Part) (s : SectionsRead book f g part) wh
       unfolding book_in
       the_book = rw (map_up_to (λ v. v.1) (placed_from book g) (count_in g 323))
 
-      pub checks_accepted : length book ≤ last → Checks book f g Verdict.Accepted
+      pub checks_accepted : length book ≤ r.next → Checks book f g (Ok tt)
       unfolding ended check_book
       checks_accepted h =
-          let w : entire_book book 0 ≡ accepted gathered last =
-          the_rest ∙ rw (pass_is, told', le-ltb last (length book) h) in
-          record { says = says_case _ _ (rw w); gives = λ e. rw w (ap Outcome.book the_book); kept = s.kept }
+          let w : entire_book book 0 ≡ accepted gathered r.next =
+          the_rest ∙ rw (pass_is, told', le-ltb r.next (length book) h) in
+          record { says = says_book {b = gathered} (rw w); gives = λ e. rw w (ap Outcome.book the_book); kept = s.kept }
 
 -- ---- One variant
 module _ (steps : List Step) (v w : Variant) (same_variant : v ≡ w) where
@@ -183,10 +212,11 @@ module _ (book f g : List ℕ) (r : Verdict) where
         short = λ l. absurd (omega arith);
       }
 
-pub into_short : (book f : List ℕ) → length f < 1091 → CheckedInto book f f (Verdict.Refused 1 0)
+pub into_short : (book f : List ℕ) → length f < 1091 →
+    CheckedInto book f f (Err (record { fault = Fault.ShortIndex; place = 0 }))
 into_short book f h =
     record {
-      says = says_case _ _ (rw (lt-ltb (length f) 1091 h));
+      says = says_refused _ (rw (lt-ltb (length f) 1091 h));
       gives = λ e. let z : ◌≡◌ {A = ℕ} 0 1 = cc in absurd (omega arith);
       beyond = λ k l. refl;
       short = λ l. refl;

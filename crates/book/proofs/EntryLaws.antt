@@ -2,7 +2,7 @@
 --
 --   bytes_from, Begun, begun-     the loop over a spelling's bytes: what has been read, and what is read from here
 --   spelling-, entry-            where the reading of each stops, and what it reads
-use Rattle.std.specs.Prelude.{◌≡◌, Bool, List, [], ◌∷◌, ◌++◌, ℕ, ◌+◌, ◌-◌, ◌≤◌, ◌<◌, ltb, length, get_or, drop}
+use Rattle.std.specs.Prelude.{◌≡◌, Ok, Err, Bool, List, [], ◌∷◌, ◌++◌, ℕ, ◌+◌, ◌-◌, ◌≤◌, ◌<◌, ltb, length, get_or, drop}
 use Rattle.std.proofs.Math.Path.{refl}
 use Rattle.std.proofs.Common.{sym, ◌∙◌, add-one, length-drop, take-suc, get_or-drop, ltb-true, ltb-false}
 use native.Mathlib.Omega.{arith}
@@ -10,11 +10,10 @@ use Rattle.characters.specs.Cases.{by_test}
 use Rattle.characters.specs.Classes.{between}
 use Rattle.characters.specs.Spelling.{part_of}
 use Rattle.book.specs.Check.{Checked, refused, accepted, checked, records, shaped, spelling, entry}
-use Rattle.book.specs.Index.{reading_of, Valued, One}
+use Rattle.book.specs.Index.{Part, reading_of, Valued, One}
 use Rattle.book.proofs.ReaderLaws.{checked_short, checked_told, after, records_begins, records_refused}
 use Rattle.book.proofs.ReaderLaws.{records_on, records_ends}
 use Rattle.book.proofs.RecordLaws.{Byte, one_refused}
-use Rattle.book.specs.declared.parts.Part.{Part}
 use Rattle.book.specs.declared.sections.Sort.{Sort}
 
 -- ---- The bytes of a spelling whose length stands at `at`
@@ -98,9 +97,9 @@ module _ (book : List ℕ) (place greatest : ℕ) where
       spelling book next ≡ reading_of part (λ v. part_of book (next + 1) (get_or book next 0)) → Valued part 0 →
       (binder : Bool) → One (Sort.Entry greatest) binder book place part
   unfolding entry
-  entry_read label next (Part.Refused n p) l e h binder =
-      one_refused (Sort.Entry greatest) binder book place (Part.Refused n p) refl (λ first. rw l (rw e))
-  entry_read label next (Part.Read v last) l e h binder =
+  entry_read label next (Err d) l e h binder =
+      one_refused (Sort.Entry greatest) binder book place (Err d) refl (λ first. rw l (rw e))
+  entry_read label next (Ok r) l e h binder =
       let told = checked_told (between 0 greatest) 6 place book place label next l in
       let second : next ≡ place + 1 = told.next in
       let third : next + 1 ≡ place + 2 = omega arith in

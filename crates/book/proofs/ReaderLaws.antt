@@ -8,7 +8,7 @@
 --   after, records-, total_snoc         records, of which some have been read
 --
 -- Not here: the records themselves (RecordLaws, EntryLaws), and records with their index (SectionLaws).
-use Rattle.std.specs.Prelude.{◌≡◌, refl, Bool, true, false, cond, leb, ltb, eqb, length, get_or}
+use Rattle.std.specs.Prelude.{◌≡◌, refl, Result, Ok, Err, IsErrAnd, Bool, true, false, leb, ltb, length, get_or}
 use Rattle.std.proofs.Common.{sym, ap, ◌∙◌, lt-ltb, le-ltb, le-leb, leb-true, ltb-true, ltb-false, eqb-true}
 use Rattle.std.proofs.Math.Path.{fun_ext}
 use Rattle.std.proofs.Math.Bool.{and-false}
@@ -16,12 +16,15 @@ use mathlib.Core.List.{List, [], ◌∷◌, ◌++◌, append-nil, append_assoc}
 use Prim.Native.Nat.{ℕ, suc, ◌+◌, ◌-◌, ◌≤◌, ◌<◌}
 use native.Mathlib.Omega.{arith}
 use Rattle.std.proofs.Math.Nat.{sub-zero}
-use Rattle.std.proofs.lemmas.Bool.{lt-leb, eqb-false}
+use Rattle.std.proofs.lemmas.Bool.{lt-leb}
 use Rattle.characters.specs.Cases.{by_test, clash}
 use Rattle.characters.specs.Classes.{between}
 use Rattle.book.specs.Check.{Checked, refused, accepted, and_then, Reader, checked, records, fixed, total}
-use Rattle.book.specs.Index.{reading_of, Valued, Small}
-use Rattle.book.specs.declared.parts.Part.{Part}
+use Rattle.book.specs.Index.{Part, refused_as, reading_of, Valued, Small}
+use Rattle.book.specs.declared.parts.Read.{Read}
+use Rattle.book.specs.declared.refusals.Refusal.{Refusal}
+use Rattle.std.specs.Prelude.{cond, eqb}
+use Rattle.std.proofs.lemmas.Bool.{eqb-false}
 
 -- ---- Ranges
 pub between_inside : (low high b : ℕ) → low ≤ b → b ≤ high → between low high b ≡ true
@@ -126,33 +129,38 @@ fixed_most false n high most b h k e = omega (arith, between_high 0 high b e)
 
 -- ---- What follows a part
 module _ {A : Type 0} (c : Checked A) (part : Part) (f : ℕ → A) (e : c ≡ reading_of part f) where
-  pub read : {v q : ℕ} → part ≡ Part.Read v q → c ≡ accepted (f v) q
+  pub read : {r : Read} → part ≡ Ok r → c ≡ accepted (f r.value) r.next
   read told = e ∙ ap (λ (p : Part). reading_of p f) told
 
-  pub stopped : {n p : ℕ} → part ≡ Part.Refused n p → c ≡ refused n p
+  pub stopped : {d : Refusal} → part ≡ Err d → c ≡ refused_as d
   stopped told = e ∙ ap (λ (p : Part). reading_of p f) told
 
   -- a refusal is handed on
-  pub stop : {B : Type 0} (K : A → ℕ → Checked B) (g : ℕ → B) {n p : ℕ} → part ≡ Part.Refused n p →
+  pub stop : {B : Type 0} (K : A → ℕ → Checked B) (g : ℕ → B) {d : Refusal} → part ≡ Err d →
       and_then c K ≡ reading_of part g
   stop K g told = rw (stopped told, told)
 
+-- a `?` returns the refusal that it was given
+pub passed_up : {A : Type 0} {result : Result A Refusal} {d : Refusal} → IsErrAnd result (λ e. e ≡ d) → result ≡ Err d
+passed_up {result = Ok x} h = absurd h
+passed_up {result = Err e} h = ap Err h
+
 -- a refusal as a part says it
-pub handed : {A : Type 0} {c : Checked A} {part : Part} (g : ℕ → A) {n p : ℕ} → c ≡ refused n p →
-    part ≡ Part.Refused n p → c ≡ reading_of part g
+pub handed : {A : Type 0} {c : Checked A} {part : Part} (g : ℕ → A) {d : Refusal} → c ≡ refused_as d →
+    part ≡ Err d → c ≡ reading_of part g
 handed g e told = e ∙ sym (ap (λ (x : Part). reading_of x g) told)
 
 -- a part that was refused has no value
-pub no_value : {part : Part} {n p : ℕ} → part ≡ Part.Refused n p → (k : ℕ) → Valued part k
+pub no_value : {part : Part} {d : Refusal} → part ≡ Err d → (k : ℕ) → Valued part k
 no_value told k = rw told tt
 
-pub no_size : {part : Part} {n p : ℕ} → part ≡ Part.Refused n p → Small part
+pub no_size : {part : Part} {d : Refusal} → part ≡ Err d → Small part
 no_size told = rw told tt
 
-pub small_of : {part : Part} {v q : ℕ} → part ≡ Part.Read v q → Small part → v ≤ 255
+pub small_of : {part : Part} {r : Read} → part ≡ Ok r → Small part → r.value ≤ 255
 small_of told h = rw told at h
 
-pub value_of : {part : Part} {v q : ℕ} → part ≡ Part.Read v q → (k : ℕ) → Valued part k → v ≡ k
+pub value_of : {part : Part} {r : Read} → part ≡ Ok r → (k : ℕ) → Valued part k → r.value ≡ k
 value_of told k h = rw told at h
 
 -- ---- Records. `before` has been read; what is left is read from here

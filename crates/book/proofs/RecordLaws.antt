@@ -5,7 +5,8 @@
 --   past, Known, allowed_known, -refused     what the dispatch over the kinds of steps tells
 --
 -- Not here: words and names (EntryLaws).
-use Rattle.std.specs.Prelude.{◌≡◌, Bool, true, false, cond, List, ℕ, ◌+◌, ◌-◌, ◌≤◌, leb, ltb, eqb, length}
+use Rattle.std.specs.Prelude.{◌≡◌, Some, None, Ok, Err, Bool, true, false, cond, List, ℕ, ◌+◌, ◌-◌, ◌≤◌, leb, ltb}
+use Rattle.std.specs.Prelude.{eqb, length}
 use Rattle.std.proofs.Math.Path.{refl}
 use Rattle.std.proofs.Common.{sym, ap, ◌∙◌, arith, le-ltb, eqb-true, leb-true, leb-false, ltb-true, ltb-false}
 use Rattle.std.proofs.Math.ListN.{get_or}
@@ -14,22 +15,22 @@ use Rattle.characters.specs.Cases.{by_test, clash}
 use Rattle.characters.specs.Classes.{between}
 use Rattle.book.specs.Check.{Checked, refused, accepted, checked, fixed, nonterminal, variant, step, argument}
 use Rattle.book.specs.Check.{delimiter}
-use Rattle.book.specs.Index.{reading_of, One, one_of, record_from, below_range, argument_range, delimiter_range}
+use Rattle.book.specs.Index.{Part, refused_as, reading_of, One, one_of, record_from, below_range, argument_range}
+use Rattle.book.specs.Index.{delimiter_range}
 use Rattle.book.specs.Index.{allowed}
 use Rattle.book.proofs.ReaderLaws.{between_inside, between_under, between_over, ByteRead}
 use Rattle.book.proofs.ReaderLaws.{checked_short, checked_bad, checked_good, checked_told, same_test, fixed_most}
 use Rattle.book.proofs.ReaderLaws.{no_value, no_size}
 use Rattle.book.specs.Numbers.{last_mark}
-use Rattle.book.specs.declared.parts.Part.{Part}
+use Rattle.book.specs.declared.refusals.Refusal.{Refusal}
 use Rattle.book.specs.declared.sections.Sort.{Sort}
-use Rattle.book.specs.declared.sections.Range.{Range}
-use Rattle.book.specs.declared.sections.Allowed.{Allowed}
+use Rattle.book.specs.declared.ranges.Range.{Range}
 use Rattle.book.specs.declared.records.Step.{Step}
 
 -- a record that is refused
-pub one_refused : (sort : Sort) (binder : Bool) (book : List ℕ) (at : ℕ) (part : Part) {n p : ℕ} →
-    part ≡ Part.Refused n p →
-    ((first : ℕ) → one_of sort binder first book at ≡ refused n p) → One sort binder book at part
+pub one_refused : (sort : Sort) (binder : Bool) (book : List ℕ) (at : ℕ) (part : Part) {d : Refusal} →
+    part ≡ Err d →
+    ((first : ℕ) → one_of sort binder first book at ≡ refused_as d) → One sort binder book at part
 one_refused sort binder book at part told h = record {
   reads = λ first. h first ∙ sym (ap (λ (x : Part). reading_of x (λ v. record_from sort book at first)) told);
   valued = λ first. no_value told _;
@@ -52,19 +53,19 @@ module _ (book : List ℕ) (place : ℕ) where
       Byte (fixed (eqb mark 3) 1 (between 0 most)) book next (reading_of part (λ v. v)) →
       (binder : Bool) → One Sort.Nonterminal binder book place part
   unfolding nonterminal
-  nonterminal_read mark next most (Part.Refused n p) m most_is e binder =
-      one_refused Sort.Nonterminal binder book place (Part.Refused n p) refl (λ first. rw m (rw (rw most_is at e)))
-  nonterminal_read mark next most (Part.Read number last) m most_is e binder =
+  nonterminal_read mark next most (Err d) m most_is e binder =
+      one_refused Sort.Nonterminal binder book place (Err d) refl (λ first. rw m (rw (rw most_is at e)))
+  nonterminal_read mark next most (Ok r) m most_is e binder =
       let few : most ≤ 16 =
       by_test (eqb mark 2) (λ t. rw (most_is, t) (omega arith)) (λ t. rw (most_is, t) (omega arith)) in
       let mark_told = checked_told (between 0 last_mark) 6 place book place mark next m in
-      let told = checked_told (fixed (eqb mark 3) 1 (between 0 most)) 6 next book next number last e in
+      let told = checked_told (fixed (eqb mark 3) 1 (between 0 most)) 6 next book next r.value r.next e in
       let next_is = mark_told.next in
-      let number_is : number ≡ get_or book (place + 1) 0 = rw next_is at told.value in
+      let number_is : r.value ≡ get_or book (place + 1) 0 = rw next_is at told.value in
       record {
         reads = λ first. rw m (rw (rw most_is at e) (rw (mark_told.value, number_is)));
         valued = λ first. number_is;
-        small = fixed_most (eqb mark 3) 1 most 255 number (omega arith) (omega arith) told.fitted;
+        small = fixed_most (eqb mark 3) 1 most 255 r.value (omega arith) (omega arith) told.fitted;
       }
 
 -- ---- Variants
@@ -96,24 +97,24 @@ module _ (binders binder : Bool) (book : List ℕ) (place : ℕ) where
           Byte (fixed binder 1 (between 0 8)) book number_at (reading_of part (λ v. v)) →
           One (Sort.Variant binders) binder book place part
       unfolding variant
-      variant_read flags number_at (Part.Refused n p) f e =
-          one_refused (Sort.Variant binders) binder book place (Part.Refused n p) refl
+      variant_read flags number_at (Err d) f e =
+          one_refused (Sort.Variant binders) binder book place (Err d) refl
           (λ first. rw l (rw (rw least_is at a) (rw f (rw e))))
-      variant_read flags number_at (Part.Read number last) f e =
+      variant_read flags number_at (Ok r) f e =
           let lt = checked_told (fixed binder 255 (between 0 255)) 6 place book place level next l in
           let at = checked_told (between least 3) 6 next book next associativity flags_at a in
           let ft = checked_told (fixed binder 1 (between 0 3)) 6 flags_at book flags_at flags number_at f in
-          let nt = checked_told (fixed binder 1 (between 0 8)) 6 number_at book number_at number last e in
+          let nt = checked_told (fixed binder 1 (between 0 8)) 6 number_at book number_at r.value r.next e in
           let second : next ≡ place + 1 = lt.next in
           let third : flags_at ≡ place + 2 = omega (arith, at.next) in
           let fourth : number_at ≡ place + 3 = omega (arith, ft.next) in
           let a_is : associativity ≡ get_or book (place + 1) 0 = rw second at at.value in
           let f_is : flags ≡ get_or book (place + 2) 0 = rw third at ft.value in
-          let n_is : number ≡ get_or book (place + 3) 0 = rw fourth at nt.value in
+          let n_is : r.value ≡ get_or book (place + 3) 0 = rw fourth at nt.value in
           record {
             reads = λ first. rw l (rw (rw least_is at a) (rw f (rw e (rw (lt.value, a_is, f_is, n_is)))));
             valued = λ first. n_is;
-            small = fixed_most binder 1 8 255 number (omega arith) (omega arith) nt.fitted;
+            small = fixed_most binder 1 8 255 r.value (omega arith) (omega arith) nt.fitted;
           }
 
 -- ---- Steps
@@ -166,16 +167,17 @@ pub record Known (words nonterminals : ℕ) (binder : Bool) (kind : ℕ) (a d : 
 
 module _ (words nonterminals : ℕ) (binder : Bool) (kind : ℕ) where
   allowed_in_range : kind_fits binder kind ≡ true → allowed words nonterminals binder kind
-      ≡ Allowed.Ranges (argument_range words nonterminals kind) (delimiter_range kind)
+      ≡ Some (argument_range words nonterminals kind, delimiter_range kind)
   allowed_in_range t = rw t
 
-  pub allowed_known : (a d : Range) → Allowed.Ranges a d ≡ allowed words nonterminals binder kind →
+  pub allowed_known : (a d : Range) → Some (a, d) ≡ allowed words nonterminals binder kind →
       Known words nonterminals binder kind a d
   allowed_known a d e =
       by_test (kind_fits binder kind)
       (λ t. let f = allowed_in_range t in
-      let a_is : a ≡ argument_range words nonterminals kind = cc in
-      let d_is : d ≡ delimiter_range kind = cc in
+      let both : ◌≡◌ {A = Range × Range} (a, d) (argument_range words nonterminals kind, delimiter_range kind) = cc in
+      let a_is : a ≡ argument_range words nonterminals kind = ap (λ (p : Range × Range). p.0) both in
+      let d_is : d ≡ delimiter_range kind = ap (λ (p : Range × Range). p.1) both in
       record {
         in_range = t;
         argument_is =
@@ -183,10 +185,10 @@ module _ (words nonterminals : ℕ) (binder : Bool) (kind : ℕ) where
         delimiter_is = λ b. ap (λ (r : Range). between r.low r.high b) d_is ∙ delimiter_fits kind b;
       })
       (λ t.
-      let f : allowed words nonterminals binder kind ≡ Allowed.Refused = rw t in
+      let f : allowed words nonterminals binder kind ≡ None = rw t in
       let z : ◌≡◌ {A = ℕ} 0 1 = cc in absurd (omega arith))
 
-  pub allowed_refused : Allowed.Refused ≡ allowed words nonterminals binder kind → kind_fits binder kind ≡ false
+  pub allowed_refused : None ≡ allowed words nonterminals binder kind → kind_fits binder kind ≡ false
   allowed_refused e =
       by_test (kind_fits binder kind)
       (λ t. let f = allowed_in_range t in let z : ◌≡◌ {A = ℕ} 0 1 = cc in absurd (omega arith))
@@ -274,7 +276,7 @@ module _ (words nonterminals : ℕ) (binders binder : Bool) (book : List ℕ) (p
               (rw (argument_byte next ea) (rw (delimiter_byte second_at eb) (rw (delimiter_byte third_at e))))
 
           pub step_read : (z last : ℕ) → Delimiter third_at (accepted z last) →
-              One (Sort.Step words nonterminals binders) binder book place (Part.Read 0 last)
+              One (Sort.Step words nonterminals binders) binder book place (Ok (record { value = 0; next = last }))
           unfolding step
           step_read z last e =
               let kt = kind_told binder book place kind next k in

@@ -7,18 +7,21 @@
 --   section-, count_fits  a section: its count and its records
 --
 -- Not here: sections one after the other (WholeLaws).
-use Rattle.std.specs.Prelude.{◌≡◌, Bool, false, ◌&&◌, List, [], ◌∷◌, ◌++◌, ℕ, zero, suc, ◌+◌, ◌-◌, ◌*◌, ◌≤◌, ◌<◌}
+use Rattle.std.specs.Prelude.{◌≡◌, Ok, Err, Bool, false, ◌&&◌, List, [], ◌∷◌, ◌++◌, ℕ, zero, suc, ◌+◌, ◌-◌, ◌*◌, ◌≤◌}
+use Rattle.std.specs.Prelude.{◌<◌}
 use Rattle.std.specs.Prelude.{length, get_or, set}
 use Rattle.std.proofs.Math.Path.{refl, fun_ext}
 use Rattle.std.proofs.Common.{sym, ap, ◌∙◌, arith, add-one, length-set, get_or-set_same, get_or-set_other}
 use Rattle.characters.specs.Classes.{between}
-use Rattle.book.specs.Check.{refused, accepted, checked, records, of_binder, first_step, total}
-use Rattle.book.specs.Index.{KeptOutside, One, RecordsRead, Few, Section, one_of, size_of, record_from, records_in}
+use Rattle.book.specs.Check.{accepted, checked, records, of_binder, first_step, total}
+use Rattle.book.specs.Index.{Part, refused_as, KeptOutside, One, RecordsRead, Few, Section, one_of, size_of}
+use Rattle.book.specs.Index.{record_from, records_in}
 use Rattle.book.specs.Index.{up_to, count_in, place_in, first_in, nonterminals_in, binder_in, each_of, Before}
 use Rattle.book.proofs.ReaderLaws.{between_high, checked_told, after}
 use Rattle.book.proofs.ReaderLaws.{records_begins, records_refused, records_on, records_ends}
 use Rattle.book.proofs.ReaderLaws.{read, stopped, handed, no_value, value_of, total_snoc}
-use Rattle.book.specs.declared.parts.Part.{Part}
+use Rattle.book.specs.declared.parts.Read.{Read}
+use Rattle.book.specs.declared.refusals.Refusal.{Refusal}
 use Rattle.book.specs.declared.sections.Sort.{Sort}
 use Rattle.book.specs.declared.records.Variant.{Variant}
 
@@ -143,13 +146,13 @@ module _ (sort : Sort) (book : List ℕ) (place count base : ℕ) (f : List ℕ)
     own : binder_in sort book g' i ≡ binder_in sort book f i
     own = binder_stays book base f g' (λ k l. kept_so.below k (omega arith)) sort told_before i
 
-    pub begun_on : (part : Part) (value next : ℕ) → One sort (binder_in sort book g' i) book at part →
-        part ≡ Part.Read value next → Begun sort book place count base f g' (i + 1) next (sum + value)
-    begun_on part value next o told =
+    pub begun_on : (part : Part) {r : Read} → One sort (binder_in sort book g' i) book at part →
+        part ≡ Ok r → Begun sort book place count base f g' (i + 1) r.next (sum + r.value)
+    begun_on part {r} o told =
         let x = record_from sort book at sum in
-        let e : each_of sort book f i sum book at ≡ accepted x next =
+        let e : each_of sort book f i sum book at ≡ accepted x r.next =
         rw (← own) (read (each_of sort book g' i sum book at) part (λ v. x) (o.reads sum) told) in
-        let v : value ≡ size_of sort x = value_of told (size_of sort x) (o.valued sum) in
+        let v : r.value ≡ size_of sort x = value_of told (size_of sort x) (o.valued sum) in
         record {
           reads = rw (one_more, v)
               (sym (records_on (size_of sort) (each_of sort book f) book (records_in sort book g base i) count i sum at
@@ -159,8 +162,8 @@ module _ (sort : Sort) (book : List ℕ) (place count base : ℕ) (f : List ℕ)
           kept = kept_so;
         }
 
-    pub begun_stop : (part : Part) {n p : ℕ} → One sort (binder_in sort book g' i) book at part →
-        part ≡ Part.Refused n p → RecordsRead sort book place count base f g' part
+    pub begun_stop : (part : Part) {d : Refusal} → One sort (binder_in sort book g' i) book at part →
+        part ≡ Err d → RecordsRead sort book place count base f g' part
     begun_stop part o told =
         let x = record_from sort book at sum in
         let e = rw own at (stopped (each_of sort book g' i sum book at) part (λ v. x) (o.reads sum) told) in
@@ -173,7 +176,7 @@ module _ (sort : Sort) (book : List ℕ) (place count base : ℕ) (f : List ℕ)
         }
 
   pub begun_last : (g : List ℕ) (i at sum : ℕ) → i ≤ count → count ≤ i → Begun sort book place count base f g i at sum →
-      RecordsRead sort book place count base f g (Part.Read sum at)
+      RecordsRead sort book place count base f g (Ok (record { value = sum; next = at }))
   begun_last g i at sum h k b =
       let all : i ≡ count = omega arith in
       record {
@@ -185,12 +188,12 @@ module _ (sort : Sort) (book : List ℕ) (place count base : ℕ) (f : List ℕ)
       }
 
 -- ---- Sections
-pub not_few : {part : Part} {n p : ℕ} (k high : ℕ) → part ≡ Part.Refused n p → Few part k high
+pub not_few : {part : Part} {d : Refusal} (k high : ℕ) → part ≡ Err d → Few part k high
 not_few k high told = rw told tt
 
-few_of : (part : Part) {k high : ℕ} → k ≤ high → Few part k high
-few_of (Part.Read value next) h = h
-few_of (Part.Refused number place) h = tt
+pub few_of : (part : Part) {k high : ℕ} → k ≤ high → Few part k high
+few_of (Ok r) h = h
+few_of (Err d) h = tt
 
 pub stored_by : (f g h : List ℕ) (s a b : ℕ) → s + 1 < length f → g ≡ set f s a → h ≡ set g (s + 1) b → Stored f h s a b
 stored_by f g h s a b l e k =
@@ -198,7 +201,7 @@ stored_by f g h s a b l e k =
     rw whole (stored f s a b l)
 
 module _ (sort : Sort) (fits : ℕ → Bool) (book : List ℕ) (place high base : ℕ) (f : List ℕ) where
-  pub section_stop : (part : Part) {n p : ℕ} → checked fits 4 place book place ≡ refused n p → part ≡ Part.Refused n p →
+  pub section_stop : (part : Part) {d : Refusal} → checked fits 4 place book place ≡ refused_as d → part ≡ Err d →
       Section sort fits book place high base f f part
   section_stop part e told =
       record {

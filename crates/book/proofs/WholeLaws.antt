@@ -8,26 +8,30 @@
 --   sections-                            all five
 --
 -- Not here: what comes after them (EndLaws).
-use Rattle.std.specs.Prelude.{◌≡◌, Bool, false, ◌&&◌, List, ℕ, ◌+◌, ◌*◌, ◌≤◌, ◌<◌, leb, eqb, length, get_or}
-use Rattle.std.proofs.Common.{sym, ap, ◌∙◌, arith, eq-eqb, ne_eqb, eqb-true, leb-true, leb-false}
+use Rattle.std.specs.Prelude.{◌≡◌, Ok, Err, Bool, false, ◌&&◌, List, ℕ, ◌+◌, ◌*◌, ◌≤◌, eqb, length, get_or}
+use Rattle.std.proofs.Common.{sym, ap, ◌∙◌, arith, eq-eqb, ne_eqb, eqb-true}
 use Rattle.std.proofs.Math.Path.{fun_ext}
-use Rattle.std.proofs.Math.Bool.{and-false}
 use Rattle.std.proofs.lemmas.Bool.{eqb-false}
 use Rattle.characters.specs.Cases.{by_test}
 use Rattle.characters.specs.Classes.{between}
 use Rattle.book.specs.Book.{Entry, Book}
 use Rattle.book.specs.Check.{Checked, and_then, checked, records, section, placed, entry, nonterminal, variant}
 use Rattle.book.specs.Check.{of_binder, first_step, step, total, variants_fit}
-use Rattle.book.specs.Index.{reading_of, Few, KeptOutside, Section, size_of, each_of, count_in, entries_in}
+use Rattle.book.specs.Index.{Part, reading_of, Few, KeptOutside, Section, size_of, each_of, count_in, entries_in}
 use Rattle.book.specs.Index.{nonterminals_in, placed_in, steps_in, has_binder, followed, HeadsRead, SectionsRead}
-use Rattle.book.proofs.ReaderLaws.{between_inside, between_under, between_over, between_one, no_value, value_of}
-use Rattle.book.proofs.SectionLaws.{count_stays, records_stay, not_few}
+use Rattle.book.proofs.ReaderLaws.{no_value, value_of}
+use Rattle.book.proofs.SectionLaws.{count_stays, records_stay, not_few, few_of}
 use Rattle.book.proofs.ReadingLaws.{up_to_length}
 use Rattle.book.proofs.BinderLaws.{among_any}
 use Rattle.book.specs.declared.binders.Sought.{Sought}
-use Rattle.book.specs.declared.parts.Part.{Part}
+use Rattle.book.specs.declared.parts.Read.{Read}
+use Rattle.book.specs.declared.refusals.Refusal.{Refusal}
 use Rattle.book.specs.declared.sections.Sort.{Sort}
 use Rattle.book.specs.declared.records.Nonterminal.{Nonterminal}
+use Rattle.std.specs.Prelude.{◌<◌, leb}
+use Rattle.std.proofs.Common.{leb-true, leb-false}
+use Rattle.std.proofs.Math.Bool.{and-false}
+use Rattle.book.proofs.ReaderLaws.{between_inside, between_under, between_over, between_one}
 
 -- ---- Frames
 pub kept_join : (a b c d low high : ℕ) (f g h : List ℕ) → low ≤ a → low ≤ c → b ≤ high → d ≤ high →
@@ -45,27 +49,23 @@ kept_wider a b low high f g la bh k =
 -- ---- What follows a part
 pub follow : {A : Type 0} (c : Checked A) (part : Part) (x : A) (K : A → ℕ → Checked Book) →
     c ≡ reading_of part (λ v. x) → and_then c K ≡ followed part (K x)
-follow c (Part.Read value next) x K e = rw e
-follow c (Part.Refused number place) x K e = rw e
+follow c (Ok r) x K e = rw e
+follow c (Err d) x K e = rw e
 
-pub follow_read : (part : Part) (K : ℕ → Checked Book) {v q : ℕ} → part ≡ Part.Read v q → followed part K ≡ K q
+pub follow_read : (part : Part) (K : ℕ → Checked Book) {r : Read} → part ≡ Ok r → followed part K ≡ K r.next
 follow_read part K told = ap (λ (p : Part). followed p K) told
 
-pub follow_refused : (part : Part) (K L : ℕ → Checked Book) {n p : ℕ} → part ≡ Part.Refused n p →
+pub follow_refused : (part : Part) (K L : ℕ → Checked Book) {d : Refusal} → part ≡ Err d →
     followed part K ≡ followed part L
 follow_refused part K L told = rw told
 
-pub few_read : {part : Part} {v q : ℕ} (k high : ℕ) → part ≡ Part.Read v q → Few part k high → k ≤ high
+pub few_read : {part : Part} {r : Read} (k high : ℕ) → part ≡ Ok r → Few part k high → k ≤ high
 few_read k high told h = rw told at h
-
-few_all : (part : Part) {k high : ℕ} → k ≤ high → Few part k high
-few_all (Part.Read value next) h = h
-few_all (Part.Refused number place) h = tt
 
 -- ---- Words, names, nonterminals
 module _ (book f g : List ℕ) (part : Part) (s : Section (Sort.Entry 1) (between 0 64) book 0 64 0 f g part) where
   -- the words are refused
-  pub heads_words : {n p : ℕ} → part ≡ Part.Refused n p → HeadsRead book f g part
+  pub heads_words : {d : Refusal} → part ≡ Err d → HeadsRead book f g part
   heads_words told =
       record {
         reads = λ K.
@@ -78,21 +78,21 @@ module _ (book f g : List ℕ) (part : Part) (s : Section (Sort.Entry 1) (betwee
         kept = kept_wider 0 129 0 323 f g (omega arith) (omega arith) s.kept;
       }
 
-  module _ (v p : ℕ) (told : part ≡ Part.Read v p) (h : List ℕ) (part' : Part)
-      (s' : Section (Sort.Entry 7) (between 0 64) book p 64 129 g h part') where
+  module _ (r : Read) (told : part ≡ Ok r) (h : List ℕ) (part' : Part)
+      (s' : Section (Sort.Entry 7) (between 0 64) book r.next 64 129 g h part') where
     words_few : count_in g 0 ≤ 64
     words_few = few_read _ _ told s.few
 
     words_then : (K : List Entry → ℕ → Checked Book) →
-        and_then (section (between 0 64) (λ w. 0) (λ i first. entry 1) book 0) K ≡ K (entries_in book g 0) p
+        and_then (section (between 0 64) (λ w. 0) (λ i first. entry 1) book 0) K ≡ K (entries_in book g 0) r.next
     words_then K =
         follow (section (between 0 64) (λ w. 0) (λ i first. entry 1) book 0) part (entries_in book g 0) K s.reads
         ∙ follow_read part (K (entries_in book g 0)) told
 
-    pub heads_names : {n q : ℕ} → part' ≡ Part.Refused n q → HeadsRead book f h part'
+    pub heads_names : {d : Refusal} → part' ≡ Err d → HeadsRead book f h part'
     heads_names told' =
         record {
-          reads = λ K. words_then _ ∙ follow (section (between 0 64) (λ w. 0) (λ i first. entry 7) book p) part'
+          reads = λ K. words_then _ ∙ follow (section (between 0 64) (λ w. 0) (λ i first. entry 7) book r.next) part'
               (entries_in book h 129) _ s'.reads ∙ follow_refused part' _ _ told';
           valued = no_value told' _;
           few_words = not_few _ _ told';
@@ -102,9 +102,9 @@ module _ (book f g : List ℕ) (part : Part) (s : Section (Sort.Entry 1) (betwee
               (omega arith) s.kept s'.kept;
         }
 
-    pub heads_all : (v' q : ℕ) → part' ≡ Part.Read v' q → (i : List ℕ) (last : Part) →
-        Section Sort.Nonterminal (between 1 32) book q 32 258 h i last → HeadsRead book f i last
-    heads_all v' q told' i last s'' =
+    pub heads_all : (r' : Read) → part' ≡ Ok r' → (i : List ℕ) (last : Part) →
+        Section Sort.Nonterminal (between 1 32) book r'.next 32 258 h i last → HeadsRead book f i last
+    heads_all r' told' i last s'' =
         let names_few = few_read _ _ told' s'.few in
         let after_names : KeptOutside 129 323 g i =
         kept_join 129 258 258 323 129 323 g h i (omega arith) (omega arith) (omega arith)
@@ -114,19 +114,20 @@ module _ (book f g : List ℕ) (part : Part) (s : Section (Sort.Entry 1) (betwee
         record {
           reads = λ K.
               words_then _
-              ∙ follow (section (between 0 64) (λ w. 0) (λ i first. entry 7) book p) part'
+              ∙ follow (section (between 0 64) (λ w. 0) (λ i first. entry 7) book r.next) part'
               (entries_in book h 129) _ s'.reads
               ∙ follow_read part' _ told'
-              ∙ follow (section (between 1 32) (λ n. n.count) (λ i. nonterminal) book q) last (nonterminals_in book i)
-              (λ x r. K (entries_in book g 0) (entries_in book h 129) x r) s''.reads
+              ∙ follow (section (between 1 32) (λ n. n.count) (λ i. nonterminal) book r'.next) last
+              (nonterminals_in book i)
+              (λ x p. K (entries_in book g 0) (entries_in book h 129) x p) s''.reads
               ∙ rw (words_stay, names_stay);
           valued = s''.valued;
-          few_words = few_all last (omega (
+          few_words = few_of last (omega (
             arith,
             words_few,
             count_stays (Sort.Entry 1) book 0 129 g i after_names.below (omega (arith, words_few)),
           ));
-          few_names = few_all last (omega (
+          few_names = few_of last (omega (
             arith,
             names_few,
             count_stays (Sort.Entry 7) book 129 258 h i s''.kept.below (omega (arith, names_few)),
@@ -165,6 +166,17 @@ steps_fit all n =
 pub too_many_steps : (all n : ℕ) → n < 256 → 255 < all → between 1 0 n ≡ eqb all n
 too_many_steps all n h k = nothing_fits n ∙ sym (ne_eqb all n (λ e. omega arith))
 
+-- a range holds a number alone, among those up to `most`
+abbrev Exactly : ℕ → ℕ → ℕ → ℕ → Type 0
+Exactly all most low high = (n : ℕ) → n ≤ most → between low high n ≡ eqb n all
+
+pub exactly_fits : (all low high n : ℕ) → Exactly all 255 low high → n ≤ 255 → between low high n ≡ eqb all n
+exactly_fits all low high n h k =
+    h n k
+    ∙ by_test (eqb n all)
+    (λ t. t ∙ sym (eq-eqb all n (sym (eqb-true n all t))))
+    (λ t. t ∙ sym (ne_eqb all n (λ e. eqb-false n all t (sym e))))
+
 -- a section under another test, which says the same of its count
 pub retest :
     (sort : Sort) (fits wanted : ℕ → Bool) (book : List ℕ) (at low high base : ℕ) (f g : List ℕ) (part : Part) →
@@ -184,22 +196,22 @@ retest sort fits wanted book at low high base f g part e h s =
     }
   where
     few_more : (part : Part) → Few part (count_in g base) low → Few part (count_in g base) high
-    few_more (Part.Read value next) l = omega arith
-    few_more (Part.Refused number place) l = tt
+    few_more (Ok r) l = omega arith
+    few_more (Err d) l = tt
 
 -- ---- The five sections
 module _ (book f g : List ℕ) (head : Part) (s : HeadsRead book f g head) where
-  pub sections_heads : {n p : ℕ} → head ≡ Part.Refused n p → SectionsRead book f g head
+  pub sections_heads : {d : Refusal} → head ≡ Err d → SectionsRead book f g head
   sections_heads told =
       record {
         reads = λ K. s.reads _ ∙ follow_refused head _ _ told;
         kept = kept_wider 0 323 0 1091 f g (omega arith) (omega arith) s.kept;
       }
 
-  module _ (all p : ℕ) (told : head ≡ Part.Read all p) (binders : Bool)
+  module _ (r : Read) (told : head ≡ Ok r) (binders : Bool)
       (binders_is : binders ≡ has_binder Sought.Any book g) (h : List ℕ) (body : Part)
-      (s' : Section (Sort.Variant binders) (variants_fit all) book p 128 323 g h body) where
-    all_is : all ≡ total (λ n. n.count) (nonterminals_in book g)
+      (s' : Section (Sort.Variant binders) (variants_fit r.value) book r.next 128 323 g h body) where
+    all_is : r.value ≡ total (λ n. n.count) (nonterminals_in book g)
     all_is = value_of told _ s.valued
 
     -- where there are no binders, none is found
@@ -210,14 +222,14 @@ module _ (book f g : List ℕ) (head : Part) (s : HeadsRead book f g head) where
     found at = fun_ext (λ i. rw binders_is (among_any at i (nonterminals_in book g)))
 
     variants_read : section (variants_fit (total (λ n. n.count) (nonterminals_in book g))) (λ v. v.1.count)
-        (λ j first. placed (variant (binder_at (λ n. n.first) j) first)) book p
+        (λ j first. placed (variant (binder_at (λ n. n.first) j) first)) book r.next
         ≡ reading_of body (λ v. placed_in book h)
     variants_read =
         ap (λ (binder : ℕ → Bool). section (variants_fit (total (λ n. n.count) (nonterminals_in book g)))
-        (λ v. v.1.count) (λ j first. placed (variant (binder j) first)) book p) (sym (found (λ n. n.first)))
+        (λ v. v.1.count) (λ j first. placed (variant (binder j) first)) book r.next) (sym (found (λ n. n.first)))
         ∙ rw (← all_is) s'.reads
 
-    pub sections_variants : {n q : ℕ} → body ≡ Part.Refused n q → SectionsRead book f h body
+    pub sections_variants : {d : Refusal} → body ≡ Err d → SectionsRead book f h body
     sections_variants told' =
         record {
           reads =
@@ -236,8 +248,9 @@ module _ (book f g : List ℕ) (head : Part) (s : HeadsRead book f g head) where
     few_nonterminals_read : count_in g 258 ≤ 32
     few_nonterminals_read = few_read _ _ told s.few_nonterminals
 
-    module _ (all' q : ℕ) (told' : body ≡ Part.Read all' q) (i : List ℕ) (last : Part)
-        (s'' : Section (Sort.Step (count_in h 0) (count_in h 258) binders) (eqb all') book q 255 580 h i last) where
+    module _ (r' : Read) (told' : body ≡ Ok r') (i : List ℕ) (last : Part)
+        (s'' : Section (Sort.Step (count_in h 0) (count_in h 258) binders) (eqb r'.value) book r'.next 255 580 h i
+        last) where
       after_heads : KeptOutside 323 1091 g i
       after_heads =
           kept_join 323 580 580 1091 323 1091 g h i (omega arith) (omega arith) (omega arith)
@@ -252,7 +265,7 @@ module _ (book f g : List ℕ) (head : Part) (s : HeadsRead book f g head) where
 
       steps_read : section (eqb (total (λ v. v.1.count) (placed_in book h))) (λ s. 0)
           (λ k first. step (length (entries_in book g 0)) (length (nonterminals_in book g))
-          (binder_at (first_step (placed_in book h)) k)) book q
+          (binder_at (first_step (placed_in book h)) k)) book r'.next
           ≡ reading_of last (λ v. steps_in book i)
       steps_read =
           let total_is = value_of told' _ s'.valued in
@@ -261,7 +274,7 @@ module _ (book f g : List ℕ) (head : Part) (s : HeadsRead book f g head) where
           let nonterminals_are : count_in h 258 ≡ length (nonterminals_in book g) =
           s'.kept.below 258 (omega arith) ∙ sym (up_to_length _ (count_in g 258)) in
           ap (λ (binder : ℕ → Bool). section (eqb (total (λ v. v.1.count) (placed_in book h))) (λ s. 0)
-          (λ k first. step (length (entries_in book g 0)) (length (nonterminals_in book g)) (binder k)) book q)
+          (λ k first. step (length (entries_in book g 0)) (length (nonterminals_in book g)) (binder k)) book r'.next)
           (sym (found (first_step (placed_in book h))))
           ∙ rw (← total_is, ← words_are, ← nonterminals_are, ← nonterminals_still) s''.reads
 
@@ -282,7 +295,7 @@ module _ (book f g : List ℕ) (head : Part) (s : HeadsRead book f g head) where
                 ∙ follow _ body (placed_in book h) _ variants_read
                 ∙ follow_read body _ told'
                 ∙ follow _ last (steps_in book i)
-                (λ x r. K (entries_in book g 0) (entries_in book g 129) (nonterminals_in book g) (placed_in book h) x r)
+                (λ x p. K (entries_in book g 0) (entries_in book g 129) (nonterminals_in book g) (placed_in book h) x p)
                 steps_read
                 ∙ rw (words_stay, names_stay, nonterminals_stay, variants_stay);
             kept = kept_join 0 323 323 1091 0 1091 f g i (omega arith) (omega arith) (omega arith)

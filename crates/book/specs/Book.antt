@@ -1,9 +1,9 @@
 -- Document 01, "The book": what a book holds, section by section.
-use Rattle.std.specs.Prelude.{Bool, false, cond, ◌&&◌, ◌||◌, List, [], ◌∷◌, ℕ, suc, eqb, get_or, take}
+use Rattle.std.specs.Prelude.{Option, Some, None, Bool, false, cond, ◌&&◌, ◌||◌, List, [], ◌∷◌, ℕ, suc, eqb, get_or}
+use Rattle.std.specs.Prelude.{take}
 use Rattle.characters.specs.Spelling.{same}
 use Rattle.book.specs.Numbers.{kinds}
-use Rattle.book.specs.declared.names.Found.{Found}
-use Rattle.book.specs.declared.names.KindWord.{KindWord}
+use Rattle.book.specs.declared.names.StartingName.{StartingName}
 use Rattle.book.specs.declared.records.Mark.{Mark}
 use Rattle.book.specs.declared.records.Associativity.{Associativity}
 use Rattle.book.specs.declared.records.Nonterminal.{Nonterminal}
@@ -51,23 +51,26 @@ unfoldable pub is_reserved : List Entry → List ℕ → Bool
 is_reserved [] spelling = false
 is_reserved (w ∷ ws) spelling = reserved_as spelling w || is_reserved ws spelling
 
+abbrev pub named : ℕ → ℕ → StartingName
+named number kind = record { number = number; kind = kind }
+
 -- "The last equal one wins": each equal name takes the place of what was found before it. The names are numbered from i
-unfoldable pub lookup_from : Found → ℕ → List Entry → List ℕ → Found
+unfoldable pub lookup_from : Option StartingName → ℕ → List Entry → List ℕ → Option StartingName
 lookup_from found i [] spelling = found
 lookup_from found i (n ∷ ns) spelling =
-    lookup_from (cond (same spelling n.spelling) (Found.Name i n.label) found) (suc i) ns spelling
+    lookup_from (cond (same spelling n.spelling) (Some (named i n.label)) found) (suc i) ns spelling
 
-abbrev pub lookup_name : List Entry → List ℕ → Found
-lookup_name names spelling = lookup_from Found.Nothing 0 names spelling
+abbrev pub lookup_name : List Entry → List ℕ → Option StartingName
+lookup_name names spelling = lookup_from None 0 names spelling
 
 -- the least number of an equal word. The words are numbered from i
-unfoldable pub least_word : ℕ → List Entry → List ℕ → KindWord
-least_word i [] spelling = KindWord.Nothing
+unfoldable pub least_word : ℕ → List Entry → List ℕ → Option ℕ
+least_word i [] spelling = None
 least_word i (w ∷ ws) spelling =
-    cond (same spelling w.spelling) (KindWord.Kind i) (least_word (suc i) ws spelling)
+    cond (same spelling w.spelling) (Some i) (least_word (suc i) ws spelling)
 
 -- document 02 d, "the word whose number is its kind, 0 to 7 (the least if alike)"
-abbrev pub kind_word : List Entry → List ℕ → KindWord
+abbrev pub kind_word : List Entry → List ℕ → Option ℕ
 kind_word words spelling = least_word 0 (take kinds words) spelling
 
 -- ---- Numbers of the documents

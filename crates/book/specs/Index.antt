@@ -1,24 +1,26 @@
 -- The index of a book, and the book that an index gives: each record from its place. This is no part of what document
 -- 01 says: the contract of `check_into` equates the book that its index gives with the one of `check_book`, and the
 -- reading functions are stated over the former.
-use Rattle.std.specs.Prelude.{Bool, false, cond, ◌&&◌, List, [], ◌∷◌, ◌++◌, ◌≡◌, ℕ, zero, suc, ◌+◌, ◌-◌, ◌*◌, ◌%◌, ◌≤◌}
+use Rattle.std.specs.Prelude.{⊤, Option, Some, None, Result, Ok, Err, Bool, false, cond, ◌&&◌, List, [], ◌∷◌, ◌++◌}
+use Rattle.std.specs.Prelude.{◌≡◌, ℕ, zero, suc, ◌+◌, ◌-◌, ◌*◌, ◌%◌, ◌≤◌}
 use Rattle.std.specs.Prelude.{◌<◌, leb, ltb, eqb, length, get_or}
 use Rattle.characters.specs.Slices.{Slice}
 use Rattle.characters.specs.Classes.{between}
 use Rattle.characters.specs.Spelling.{part_of}
 use Rattle.book.specs.Book.{Entry, Book, mark_number}
-use Rattle.book.specs.Numbers.{short_lists, most_words, most_names, most_nonterminals, reserved, last_kind}
+use Rattle.book.specs.Numbers.{short_lists, book_ends_early, bad_count, bad_spelling, bad_field, bad_passing}
+use Rattle.book.specs.Numbers.{fault_number, most_words, most_names, most_nonterminals, reserved, last_kind}
 use Rattle.book.specs.Numbers.{largest_byte, binder_mark, last_step_kind, binder_kind, first_character, last_character}
 use Rattle.book.specs.Check.{Checked, refused, accepted, and_then, Reader, records, section, placed, entry, fixed}
 use Rattle.book.specs.Check.{of_binder, first_step, mark_of, nonterminal, associativity_of, variant, step_of, step}
 use Rattle.book.specs.Check.{total, variants_fit}
 use Rattle.book.specs.Check.{Outcome, outcome_refusal, outcome_place, check_book}
 use Rattle.book.specs.declared.binders.Sought.{Sought}
-use Rattle.book.specs.declared.checking.Verdict.{Verdict}
-use Rattle.book.specs.declared.parts.Part.{Part}
+use Rattle.book.specs.declared.parts.Read.{Read}
+use Rattle.book.specs.declared.refusals.Fault.{Fault}
+use Rattle.book.specs.declared.refusals.Refusal.{Refusal}
 use Rattle.book.specs.declared.sections.Sort.{Sort}
-use Rattle.book.specs.declared.sections.Range.{Range}
-use Rattle.book.specs.declared.sections.Allowed.{Allowed}
+use Rattle.book.specs.declared.ranges.Range.{Range}
 use Rattle.book.specs.declared.records.Nonterminal.{Nonterminal}
 use Rattle.book.specs.declared.records.Variant.{Variant}
 use Rattle.book.specs.declared.records.Step.{Step}
@@ -207,27 +209,36 @@ abbrev pub delimiter_range : ℕ → Range
 delimiter_range kind =
     cond (leb 12 kind) (record { low = first_character; high = last_character }) (record { low = 0; high = 0 })
 
-abbrev pub allowed : ℕ → ℕ → Bool → ℕ → Allowed
+-- of an a, and of b and c, if there is such a kind
+abbrev pub allowed : ℕ → ℕ → Bool → ℕ → Option (Range × Range)
 allowed words nonterminals binder kind =
     cond (fixed binder binder_kind (between 0 last_step_kind) kind)
-    (Allowed.Ranges (argument_range words nonterminals kind) (delimiter_range kind))
-    Allowed.Refused
+    (Some (argument_range words nonterminals kind, delimiter_range kind))
+    None
 
 -- ---- What the code's answers say
+-- what the code gives of a part of a book
+abbrev pub Part : Type 0
+Part = Result Read Refusal
+
+-- a refusal, by its number
+abbrev pub refused_as : {A : Type 0} → Refusal → Checked A
+refused_as e = refused (fault_number e.fault) e.place
+
 -- a reading, of which the code gives the next place, or the refusal; what was read may go by the code's value
 abbrev pub reading_of : {A : Type 0} → Part → (ℕ → A) → Checked A
-reading_of (Part.Read value next) f = accepted (f value) next
-reading_of (Part.Refused number place) f = refused number place
+reading_of (Ok r) f = accepted (f r.value) r.next
+reading_of (Err e) f = refused_as e
 
 -- the code's value, where there is one, is n
 abbrev pub Valued : Part → ℕ → Type 0
-Valued (Part.Read value next) n = value ≡ n
-Valued (Part.Refused number place) n = Unit {0}
+Valued (Ok r) n = r.value ≡ n
+Valued (Err e) n = Unit {0}
 
 -- the code's value, where there is one, is a byte's
 abbrev pub Small : Part → Type 0
-Small (Part.Read value next) = value ≤ largest_byte
-Small (Part.Refused number place) = Unit {0}
+Small (Ok r) = r.value ≤ largest_byte
+Small (Err e) = Unit {0}
 
 -- a list is as it was, but for the numbers from `low` up to, and not including, `high`
 pub record KeptOutside (low high : ℕ) (before after : List ℕ) : Type 0 where
@@ -251,8 +262,8 @@ pub record RecordsRead (sort : Sort) (book : List ℕ) (at count base : ℕ) (be
 
 -- where something was read, n is at most `high`
 abbrev pub Few : Part → ℕ → ℕ → Type 0
-Few (Part.Read value next) n high = n ≤ high
-Few (Part.Refused number place) n high = Unit {0}
+Few (Ok r) n high = n ≤ high
+Few (Err e) n high = Unit {0}
 
 -- a section was read: its count, which passes a test and is at most `high`, and its records
 pub record Section (sort : Sort) (fits : ℕ → Bool) (book : List ℕ) (at high base : ℕ) (before after : List ℕ)
@@ -267,8 +278,8 @@ pub record Section (sort : Sort) (fits : ℕ → Bool) (book : List ℕ) (at hig
 -- ---- Sections one after the other
 -- what follows a part that was read
 abbrev pub followed : Part → (ℕ → Checked Book) → Checked Book
-followed (Part.Read value next) K = K next
-followed (Part.Refused number place) K = refused number place
+followed (Ok r) K = K r.next
+followed (Err e) K = refused_as e
 
 abbrev pub Heads : Type 0
 Heads = List Entry → List Entry → List Nonterminal → ℕ → Checked Book
@@ -318,23 +329,38 @@ pub record SectionsRead (book before after : List ℕ) (part : Part) : Type 0 wh
   pub kept : KeptOutside 0 index_size before after
 
 -- ---- Verdicts
-abbrev pub verdict_of : Part → Verdict
-verdict_of (Part.Read value next) = Verdict.Accepted
-verdict_of (Part.Refused number place) = Verdict.Refused number place
+abbrev pub Verdict : Type 0
+Verdict = Result ⊤ Refusal
+
+-- nothing is read, and the next place is the same; or the refusal
+abbrev pub passed_of : Verdict → ℕ → Checked (Unit {0})
+passed_of (Ok u) next = accepted tt next
+passed_of (Err e) next = refused_as e
 
 -- a verdict's numbers: document 01's "refusal (0 if none), place", where a place that isn't stated is 0
 abbrev pub refusal_of : Verdict → ℕ
-refusal_of Verdict.Accepted = 0
-refusal_of (Verdict.Refused number place) = number
+refusal_of (Ok u) = 0
+refusal_of (Err e) = fault_number e.fault
 
 abbrev pub place_of : Verdict → ℕ
-place_of Verdict.Accepted = 0
-place_of (Verdict.Refused number place) = place
+place_of (Ok u) = 0
+place_of (Err e) = e.place
+
+-- the fault of a number; a number that is no other's is that of bytes left over
+abbrev pub fault_of : ℕ → Fault
+fault_of n =
+    cond (eqb n short_lists) Fault.ShortIndex
+    (cond (eqb n book_ends_early) Fault.EndsEarly
+    (cond (eqb n bad_count) Fault.BadCount
+    (cond (eqb n bad_spelling) Fault.BadSpelling
+    (cond (eqb n bad_field) Fault.BadField
+    (cond (eqb n bad_passing) Fault.BadPassing
+    Fault.BytesLeftOver)))))
 
 -- the verdict of an outcome
 abbrev pub verdict : Outcome → Verdict
-verdict (Outcome.book b) = Verdict.Accepted
-verdict (Outcome.refusal number place) = Verdict.Refused number place
+verdict (Outcome.book b) = Ok tt
+verdict (Outcome.refusal number place) = Err (record { fault = fault_of number; place = place })
 
 -- a verdict has an outcome's numbers, and is its case
 pub record Says (o : Outcome) (r : Verdict) : Type 0 where
@@ -345,7 +371,7 @@ pub record Says (o : Outcome) (r : Verdict) : Type 0 where
 -- what the check promises: the verdict; the book, where it is accepted; and nothing beyond the index is stored
 pub record Checks (book before after : List ℕ) (r : Verdict) : Type 0 where
   pub says : Says (check_book book) r
-  pub gives : r ≡ Verdict.Accepted → check_book book ≡ Outcome.book (book_in book after)
+  pub gives : r ≡ Ok tt → check_book book ≡ Outcome.book (book_in book after)
   pub kept : KeptOutside 0 index_size before after
 
 -- the outcome of the check with an index: one that is too short is refused as 1
@@ -356,6 +382,6 @@ check_with book index = cond (ltb (length index) index_size) (Outcome.refusal sh
 -- read before the refusal, of which nothing is said: whoever reads by it has the verdict
 pub record CheckedInto (book before after : List ℕ) (r : Verdict) : Type 0 where
   pub says : Says (check_with book before) r
-  pub gives : r ≡ Verdict.Accepted → check_book book ≡ Outcome.book (book_in book after)
+  pub gives : r ≡ Ok tt → check_book book ≡ Outcome.book (book_in book after)
   pub beyond : (k : ℕ) → index_size ≤ k → get_or after k 0 ≡ get_or before k 0
   pub short : length before < index_size → after ≡ before

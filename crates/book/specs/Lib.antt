@@ -3,3 +3,4 @@ pub mod Numbers
 pub mod Book
 pub mod Check
 pub mod Index
+pub mod View

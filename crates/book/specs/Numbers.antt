@@ -1,6 +1,7 @@
 -- The documents' numbers of a book, each named once: its refusals, and the limits of its sections and fields. Document
 -- 01, and document 02 d of binders.
 use Rattle.std.specs.Prelude.{ℕ}
+use Rattle.book.specs.declared.refusals.Fault.{Fault}
 
 -- ---- Refusals, in the table's order
 -- lent numbers too few; here, an index
@@ -30,6 +31,16 @@ bad_passing = 7
 -- "bytes left over"
 abbrev pub bytes_left_over : ℕ
 bytes_left_over = 8
+
+-- a fault's number
+abbrev pub fault_number : Fault → ℕ
+fault_number Fault.ShortIndex = short_lists
+fault_number Fault.EndsEarly = book_ends_early
+fault_number Fault.BadCount = bad_count
+fault_number Fault.BadSpelling = bad_spelling
+fault_number Fault.BadField = bad_field
+fault_number Fault.BadPassing = bad_passing
+fault_number Fault.BytesLeftOver = bytes_left_over
 
 -- ---- Sections
 -- "Words, 0 to 64"

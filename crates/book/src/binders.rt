@@ -6,10 +6,11 @@ ghost use Rattle.book.specs.Numbers.{binder_mark};
 ghost use Rattle.book.specs.Index.{placed_in, book_at, is_sought, has_binder};
 
 use crate::index::{NONTERMINALS, VARIANTS, count, first};
-use crate::reading::nonterminal;
+use crate::reading::Book;
 use crate::records::Mark;
 
-// The binder that is looked for.
+// The binder that is looked for. These functions take the bytes and the index, and no `Book`: they run while the index
+// is written, and their contracts are about the two.
 #[derive(Clone, Copy)]
 pub enum Sought {
     Any,
@@ -17,18 +18,8 @@ pub enum Sought {
     OfStep(usize),
 }
 
-fn is_binder(mark: Mark) -> bool
-    ensures { result ≡ eqb (mark_number mark) binder_mark }
-{
-    match mark {
-        Mark::Plain => false,
-        Mark::Variable => false,
-        Mark::Identifier => false,
-        Mark::Binder => true,
-    }
-}
-
 // The number of a variant's first step, whatever the bytes are.
+#[tactic(auto, using(crate::proofs::BinderLaws::first_step_in, crate::proofs::BinderLaws::first_step_out))]
 fn first_step(index: &[usize], j: usize) -> usize
     ensures { (book : List ℕ) → result ≡ (get_or (placed_in book index.now) j (0, no_variant)).1.first }
 {
@@ -43,29 +34,18 @@ fn first_step(index: &[usize], j: usize) -> usize
 fn is_sought(book: &[u8], index: &[usize], sought: Sought, n: usize) -> bool
     ensures { result ≡ is_sought sought book.now index.now (nth_nonterminal (book_at book.now index.now) n) }
 {
-    let own = nonterminal(book, index, n);
-    let mark = own.mark;
-    if !is_binder(mark) {
-        return false;
-    }
-    match sought {
-        Sought::Any => true,
-        Sought::OfVariant(j) => own.first == j,
-        Sought::OfStep(k) => first_step(index, own.first) == k,
-    }
+    let own = Book::new(book, index).nonterminal(n);
+    own.mark == Mark::Binder
+        && match sought {
+            Sought::Any => true,
+            Sought::OfVariant(j) => own.first == j,
+            Sought::OfStep(k) => first_step(index, own.first) == k,
+        }
 }
 
 // Whether there is the binder that is looked for.
 pub fn has_binder(book: &[u8], index: &[usize], sought: Sought) -> bool
     ensures { result ≡ has_binder sought book.now index.now }
 {
-    let nonterminals = count(index, NONTERMINALS);
-    let mut n = 0;
-    while n < nonterminals {
-        if is_sought(book, index, sought, n) {
-            return true;
-        }
-        n += 1;
-    }
-    false
+    (0..count(index, NONTERMINALS)).any(|n| is_sought(book, index, sought, n))
 }

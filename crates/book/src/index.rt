@@ -26,10 +26,11 @@ const WIDE: usize = 4294967296;
 fn get(index: &[usize], i: usize) -> usize
     ensures { result ≡ get_or index.now i 0 }
 {
-    if i < index.len() { index[i] } else { 0 }
+    index.get(i).copied().unwrap_or(0)
 }
 
-// Writes a number; past the end it does nothing.
+// Writes a number; past the end it does nothing. Tried with get_mut: at its None the proof doesn't learn that the index
+// is as it was.
 pub fn put(index: &mut [usize], i: usize, number: usize)
     ensures { index.new ≡ set index.old i number }
 {

@@ -1,113 +1,28 @@
 // Reading an accepted book by its index. A number that the book doesn't have gets a fixed answer.
-ghost use Rattle.std.specs.Prelude.{◌≡◌, List, ℕ, ◌+◌, ◌≤◌, get_or, length};
-ghost use Rattle.book.specs.Book.{nth_nonterminal, nth_variant, nth_step, step_number};
-ghost use Rattle.book.specs.Check.{mark_of, associativity_of, step_of};
-ghost use Rattle.book.specs.Index.{book_in, book_at};
+ghost use Rattle.std.specs.Prelude.{◌≡◌, ◌+◌, ◌≤◌, get_or, length};
+ghost use Rattle.book.specs.Book.{nth_nonterminal, nth_variant, nth_step};
+ghost use Rattle.book.specs.Index.{book_in};
 
 use crate::index::{NONTERMINALS, STEPS, VARIANTS, count, first, place};
-use crate::records::{Associativity, Mark, Nonterminal, Step, Variant};
+use crate::records::{Associativity, Mark, Nonterminal, Step, Variant, step_of};
 use characters::byte_at;
+use std::marker::Model;
 
-fn mark_of(number: u8) -> Mark
-    ensures { result ≡ mark_of number }
-{
-    match number {
-        1 => Mark::Variable,
-        2 => Mark::Identifier,
-        3 => Mark::Binder,
-        _ => Mark::Plain,
-    }
+// A book's bytes and its index. In a contract it is the book of the definitions.
+#[derive(Drop)]
+pub struct Book<'a> {
+    pub(crate) bytes: &'a [u8],
+    pub(crate) index: &'a [usize],
 }
 
-fn associativity_of(number: u8) -> Associativity
-    ensures { result ≡ associativity_of number }
-{
-    match number {
-        0 => Associativity::Left,
-        1 => Associativity::Right,
-        2 => Associativity::None,
-        _ => Associativity::Both,
-    }
-}
+impl<'a> Model for Book<'a> {
+    ghost use Rattle.book.specs.Book as value;
 
-// The step of a kind. The check refuses a kind that is none of these; here it reads as the character 0, which no book
-// asks for.
-fn step_of(kind: u8, a: u32, b: u32, c: u32) -> Step
-    ensures { result ≡ step_of kind a b c }
-{
-    match kind {
-        0 => Step::Character(a),
-        1 => Step::Word(a),
-        2 => Step::Identifier,
-        3 => Step::Number,
-        4 => Step::Variable,
-        5 => Step::VariableOfKind(a),
-        6 => Step::RejectVariable,
-        7 => Step::RejectReserved,
-        8 => Step::Nonterminal(a),
-        9 => Step::Optional(a),
-        10 => Step::Many(a),
-        11 => Step::CommaList(a),
-        12 => Step::Delimited {
-            nonterminal: a,
-            opening: b,
-            closing: c,
-        },
-        13 => Step::OptionalDelimited {
-            nonterminal: a,
-            opening: b,
-            closing: c,
-        },
-        14 => Step::Binder {
-            body: a,
-            opening: b,
-            closing: c,
-        },
-        _ => Step::Character(0),
-    }
-}
+    ghost Value = { value.Book };
 
-// The kind of a passing variant's one step.
-pub const NONTERMINAL_STEP: usize = 8;
+    ghost use Rattle.book.specs.View.{book_view};
 
-// The kinds for which "the choices replace the step's unit".
-pub const MANY: usize = 10;
-
-pub const COMMA_LIST: usize = 11;
-
-// The number of a step's kind.
-pub fn step_number(step: Step) -> usize
-    ensures { result ≡ step_number step }
-{
-    match step {
-        Step::Character(_) => 0,
-        Step::Word(_) => 1,
-        Step::Identifier => 2,
-        Step::Number => 3,
-        Step::Variable => 4,
-        Step::VariableOfKind(_) => 5,
-        Step::RejectVariable => 6,
-        Step::RejectReserved => 7,
-        Step::Nonterminal(_) => NONTERMINAL_STEP,
-        Step::Optional(_) => 9,
-        Step::Many(_) => MANY,
-        Step::CommaList(_) => COMMA_LIST,
-        Step::Delimited {
-            nonterminal: _,
-            opening: _,
-            closing: _,
-        } => 12,
-        Step::OptionalDelimited {
-            nonterminal: _,
-            opening: _,
-            closing: _,
-        } => 13,
-        Step::Binder {
-            body: _,
-            opening: _,
-            closing: _,
-        } => 14,
-    }
+    ghost view = { book_view };
 }
 
 // The byte k places after `at`, and 0 past the end.
@@ -136,70 +51,82 @@ fn argument_after(book: &[u8], at: usize, k: usize) -> u32
     byte_after(book, at, k) as u32
 }
 
-// How many nonterminals there are, whatever the bytes are.
-pub fn nonterminals(index: &[usize]) -> usize
-    ensures { (book : List ℕ) → result ≡ length (book_in book index.now).nonterminals }
-{
-    count(index, NONTERMINALS)
-}
+impl<'a> Book<'a> {
+    pub fn new(bytes: &'a [u8], index: &'a [usize]) -> Book<'a>
+        ensures { result ≡ book_in bytes.now index.now }
+    {
+        Book { bytes, index }
+    }
 
-pub fn nonterminal(book: &[u8], index: &[usize], i: usize) -> Nonterminal
-    ensures { result ≡ nth_nonterminal (book_at book.now index.now) i }
-{
-    if i < count(index, NONTERMINALS) {
-        let at = place(index, NONTERMINALS, i);
-        Nonterminal {
-            mark: mark_of(byte_after(book, at, 0)),
-            first: first(index, NONTERMINALS, i),
-            count: number_after(book, at, 1),
-        }
-    } else {
-        Nonterminal {
-            mark: Mark::Plain,
-            first: 0,
-            count: 0,
+    // How many nonterminals there are, whatever the bytes are.
+    #[tactic(auto, using(crate::proofs::ReadingLaws::nonterminals_length))]
+    pub fn nonterminals(&self) -> usize
+        ensures { result ≡ length self.now.nonterminals }
+    {
+        count(self.index, NONTERMINALS)
+    }
+
+    #[tactic(auto, using(crate::proofs::ReadingLaws::nonterminal_in, crate::proofs::ReadingLaws::nonterminal_out))]
+    pub fn nonterminal(&self, i: usize) -> Nonterminal
+        ensures { result ≡ nth_nonterminal self.now i }
+    {
+        if i < count(self.index, NONTERMINALS) {
+            let at = place(self.index, NONTERMINALS, i);
+            Nonterminal {
+                mark: Mark::from(byte_after(self.bytes, at, 0)),
+                first: first(self.index, NONTERMINALS, i),
+                count: number_after(self.bytes, at, 1),
+            }
+        } else {
+            Nonterminal {
+                mark: Mark::Plain,
+                first: 0,
+                count: 0,
+            }
         }
     }
-}
 
-pub fn variant(book: &[u8], index: &[usize], j: usize) -> Variant
-    ensures { result ≡ nth_variant (book_at book.now index.now) j }
-{
-    if j < count(index, VARIANTS) {
-        let at = place(index, VARIANTS, j);
-        let flags = byte_after(book, at, 2);
-        Variant {
-            level: number_after(book, at, 0),
-            associativity: associativity_of(byte_after(book, at, 1)),
-            committed: flags % 2 == 1,
-            passing: 2 <= flags,
-            first: first(index, VARIANTS, j),
-            count: number_after(book, at, 3),
-        }
-    } else {
-        Variant {
-            level: 0,
-            associativity: Associativity::Left,
-            committed: false,
-            passing: false,
-            first: 0,
-            count: 0,
+    #[tactic(auto, using(crate::proofs::ReadingLaws::variant_in_lem, crate::proofs::ReadingLaws::variant_out))]
+    pub fn variant(&self, j: usize) -> Variant
+        ensures { result ≡ nth_variant self.now j }
+    {
+        if j < count(self.index, VARIANTS) {
+            let at = place(self.index, VARIANTS, j);
+            let flags = byte_after(self.bytes, at, 2);
+            Variant {
+                level: number_after(self.bytes, at, 0),
+                associativity: Associativity::from(byte_after(self.bytes, at, 1)),
+                committed: flags % 2 == 1,
+                passing: 2 <= flags,
+                first: first(self.index, VARIANTS, j),
+                count: number_after(self.bytes, at, 3),
+            }
+        } else {
+            Variant {
+                level: 0,
+                associativity: Associativity::Left,
+                committed: false,
+                passing: false,
+                first: 0,
+                count: 0,
+            }
         }
     }
-}
 
-pub fn step(book: &[u8], index: &[usize], k: usize) -> Step
-    ensures { result ≡ nth_step (book_at book.now index.now).steps k }
-{
-    if k < count(index, STEPS) {
-        let at = place(index, STEPS, k);
-        step_of(
-            byte_after(book, at, 0),
-            argument_after(book, at, 1),
-            argument_after(book, at, 2),
-            argument_after(book, at, 3),
-        )
-    } else {
-        Step::Character(0)
+    #[tactic(auto, using(crate::proofs::ReadingLaws::step_in, crate::proofs::ReadingLaws::step_out))]
+    pub fn step(&self, k: usize) -> Step
+        ensures { result ≡ nth_step self.now.steps k }
+    {
+        if k < count(self.index, STEPS) {
+            let at = place(self.index, STEPS, k);
+            step_of(
+                byte_after(self.bytes, at, 0),
+                argument_after(self.bytes, at, 1),
+                argument_after(self.bytes, at, 2),
+                argument_after(self.bytes, at, 3),
+            )
+        } else {
+            Step::Character(0)
+        }
     }
 }

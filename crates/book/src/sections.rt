@@ -3,17 +3,17 @@ ghost use Rattle.std.specs.Prelude.{◌≡◌, Bool, false, cond, ◌+◌, ◌*�
 ghost use Rattle.characters.specs.Classes.{between};
 ghost use Rattle.book.specs.Numbers.{identifier_mark, variants_each, default_level, both};
 ghost use Rattle.book.specs.Numbers.{largest_byte};
-ghost use Rattle.book.specs.Index.{below_range, allowed, binder_in, Before, One, RecordsRead, Section};
+ghost use Rattle.book.specs.Index.{allowed, binder_in, Before, One, RecordsRead, Section};
 
 use crate::binders::{Sought, has_binder};
 use crate::index::put;
 use crate::limits::{
-    BINDER_KIND, BINDER_MARK, BOTH, COMMITTED_FLAGS, DEFAULT_LEVEL, FIRST_CHARACTER,
-    IDENTIFIER_MARK, LARGEST_BYTE, LAST_CHARACTER, LAST_FLAGS, LAST_KIND, LAST_MARK, STEPS_EACH,
-    VARIANTS_EACH,
+    BINDER_KIND, BINDER_MARK, BOTH, COMMITTED_FLAGS, DEFAULT_LEVEL, IDENTIFIER_MARK, LARGEST_BYTE,
+    LAST_FLAGS, LAST_MARK, STEPS_EACH, VARIANTS_EACH,
 };
-use crate::parts::{Part, field, fixed};
-use crate::refusals::{BAD_COUNT, BAD_FIELD};
+use crate::parts::{Read, field, fixed};
+use crate::ranges::{CHARACTERS, NAME_KINDS, Range, UNUSED, below};
+use crate::refusals::{Fault, Refusal};
 use crate::spellings::entry;
 
 fn most_variants(mark: usize) -> usize
@@ -27,14 +27,16 @@ fn most_variants(mark: usize) -> usize
 }
 
 // Mark and number of variants; the value is the latter.
-fn nonterminal(book: &[u8], place: usize) -> Part
+fn nonterminal(book: &[u8], place: usize) -> Result<Read, Refusal>
     ensures { (binder : Bool) → One Sort.Nonterminal binder book.now place result }
 {
-    let mark = field(book, place, 0, LAST_MARK, BAD_FIELD);
-    let Part::Read { value, next } = mark else {
-        return mark;
+    let marks = Range {
+        low: 0,
+        high: LAST_MARK,
     };
-    fixed(book, next, value == BINDER_MARK, 1, most_variants(value))
+    let mark = field(book, place, marks, Fault::BadField)?;
+    let binder = mark.value == BINDER_MARK;
+    fixed(book, mark.next, binder, 1, most_variants(mark.value))
 }
 
 fn least_associativity(level: usize) -> usize
@@ -44,159 +46,92 @@ fn least_associativity(level: usize) -> usize
 }
 
 // Level, associativity, flags and number of steps; the value is the last.
-fn variant(book: &[u8], place: usize, binder: bool) -> Part
+fn variant(book: &[u8], place: usize, binder: bool) -> Result<Read, Refusal>
     ensures { (binders : Bool) → One (Sort.Variant binders) binder book.now place result }
 {
-    let level = fixed(book, place, binder, DEFAULT_LEVEL, LARGEST_BYTE);
-    let Part::Read { value, next } = level else {
-        return level;
+    let level = fixed(book, place, binder, DEFAULT_LEVEL, LARGEST_BYTE)?;
+    let associativities = Range {
+        low: least_associativity(level.value),
+        high: BOTH,
     };
-    let associativity = field(book, next, least_associativity(value), BOTH, BAD_FIELD);
-    let Part::Read {
-        value: _,
-        next: flags_at,
-    } = associativity
-    else {
-        return associativity;
-    };
-    let flags = fixed(book, flags_at, binder, COMMITTED_FLAGS, LAST_FLAGS);
-    let Part::Read {
-        value: _,
-        next: number_at,
-    } = flags
-    else {
-        return flags;
-    };
-    fixed(book, number_at, binder, 1, STEPS_EACH)
+    let associativity = field(book, level.next, associativities, Fault::BadField)?;
+    let flags = fixed(
+        book,
+        associativity.next,
+        binder,
+        COMMITTED_FLAGS,
+        LAST_FLAGS,
+    )?;
+    fixed(book, flags.next, binder, 1, STEPS_EACH)
 }
 
-#[derive(Clone, Copy)]
-pub struct Range {
-    pub low: usize,
-    pub high: usize,
-}
-
-// What a step's a, and its b and c, may be.
-#[derive(Clone, Copy)]
-pub enum Allowed {
-    Ranges(Range, Range),
-    // no such kind
-    Refused,
-}
-
-// The numbers below n; from 1 to 0, which is none, where n is 0.
-fn below(n: usize) -> Range
-    ensures { result ≡ below_range n }
-{
-    if n == 0 {
-        Range { low: 1, high: 0 }
-    } else {
-        Range {
-            low: 0,
-            high: n - 1,
-        }
-    }
-}
-
-fn arguments(kind: usize, words: usize, nonterminals: usize) -> Allowed
+// What the a of a step that is no binder's, and its b and c, may be; None for no such kind.
+fn arguments(kind: usize, words: usize, nonterminals: usize) -> Option<(Range, Range)>
     ensures { result ≡ allowed words nonterminals false kind }
 {
-    let unused = Range { low: 0, high: 0 };
-    let character = Range {
-        low: FIRST_CHARACTER,
-        high: LAST_CHARACTER,
-    };
-    let name_kind = Range {
-        low: 0,
-        high: LAST_KIND,
-    };
-    let word = below(words);
-    let nonterminal = below(nonterminals);
     match kind {
-        0 => Allowed::Ranges(character, unused),
-        1 => Allowed::Ranges(word, unused),
-        2 => Allowed::Ranges(unused, unused),
-        3 => Allowed::Ranges(unused, unused),
-        4 => Allowed::Ranges(unused, unused),
-        5 => Allowed::Ranges(name_kind, unused),
-        6 => Allowed::Ranges(unused, unused),
-        7 => Allowed::Ranges(unused, unused),
-        8 => Allowed::Ranges(nonterminal, unused),
-        9 => Allowed::Ranges(nonterminal, unused),
-        10 => Allowed::Ranges(nonterminal, unused),
-        11 => Allowed::Ranges(nonterminal, unused),
-        12 => Allowed::Ranges(nonterminal, character),
-        13 => Allowed::Ranges(nonterminal, character),
-        _ => Allowed::Refused,
+        0 => Some((CHARACTERS, UNUSED)),
+        1 => Some((below(words), UNUSED)),
+        2..=4 | 6..=7 => Some((UNUSED, UNUSED)),
+        5 => Some((NAME_KINDS, UNUSED)),
+        8..=11 => Some((below(nonterminals), UNUSED)),
+        12..=13 => Some((below(nonterminals), CHARACTERS)),
+        _ => None,
     }
 }
 
 // A binder's step has kind 14: body, opening, closing. No other has that kind.
-fn step_arguments(kind: usize, words: usize, nonterminals: usize, binder: bool) -> Allowed
+fn step_arguments(
+    kind: usize,
+    words: usize,
+    nonterminals: usize,
+    binder: bool,
+) -> Option<(Range, Range)>
     ensures { result ≡ allowed words nonterminals binder kind }
 {
     if !binder {
         return arguments(kind, words, nonterminals);
     }
     if kind == BINDER_KIND {
-        Allowed::Ranges(
-            below(nonterminals),
-            Range {
-                low: FIRST_CHARACTER,
-                high: LAST_CHARACTER,
-            },
-        )
+        Some((below(nonterminals), CHARACTERS))
     } else {
-        Allowed::Refused
+        None
     }
 }
 
-fn step(book: &[u8], place: usize, words: usize, nonterminals: usize, binder: bool) -> Part
+fn step(
+    book: &[u8],
+    place: usize,
+    words: usize,
+    nonterminals: usize,
+    binder: bool,
+) -> Result<Read, Refusal>
     ensures { (binders : Bool) →
         One (Sort.Step words nonterminals binders) binder book.now place result }
 {
-    let kind = field(book, place, 0, LARGEST_BYTE, BAD_FIELD);
-    let Part::Read { value, next } = kind else {
-        return kind;
+    let any = Range {
+        low: 0,
+        high: LARGEST_BYTE,
     };
-    let Allowed::Ranges(a, delimiter) = step_arguments(value, words, nonterminals, binder) else {
-        return Part::Refused {
-            number: BAD_FIELD,
+    let kind = field(book, place, any, Fault::BadField)?;
+    let Some((a, delimiter)) = step_arguments(kind.value, words, nonterminals, binder) else {
+        return Err(Refusal {
+            fault: Fault::BadField,
             place,
-        };
+        });
     };
-    let first = field(book, next, a.low, a.high, BAD_FIELD);
-    let Part::Read {
-        value: _,
-        next: second_at,
-    } = first
-    else {
-        return first;
-    };
-    let second = field(book, second_at, delimiter.low, delimiter.high, BAD_FIELD);
-    let Part::Read {
-        value: _,
-        next: third_at,
-    } = second
-    else {
-        return second;
-    };
-    let third = field(book, third_at, delimiter.low, delimiter.high, BAD_FIELD);
-    let Part::Read {
-        value: _,
-        next: last,
-    } = third
-    else {
-        return third;
-    };
-    Part::Read {
+    let first = field(book, kind.next, a, Fault::BadField)?;
+    let second = field(book, first.next, delimiter, Fault::BadField)?;
+    let third = field(book, second.next, delimiter, Fault::BadField)?;
+    Ok(Read {
         value: 0,
-        next: last,
-    }
+        next: third.next,
+    })
 }
 
-// The sorts of records.
-#[derive(Clone, Copy)]
+// The sorts of records. It is no closure that reads a record: the closure would be passed the index at each call, since
+// the index is written in between, and a contract needs the sort too.
+#[derive(Clone, Copy, PartialEq, Eq, Debug)]
 pub enum Sort {
     // with the greatest label
     Entry(usize),
@@ -209,7 +144,13 @@ pub enum Sort {
 
 // Record i. Whether it is a binder's is looked for only in a book that has binders; the variants and steps of any other
 // are read by calls that say so, since a check of them takes no longer then.
-fn one_record(book: &[u8], place: usize, sort: Sort, index: &[usize], i: usize) -> Part
+fn one_record(
+    book: &[u8],
+    place: usize,
+    sort: Sort,
+    index: &[usize],
+    i: usize,
+) -> Result<Read, Refusal>
     ensures { One sort (binder_in sort book.now index.now i) book.now place result }
 {
     match sort {
@@ -243,49 +184,41 @@ fn records(
     count: usize,
     index: &mut [usize],
     base: usize,
-) -> Part
+) -> Result<Read, Refusal>
     requires { (base + 1 + 2 * count ≤ length index.old) × (count ≤ largest_byte) × Before sort base index.old }
     ensures { RecordsRead sort book.now place count base index.old index.new result }
 {
-    let mut i = 0;
     let mut at = place;
     let mut sum = 0;
-    while i < count {
+    for i in 0..count {
         let slot = base + 1 + 2 * i;
         put(index, slot, at);
         put(index, slot + 1, sum);
-        let part = one_record(book, at, sort, index, i);
-        let Part::Read { value, next } = part else {
-            return part;
-        };
-        at = next;
-        sum += value;
-        i += 1;
+        let record = one_record(book, at, sort, index, i)?;
+        at = record.next;
+        sum += record.value;
     }
-    Part::Read {
+    Ok(Read {
         value: sum,
         next: at,
-    }
+    })
 }
 
-// A section: its count, from `low` to `high`, and its records.
+// A section: its count, of a range, and its records.
 pub fn section(
     book: &[u8],
     place: usize,
-    low: usize,
-    high: usize,
+    counts: Range,
     sort: Sort,
     index: &mut [usize],
     base: usize,
-) -> Part
-    requires { (base + 1 + 2 * high ≤ length index.old) × (high ≤ largest_byte) × Before sort base index.old }
-    ensures { Section sort (between low high) book.now place high base
+) -> Result<Read, Refusal>
+    requires { (base + 1 + 2 * counts.high ≤ length index.old) × (counts.high ≤ largest_byte) ×
+        Before sort base index.old }
+    ensures { Section sort (between counts.low counts.high) book.now place counts.high base
         index.old index.new result }
 {
-    let count = field(book, place, low, high, BAD_COUNT);
-    let Part::Read { value, next } = count else {
-        return count;
-    };
-    put(index, base, value);
-    records(book, next, sort, value, index, base)
+    let count = field(book, place, counts, Fault::BadCount)?;
+    put(index, base, count.value);
+    records(book, count.next, sort, count.value, index, base)
 }

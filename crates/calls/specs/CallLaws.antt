@@ -1,82 +1,83 @@
 -- Laws for the functions over the open calls: a sequence of stores to one row, and searching the rows.
 --
 -- Contents:
--- - stores to one row: row_after, row_else, then_row, open_law, declare_law, variant_law
--- - governors: not_live, not_same, by_child; openings: body_test, inherited_outside, inherited_around, scope_idle,
---   scope_live; the search: Seeking, seeking_start, seeking_hit, seeking_scope, seeking_on, seeking_end,
---   governor_above, governor_body, governor_none, governor_same, governor_minimum
--- - claims: claims_live, claims_start, claims_mark, Asking, asking_start, asking_hit, asking_scope, asking_on,
---   asking_end, claims_body, claims_beside
-use Rattle.std.specs.Prelude.{◌≡◌, Bool, not, ◌&&◌, List, [], eqb, ltb, leb, set, length}
+-- - stores to one row: row_after, row_twice, row_changed, then_row, open_law, declare_law, variant_law
+-- - openings: body_test, inheriting
+-- - the search for a governor: Seeking, seeking; governors: governor_above, governing
+-- - the search for a claim: Asking, asking
+use Rattle.std.specs.Prelude.{◌≡◌, Bool, not, ◌&&◌, ◌⊎◌, List, [], eqb, ltb, leb, set, length}
 use Rattle.std.proofs.Math.Path.{refl, sym, ap}
-use Rattle.std.proofs.Common.{◌∙◌, get_or-set_same, get_or-set_other, set-set}
+use Rattle.std.proofs.Common.{◌∙◌, inl, inr, get_or-set_same, set-set, length-set}
+use Rattle.std.proofs.lemmas.Bool.{cases_lt}
+use Rattle.std.proofs.lemmas.List.{set_past}
 use Rattle.std.proofs.Math.Bool.{true, false}
 use Prim.Native.Nat.{ℕ, zero, suc, ◌+◌, ◌-◌, ◌<◌, ◌≤◌}
 use native.Mathlib.Omega.{arith}
 use borrow.Author.Tests.{eq-eqb, ne_eqb, lt-ltb, le-leb, le-ltb, ltb-false}
 use Rattle.book.specs.Book.{Book}
 use Rattle.book.specs.Check.{associativity_of}
-use Rattle.semantics.specs.Uses.{has_mark, minimum_of}
+use Rattle.semantics.specs.Uses.{minimum_of}
 use Rattle.semantics.specs.Tokens.{when}
 use Rattle.run_model.specs.Rows.{Row, row, no_row, row_of, on_row, with_set, with_variant, opened, declared}
 use Rattle.run_model.specs.Rows.{use_at, inherited, is_body, begins_scope, governs, in_scope, newest_governor}
 use Rattle.run_model.specs.Rows.{RowGovernor, minimum, same_start, governor_at, governor_of}
-use Rattle.run_model.specs.Rows.{claims, any_claims, claims_use}
+use Rattle.run_model.specs.Rows.{claims, any_claims}
 use Rattle.calls.specs.Table.{field}
+use Rattle.calls.specs.TableLaws.{row_past}
 
 -- ---- Stores to one row
 pub row_after : (T : List Row) (c : ℕ) (r : Row) → c < length T → row_of (set T c r) c ≡ r
 row_after T c r h = get_or-set_same T c r no_row h
 
-pub row_else : (T : List Row) (c d : ℕ) (r : Row) → (d ≡ c → ⊥) → row_of (set T c r) d ≡ row_of T d
-row_else T c d r h = get_or-set_other T c d r no_row h
+-- behind the table a store changes nothing, and a row has no number but 0
+pub row_twice : (T T1 T2 : List Row) (c : ℕ) (r : Row) (F : Row → Row) → T1 ≡ set T c r → T2 ≡ on_row T1 c F →
+    T2 ≡ set T c (F r)
+row_twice T T1 T2 c r F e k = by (cases_lt c (length T))
+  where
+    by : (c < length T) ⊎ (length T ≤ c) → T2 ≡ set T c (F r)
+    by (inl h) = (rw (e, row_after T c r h) at k) ∙ set-set T c r (F r)
+    by (inr h) =
+        (rw e at k) ∙ set_past (set T c r) c _ (simp length-set h) ∙ set_past T c r h ∙ sym (set_past T c (F r) h)
+
+pub row_changed : (T T1 : List Row) (c : ℕ) (F : Row → Row) → F no_row ≡ no_row → T1 ≡ on_row T c F →
+    row_of T1 c ≡ F (row_of T c)
+row_changed T T1 c F z e = by (cases_lt c (length T))
+  where
+    by : (c < length T) ⊎ (length T ≤ c) → row_of T1 c ≡ F (row_of T c)
+    by (inl h) = rw e (row_after T c (F (row_of T c)) h)
+    by (inr h) = rw (e, set_past T c (F (row_of T c)) h, row_past T c h) (sym z)
 
 pub then_row : (T T1 T2 : List Row) (c : ℕ) (r : Row) (F : Row → Row) → c < length T → T1 ≡ set T c r →
     T2 ≡ on_row T1 c F → T2 ≡ set T c (F r)
-then_row T T1 T2 c r F h e k = (rw (e, row_after T c r h) at k) ∙ set-set T c r (F r)
+then_row T T1 T2 c r F h e k = row_twice T T1 T2 c r F e k
 
-pub open_law : (T : List Row) (c b N u : ℕ) → c < length T → (T1 T2 T3 T4 T5 T6 : List Row) →
+pub open_law : (T : List Row) (c b N u : ℕ) → (T1 T2 T3 T4 T5 T6 : List Row) →
     T1 ≡ on_row T c (field 0 1) → T2 ≡ on_row T1 c (field 1 N) → T3 ≡ on_row T2 c (field 2 b) →
     T4 ≡ on_row T3 c (field 3 u) →
     T5 ≡ on_row T4 c (field 7 0) → T6 ≡ on_row T5 c (with_set []) → T6 ≡ on_row T c (opened b N u)
-open_law T c b N u h T1 T2 T3 T4 T5 T6 e1 e2 e3 e4 e5 e6 =
+open_law T c b N u T1 T2 T3 T4 T5 T6 e1 e2 e3 e4 e5 e6 =
     let r = row_of T c in
     let made : ℕ → ℕ → Row = λ start asked.
     row 1 N b start r.level r.associativity r.child asked r.kind r.place r.size r.set r.run in
-    let k2 = then_row T T1 T2 c (field 0 1 r) (field 1 N) h e1 e2 in
-    let k3 = then_row T T2 T3 c (field 1 N (field 0 1 r)) (field 2 b) h k2 e3 in
-    let k4 = then_row T T3 T4 c (made r.start r.asked) (field 3 u) h k3 e4 in
-    let k5 = then_row T T4 T5 c (made u r.asked) (field 7 0) h k4 e5 in
-    then_row T T5 T6 c (made u 0) (with_set []) h k5 e6
+    let k2 = row_twice T T1 T2 c (field 0 1 r) (field 1 N) e1 e2 in
+    let k3 = row_twice T T2 T3 c (field 1 N (field 0 1 r)) (field 2 b) k2 e3 in
+    let k4 = row_twice T T3 T4 c (made r.start r.asked) (field 3 u) k3 e4 in
+    let k5 = row_twice T T4 T5 c (made u r.asked) (field 7 0) k4 e5 in
+    row_twice T T5 T6 c (made u 0) (with_set []) k5 e6
 
-pub declare_law : (T : List Row) (c kind place size : ℕ) → c < length T → (T1 T2 T3 T4 : List Row) →
+pub declare_law : (T : List Row) (c kind place size : ℕ) → (T1 T2 T3 T4 : List Row) →
     T1 ≡ on_row T c (field 0 0) → T2 ≡ on_row T1 c (field 8 kind) → T3 ≡ on_row T2 c (field 9 place) →
     T4 ≡ on_row T3 c (field 10 size) → T4 ≡ on_row T c (declared kind place size)
-declare_law T c kind place size h T1 T2 T3 T4 e1 e2 e3 e4 =
+declare_law T c kind place size T1 T2 T3 T4 e1 e2 e3 e4 =
     let r = row_of T c in
     let made : ℕ → ℕ → Row = λ kind place. declared kind place r.size r in
-    let k2 = then_row T T1 T2 c (field 0 0 r) (field 8 kind) h e1 e2 in
-    let k3 = then_row T T2 T3 c (made kind r.place) (field 9 place) h k2 e3 in
-    then_row T T3 T4 c (made kind place) (field 10 size) h k3 e4
+    let k2 = row_twice T T1 T2 c (field 0 0 r) (field 8 kind) e1 e2 in
+    let k3 = row_twice T T2 T3 c (made kind r.place) (field 9 place) k2 e3 in
+    row_twice T T3 T4 c (made kind place) (field 10 size) k3 e4
 
-pub variant_law : (T : List Row) (c l a : ℕ) → c < length T → (T1 T2 : List Row) → T1 ≡ on_row T c (field 4 l) →
+pub variant_law : (T : List Row) (c l a : ℕ) → (T1 T2 : List Row) → T1 ≡ on_row T c (field 4 l) →
     T2 ≡ on_row T1 c (field 5 a) → T2 ≡ on_row T c (with_variant l a)
-variant_law T c l a h T1 T2 e1 e2 = then_row T T1 T2 c (field 4 l (row_of T c)) (field 5 a) h e1 e2
-
--- ---- Governors
-module _ (r : Row) (N u : ℕ) where
-  pub not_live : (a : ℕ) → a ≡ r.live → (a ≡ 1 → ⊥) → false ≡ governs r N u
-  unfolding governs
-  not_live a e h = rw (ne_eqb r.live 1 (λ z. h (e ∙ z)))
-
-  pub not_same : (a b : ℕ) → a ≡ r.live → a ≡ 1 → b ≡ r.nonterminal → (b ≡ N → ⊥) → false ≡ governs r N u
-  unfolding governs
-  not_same a b e h f k = rw (eq-eqb r.live 1 (sym e ∙ h), ne_eqb r.nonterminal N (λ z. k (f ∙ z)))
-
-  pub by_child : (a b x : ℕ) → a ≡ r.live → a ≡ 1 → b ≡ r.nonterminal → b ≡ N → x ≡ r.child →
-      eqb x u ≡ governs r N u
-  unfolding governs
-  by_child a b x e h f k m = rw (eq-eqb r.live 1 (sym e ∙ h), eq-eqb r.nonterminal N (sym f ∙ k), m)
+variant_law T c l a T1 T2 e1 e2 = row_twice T T1 T2 c (field 4 l (row_of T c)) (field 5 a) e1 e2
 
 -- ---- Openings
 pub body_test : (b : ℕ) → leb 2 b ≡ is_body b
@@ -94,15 +95,9 @@ unfolding inherited
 inherited_around a zero e h = absurd (h e)
 inherited_around a (suc b) e h = refl
 
-module _ (r : Row) where
-  pub scope_idle : (a : ℕ) → a ≡ r.live → (a ≡ 1 → ⊥) → false ≡ begins_scope r
-  unfolding begins_scope
-  scope_idle a e h = rw (ne_eqb r.live 1 (λ z. h (e ∙ z)))
+pub ruleset inheriting = (inherited_outside, inherited_around)
 
-  pub scope_live : (a b : ℕ) (t : Bool) → a ≡ r.live → a ≡ 1 → b ≡ r.binder → t ≡ is_body b → t ≡ begins_scope r
-  unfolding begins_scope
-  scope_live a b t e h f k = k ∙ rw (eq-eqb r.live 1 (sym e ∙ h), f)
-
+-- ---- Governors
 module _ (T : List Row) (N u : ℕ) where
   newest_hit : (k i : ℕ) → governs (row_of T i) N u ≡ true → newest_governor T N u (suc k) i ≡ i
   unfolding newest_governor
@@ -113,19 +108,13 @@ module _ (T : List Row) (N u : ℕ) where
   unfolding newest_governor
   newest_on k i h = rw (h, newest_governor)
 
-  newest_none : (i : ℕ) → newest_governor T N u 0 i ≡ i
+  pub newest_none : (i : ℕ) → newest_governor T N u 0 i ≡ i
   unfolding newest_governor
   newest_none i = refl
 
   -- the loop stands at row i of those above n
   abbrev pub Seeking : ℕ → ℕ → Type 0
   Seeking n i = newest_governor T N u (201 - i) i ≡ newest_governor T N u (200 - n) (suc n)
-
-  pub seeking_start : (n : ℕ) → Seeking n (n + 1)
-  seeking_start n =
-      let a : 201 - (n + 1) ≡ 200 - n = omega arith in
-      let b : n + 1 ≡ suc n = omega arith in
-      rw (a, b)
 
   pub seeking_hit : (n i : ℕ) (t : Bool) → Seeking n i → i ≤ 200 → t ≡ governs (row_of T i) N u → t ≡ true →
       i ≡ newest_governor T N u (200 - n) (suc n)
@@ -154,10 +143,10 @@ module _ (T : List Row) (N u : ℕ) where
       let b : i + 1 ≡ suc i = omega arith in
       ap (newest_governor T N u (201 - (i + 1))) b ∙ (rw z at (seeking_past n i t w s h e y f))
 
-  pub seeking_end : (n i : ℕ) → Seeking n i → 200 < i → i ≡ newest_governor T N u (200 - n) (suc n)
-  seeking_end n i s h =
-      let a : 201 - i ≡ 0 = omega arith in
-      sym (rw a (newest_none i)) ∙ s
+  pub seeking_end : (n i : ℕ) → Seeking n i → i ≡ 201 → 201 ≡ newest_governor T N u (200 - n) (suc n)
+  seeking_end n i s h = sym (newest_none 201) ∙ (rw h at s)
+
+pub ruleset seeking = (seeking_hit, seeking_scope, seeking_on, seeking_end)
 
 -- the governor's row is above n
 newest_above : (T : List Row) (N u k i : ℕ) → i + k ≡ 201 → i ≤ newest_governor T N u k i
@@ -226,36 +215,9 @@ module _ (T : List Row) (n b N u : ℕ) (t : Bool) (d : t ≡ is_body b) (f : t 
   governor_minimum a p l m h f k eb el em =
       sym (rw (le-ltb 200 g h, ne_eqb (row_of T g).start u (λ z. k (f ∙ z)), em, eb, el)) ∙ outer
 
+pub ruleset governing = (governor_body, governor_none, governor_same, governor_minimum)
+
 -- ---- Claims
-module _ (book : Book) (r : Row) (u : ℕ) where
-  unmarked : (b : Bool) → (b && false) ≡ false
-  unmarked true = refl
-  unmarked false = refl
-
-  pub claims_live : (a : ℕ) → a ≡ r.live → (a ≡ 1 → ⊥) → false ≡ claims book r u
-  unfolding claims
-  claims_live a e h = rw (ne_eqb r.live 1 (λ z. h (e ∙ z)))
-
-  pub claims_start : (a b : ℕ) → a ≡ r.live → a ≡ 1 → b ≡ r.start → (b ≡ u → ⊥) → false ≡ claims book r u
-  unfolding claims
-  claims_start a b e h f k =
-      rw (
-        eq-eqb r.live 1 (sym e ∙ h),
-        ne_eqb r.start u (λ z. k (f ∙ z)),
-        unmarked (has_mark book 1 r.nonterminal),
-      )
-
-  pub claims_mark : (a b N : ℕ) (t : Bool) → a ≡ r.live → a ≡ 1 → b ≡ r.start → b ≡ u → N ≡ r.nonterminal →
-      t ≡ has_mark book 1 N → t ≡ claims book r u
-  unfolding claims
-  claims_mark a b N t e h f k m q =
-      q ∙ rw (eq-eqb r.live 1 (sym e ∙ h), eq-eqb r.start u (sym f ∙ k), m)
-      (both (has_mark book 1 r.nonterminal))
-    where
-      both : (b : Bool) → b ≡ (b && true)
-      both true = refl
-      both false = refl
-
 module _ (book : Book) (T : List Row) (u : ℕ) where
   any_hit : (k i : ℕ) → claims book (row_of T i) u ≡ true → any_claims book T u (suc k) i ≡ true
   unfolding any_claims
@@ -266,19 +228,13 @@ module _ (book : Book) (T : List Row) (u : ℕ) where
   unfolding any_claims
   any_on k i h = rw (h, any_claims)
 
-  any_none : (i : ℕ) → any_claims book T u 0 i ≡ false
+  pub any_none : (i : ℕ) → any_claims book T u 0 i ≡ false
   unfolding any_claims
   any_none i = refl
 
   -- the loop stands at row i of those above n
   abbrev pub Asking : ℕ → ℕ → Type 0
   Asking n i = any_claims book T u (201 - i) i ≡ any_claims book T u (200 - n) (suc n)
-
-  pub asking_start : (n : ℕ) → Asking n (n + 1)
-  asking_start n =
-      let a : 201 - (n + 1) ≡ 200 - n = omega arith in
-      let b : n + 1 ≡ suc n = omega arith in
-      rw (a, b)
 
   pub asking_hit : (n i : ℕ) (t : Bool) → Asking n i → i ≤ 200 → t ≡ claims book (row_of T i) u → t ≡ true →
       true ≡ any_claims book T u (200 - n) (suc n)
@@ -305,14 +261,7 @@ module _ (book : Book) (T : List Row) (u : ℕ) where
       let b : i + 1 ≡ suc i = omega arith in
       ap (any_claims book T u (201 - (i + 1))) b ∙ (rw z at (asking_past n i t w s h e y f))
 
-  pub asking_end : (n i : ℕ) → Asking n i → 200 < i → false ≡ any_claims book T u (200 - n) (suc n)
-  asking_end n i s h =
-      let a : 201 - i ≡ 0 = omega arith in
-      sym (rw a (any_none i)) ∙ s
+  pub asking_end : (n i : ℕ) → Asking n i → i ≡ 201 → false ≡ any_claims book T u (200 - n) (suc n)
+  asking_end n i s h = sym (any_none 201) ∙ (rw h at s)
 
-  pub claims_body : (n b : ℕ) (t : Bool) → t ≡ is_body b → t ≡ true → false ≡ claims_use book T n b u
-  claims_body n b t e h = rw (← e, h)
-
-  pub claims_beside : (n b : ℕ) (t w : Bool) → t ≡ is_body b → t ≡ false →
-      w ≡ any_claims book T u (200 - n) (suc n) → w ≡ claims_use book T n b u
-  claims_beside n b t w e h f = f ∙ rw (← e, h)
+pub ruleset asking = (asking_hit, asking_scope, asking_on, asking_end)

@@ -4,3 +4,4 @@ pub mod TableLaws
 pub mod CallLaws
 pub mod NamesLaws
 pub mod SettlingLaws
+pub mod View

@@ -1,52 +1,37 @@
 -- Laws for the search for a declared name. Those that say which name is found are in FoundNames of proofs/.
 --
 -- Contents:
--- - binders by tests: count_none, count_some, depth_same, depth_bound, depth_more, open_live, open_idle,
---   open_past
+-- - binders by tests: count_less, depth_bound, open_past
 -- - two lookups, one after the other: or_else
 -- - the rows, one by one: next_row
 -- - the names of one binder, the nearest row first: Looking, looking_hit, looking_on, looking_none
--- - the binders, the innermost first: Searching, searching_start, searching_end, searching_none, searching_some
--- - how many names the binders have: Counting, counting_start, counting_on, counting_end, counting_none, counting_some
--- - room for further names: no_room_lem, room_left
-use Rattle.std.specs.Prelude.{◌≡◌, Bool, true, false, cond, eqb, ltb, leb, length}
+-- - the binders, the innermost first: Searching, searching_end, searching_none, searching_some
+-- - how many names the binders have: Counting, counting_on, counting_end, counting_none, counting_some
+use Rattle.std.specs.Prelude.{◌≡◌, Bool, true, false, cond, eqb, ltb, length}
 use Rattle.std.proofs.Math.Path.{refl, sym, ap}
-use Rattle.std.proofs.Common.{◌∙◌, add-zero, eq-eqb, ne_eqb, ltb-true, ltb-false, le-leb, leb-true, leb-false}
+use Rattle.std.proofs.Common.{◌∙◌, add-zero, ltb-true, ltb-false}
 use mathlib.Core.List.{List, []}
-use Rattle.std.proofs.Math.Option.{Option, none, some}
+use Rattle.std.specs.Prelude.{Option, None, Some}
 use Prim.Native.Nat.{ℕ, zero, suc, ◌+◌, ◌-◌, ◌<◌, ◌≤◌}
 use native.Mathlib.Omega.{arith}
-use Rattle.std.proofs.lemmas.Bool.{lt-leb}
 use Rattle.characters.specs.Cases.{by_test}
 use Rattle.characters.specs.Spelling.{same}
-use Rattle.book.specs.Book.{lookup_from, lookup_name}
-use Rattle.book.specs.declared.names.Found.{Found}
+use Rattle.book.specs.Book.{lookup_from, lookup_name, named}
+use Rattle.book.specs.declared.names.StartingName.{StartingName}
 use Rattle.semantics.specs.Uses.{Path, scope_of}
 use Rattle.semantics.specs.Tokens.{Variable, variable_in}
 use Rattle.semantics.specs.Run.{declared_names}
 use Rattle.run_model.specs.Rows.{Row, row_of, is_body, entry_at, names_above, behind_names, within_row, path_from}
-use Rattle.run_model.specs.Rows.{path_of, path_at, scope_at, scope_in}
+use Rattle.run_model.specs.Rows.{path_of, path_at, scope_at}
 use Rattle.calls.specs.TableLaws.{row_past}
 use Rattle.calls.specs.Names.{open_binder, name_count, depth_past, name_in}
 
 -- ---- Binders by tests
-pub count_none : (b : ℕ) → b < 2 → 0 ≡ name_count b
+pub count_less : (b : ℕ) → b - 2 ≡ name_count b
 unfolding name_count
-count_none zero h = refl
-count_none (suc zero) h = refl
-count_none (suc (suc n)) h = absurd (omega arith)
-
-pub count_some : (b : ℕ) → 2 ≤ b → b - 2 ≡ name_count b
-unfolding name_count
-count_some zero h = absurd (omega arith)
-count_some (suc zero) h = absurd (omega arith)
-count_some (suc (suc n)) h = omega arith
-
-pub depth_same : (b d : ℕ) → b < 2 → d ≡ depth_past b d
-unfolding is_body
-depth_same zero d h = refl
-depth_same (suc zero) d h = refl
-depth_same (suc (suc n)) d h = absurd (omega arith)
+count_less zero = refl
+count_less (suc zero) = refl
+count_less (suc (suc n)) = omega arith
 
 pub depth_bound : (b d : ℕ) → depth_past b d ≤ suc d
 unfolding is_body
@@ -54,25 +39,13 @@ depth_bound zero d = omega arith
 depth_bound (suc zero) d = omega arith
 depth_bound (suc (suc n)) d = omega arith
 
-pub depth_more : (b d : ℕ) → 2 ≤ b → d + 1 ≡ depth_past b d
-unfolding is_body
-depth_more zero d h = absurd (omega arith)
-depth_more (suc zero) d h = absurd (omega arith)
-depth_more (suc (suc n)) d h = omega arith
-
-pub open_live : (r : Row) (a b : ℕ) → a ≡ r.live → a ≡ 1 → b ≡ r.binder → b ≡ open_binder r
-open_live r a b e h f = f ∙ rw (eq-eqb r.live 1 (sym e ∙ h))
-
-pub open_idle : (r : Row) (a : ℕ) → a ≡ r.live → (a ≡ 1 → ⊥) → 0 ≡ open_binder r
-open_idle r a e h = rw (ne_eqb r.live 1 (λ z. h (e ∙ z)))
-
 pub open_past : (T : List Row) (i b : ℕ) → length T ≡ 201 → 200 < i → b ≡ open_binder (row_of T i) → b ≡ 0
 open_past T i b size h e = e ∙ rw (row_past T i (omega arith))
 
 -- ---- Two lookups, one after the other
 unfoldable pub or_else : Option Variable → Option Variable → Option Variable
-or_else (some v) w = some v
-or_else none w = w
+or_else (Some v) w = Some v
+or_else None w = w
 
 -- ---- The rows, one by one
 module _ (text : List ℕ) (T : List Row) where
@@ -106,9 +79,9 @@ module _ (text : List ℕ) (T : List Row) where
 -- ---- The names of one binder
 module _ (text : List ℕ) (T : List Row) (wanted : List ℕ) where
   -- of n + 1 names above row i, the nearest decides first
-  nearest : (j n i : ℕ) (found : Found) →
+  nearest : (j n i : ℕ) (found : Option StartingName) →
       lookup_from found j (names_above text T (suc n) i) wanted
-      ≡ cond (same wanted (entry_at text (row_of T (suc i))).spelling) (Found.Name (j + n) (row_of T (suc i)).kind)
+      ≡ cond (same wanted (entry_at text (row_of T (suc i))).spelling) (Some (named (j + n) (row_of T (suc i)).kind))
       (lookup_from found j (names_above text T n (suc i)) wanted)
   unfolding names_above lookup_from
   nearest j zero i found = let e : i + 1 ≡ suc i = omega arith in rw (e, add-zero)
@@ -125,15 +98,15 @@ module _ (text : List ℕ) (T : List Row) (wanted : List ℕ) where
   module _ (c m i n : ℕ) (s : Looking c m i n) (h : 0 < n) (j : ℕ) (ej : j ≡ i + 1) (t : Bool)
       (e : t ≡ same wanted (entry_at text (row_of T j)).spelling) where
     one_less : lookup_name (names_above text T n i) wanted
-        ≡ cond t (Found.Name (n - 1) (row_of T j).kind) (lookup_name (names_above text T (n - 1) j) wanted)
+        ≡ cond t (Some (named (n - 1) (row_of T j).kind)) (lookup_name (names_above text T (n - 1) j) wanted)
     one_less =
         let f : n ≡ suc (n - 1) = omega arith in
         let g : j ≡ suc i = omega arith in
         let z : 0 + (n - 1) ≡ n - 1 = omega arith in
         ap (λ n. lookup_name (names_above text T n i) wanted) f
-        ∙ nearest 0 (n - 1) i Found.Nothing ∙ rw (e, g, z)
+        ∙ nearest 0 (n - 1) i None ∙ rw (e, g, z)
 
-    pub looking_hit : t ≡ true → Found.Name (n - 1) (row_of T j).kind ≡ lookup_name (names_above text T m c) wanted
+    pub looking_hit : t ≡ true → Some (named (n - 1) (row_of T j).kind) ≡ lookup_name (names_above text T m c) wanted
     looking_hit y = sym (one_less ∙ rw y) ∙ s
 
     pub looking_on : t ≡ false → (k : ℕ) → j ≡ k → Looking c m k (n - 1)
@@ -143,7 +116,7 @@ module _ (text : List ℕ) (T : List Row) (wanted : List ℕ) where
         rw f at (sym less ∙ s)
 
   pub looking_none : (c m i n d : ℕ) → Looking c m i n → n ≤ 0 →
-      none ≡ name_in d (lookup_name (names_above text T m c) wanted)
+      None ≡ name_in d (lookup_name (names_above text T m c) wanted)
   unfolding names_above lookup_from name_in
   looking_none c m i n d s h = let e : n ≡ 0 = omega arith in ap (name_in d) (rw e at s)
 
@@ -154,19 +127,16 @@ module _ (text : List ℕ) (T : List Row) (wanted : List ℕ) where
   Searching c a i b d =
       variable_in [] d (scope_of (path_at text T i b)) wanted ≡ variable_in [] 0 (scope_of (path_at text T c a)) wanted
 
-  pub searching_start : (c a : ℕ) → Searching c a c a 0
-  searching_start c a = refl
-
   -- behind the table no call is open
   pub searching_end : (c a i b d : ℕ) → Searching c a i b d → 200 < i → b ≡ 0 →
-      none ≡ variable_in [] 0 (scope_of (path_at text T c a)) wanted
+      None ≡ variable_in [] 0 (scope_of (path_at text T c a)) wanted
   unfolding path_from scope_of behind_names variable_in lookup_from
   searching_end c a i b d s h e =
       let f : 200 - i ≡ 0 = omega arith in
       rw (e, f) at s
 
   -- a use with no opening around it, and one with some
-  pub searching_none : (c a : ℕ) → a ≡ 0 → none ≡ variable_in [] 0 (scope_at text T c a) wanted
+  pub searching_none : (c a : ℕ) → a ≡ 0 → None ≡ variable_in [] 0 (scope_at text T c a) wanted
   unfolding scope_at variable_in lookup_from
   searching_none c a e = rw e refl
 
@@ -196,9 +166,6 @@ module _ (text : List ℕ) (T : List Row) where
   own_count i (suc zero) path = omega arith
   own_count i (suc (suc n)) path = rw (names_length n i)
 
-  pub counting_start : (c a : ℕ) → Counting c a c a 0
-  counting_start c a = omega arith
-
   pub counting_on : (c a i b b₁ count n : ℕ) → length T ≡ 201 → Counting c a i b count → i ≤ 200 → n ≡ name_count b →
       b₁ ≡ open_binder (row_of T (i + 1)) → Counting c a (i + 1) b₁ (count + n)
   counting_on c a i b b₁ count n size s h e f =
@@ -223,20 +190,3 @@ module _ (text : List ℕ) (T : List Row) where
   unfolding scope_at
   counting_some c zero count h e = absurd (h refl)
   counting_some c (suc a) count h e = e
-
--- ---- Room for further names
-pub no_room_lem : (names around : ℕ) → 64 < names → false ≡ leb (names + around) 64
-no_room_lem names around h = sym (lt-leb (names + around) 64 (omega arith))
-
-leaves_room : (names around : ℕ) → names ≤ 64 → leb around (64 - names) ≡ leb (names + around) 64
-leaves_room names around h =
-    by_test (leb around (64 - names))
-    (λ t. t ∙ sym (le-leb (names + around) 64 (let l = leb-true around (64 - names) t in omega arith)))
-    (λ t. t ∙ sym (lt-leb (names + around) 64 (let l = leb-false around (64 - names) t in omega arith)))
-
-pub room_left : (text : List ℕ) (T : List Row) (i binder names around : ℕ) → names ≤ 64 → binder ≡ (row_of T i).binder →
-    around ≡ declared_names (scope_at text T i binder) →
-    leb around (64 - names) ≡ leb (names + declared_names (scope_in text T i)) 64
-room_left text T i binder names around h is count =
-    leaves_room names around h
-    ∙ ap (λ k. leb (names + k) 64) (count ∙ ap (λ b. declared_names (scope_at text T i b)) is)

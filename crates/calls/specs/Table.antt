@@ -1,6 +1,6 @@
 -- The table of rows in a list of numbers. A row is eleven numbers and two sets, the stored one and the run's.
-use Rattle.std.specs.Prelude.{◌≡◌, Bool, cond, List, [], ◌∷◌, ℕ, zero, suc, ◌+◌, ◌*◌, ◌<◌, ◌≤◌, eqb, get_or, length}
-use Rattle.std.proofs.Math.Option.{Option, none, some}
+use Rattle.std.specs.Prelude.{◌≡◌, Bool, cond, List, [], ◌∷◌, ℕ, zero, suc, ◌+◌, ◌*◌, ◌≤◌, eqb, get_or, length}
+use Rattle.std.specs.Prelude.{Option, None, Some}
 use Rattle.characters.specs.Slices.{Slice}
 use Rattle.book.specs.Book.{Book}
 use Rattle.semantics.specs.Numbers.{most_nesting, too_many_parses}
@@ -12,8 +12,8 @@ use Rattle.run_model.specs.Rows.{Row, row, row_of, on_row, use_at, ended, was_as
 use Rattle.run_model.specs.Rows.{minimum, same_start}
 use Rattle.run_model.specs.Model.{RowState, row_state, Outcome, outcome, bare_call, settle, settle_first}
 use Rattle.sets.specs.Sets.{set_size, set_at, result}
-use Rattle.calls.specs.declared.Governor.{Governor}
-use Rattle.calls.specs.declared.Settled.{Settled}
+use Rattle.calls.specs.declared.governors.Governor.{Governor}
+use Rattle.calls.specs.declared.settling.Settled.{Settled}
 
 -- ---- The layout
 -- the numbers of a row before its sets
@@ -60,35 +60,14 @@ table numbers = rows_from numbers 0 row_count
 abbrev pub HasTable : Slice → Type 0
 HasTable rows = rows_size ≤ length rows
 
--- and the row is one of it
-abbrev pub InTable : ℕ → Slice → Type 0
-InTable row rows = (row ≤ most_nesting) × HasTable rows
-
--- a number of any row by its index
-abbrev pub ColumnIn : ℕ → Slice → Type 0
-ColumnIn column rows = (column < field_count) × HasTable rows
-
--- a number of a row of the table
-abbrev pub NumberIn : ℕ → ℕ → Slice → Type 0
-NumberIn row column rows = (row ≤ most_nesting) × (column < field_count) × HasTable rows
-
--- row `from` is one of the table, and `into` one below it
-abbrev pub Below : ℕ → ℕ → Slice → Type 0
-Below into from rows = (into < from) × (from ≤ most_nesting) × HasTable rows
-
-abbrev pub table_at : Slice → List Row
-table_at rows = table rows
-
-abbrev pub table_after : Slice → List Row
-table_after rows = table rows
-
--- a row at entry
+-- a row of it
 abbrev pub row_in : Slice → ℕ → Row
-row_in rows row = row_of (table_at rows) row
+row_in rows row = row_of (table rows) row
 
+-- ---- The table
 -- one row changes
-abbrev pub Changes : Slice → Slice → ℕ → (Row → Row) → Type 0
-Changes rows rows' row change = table_after rows' ≡ on_row (table_at rows) row change
+abbrev pub Changed : List Row → List Row → ℕ → (Row → Row) → Type 0
+Changed T T' row change = T' ≡ on_row T row change
 
 -- ---- The numbers of a row
 -- a row whose j-th number is x
@@ -121,6 +100,11 @@ abbrev pub governor_in : Governor → RowGovernor
 governor_in (Governor.Minimum m) = minimum m
 governor_in (Governor.SameStart g) = same_start g
 
+-- the row that the search for a governor found; where it found none, the model has the row behind all
+abbrev pub governor_row : Option ℕ → ℕ
+governor_row None = suc most_nesting
+governor_row (Some g) = g
+
 -- ---- Stored parses
 -- what a row found are the parses that its governor's call has stored, filtered; the governor is asked (`with_stored`
 -- of the model)
@@ -135,8 +119,8 @@ with_stored_in rows row governor =
 abbrev pub after_run : Settled → ℕ → (RowState → Result Outcome) → Option Error → RowState → Result Outcome
 after_run Settled.Failed row again failure s =
     let called = row_of s.rows row in
-    ok (outcome (some (failed_call (bare_call called.nonterminal called.start) failure)) s)
-after_run Settled.Over row again failure s = ok (outcome none s)
+    ok (outcome (Some (failed_call (bare_call called.nonterminal called.start) failure)) s)
+after_run Settled.Over row again failure s = ok (outcome None s)
 after_run Settled.Again row again failure s = again s
 after_run Settled.Full row again failure s = met too_many_parses s.units
 

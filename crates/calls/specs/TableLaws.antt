@@ -2,10 +2,10 @@
 --
 -- Contents:
 -- - rows that stay
--- - the table: table_length, table_below, table_read, table_change
+-- - the table: table_length, table_read, table_change
 -- - a row after a change of a part of it: row_field, row_set, row_run
--- - the same on the table: table_field, table_get, row_past, table_past, get_past, read_set, read_run, table_set,
---   table_run
+-- - the same on the table: table_field, table_get, row_past, table_past, get_past, any_number, read_set, read_run,
+--   table_set, table_run
 -- - sets that grow: run_added, run_joined, kept_law, set_one
 use Rattle.std.specs.Prelude.{◌≡◌, refl, Bool, true, false, cond, List, [], ◌∷◌, ◌⊎◌, ℕ, zero, suc, ◌+◌, ◌*◌, ◌<◌, ◌≤◌}
 use Rattle.std.specs.Prelude.{eqb, get_or, set, length}
@@ -21,40 +21,33 @@ use Rattle.sets.specs.PlaceLaws.{only_trans, only_wide, only_set, set_apart}
 use Rattle.calls.specs.Table.{row_at, rows_from, table, field, field_of, RunAdded, RunJoined}
 
 -- ---- Rows that stay
+-- a row whose numbers stay
+numbers_stay : (f g : List ℕ) (b : ℕ) → ((i : ℕ) → i < 11 → get_or g (b + i) 0 ≡ get_or f (b + i) 0) →
+    row_at g b ≡ with_run (set_at g (b + 268)) (with_set (set_at g (b + 11)) (row_at f b))
+unfolding row_at
+numbers_stay f g b s =
+    rw (
+      rw add-zero at (s 0 (omega arith)),
+      s 1 (omega arith),
+      s 2 (omega arith),
+      s 3 (omega arith),
+      s 4 (omega arith),
+      s 5 (omega arith),
+      s 6 (omega arith),
+      s 7 (omega arith),
+      s 8 (omega arith),
+      s 9 (omega arith),
+      s 10 (omega arith),
+    )
+
 row_apart : {f g : List ℕ} {d m : ℕ} (b : ℕ) → Only f g d m → (b + 525 ≤ d) ⊎ (d + m ≤ b) → row_at g b ≡ row_at f b
 unfolding row_at
 row_apart b o (inl h) =
-    rw (
-      o.low b (omega arith),
-      o.low (b + 1) (omega arith),
-      o.low (b + 2) (omega arith),
-      o.low (b + 3) (omega arith),
-      o.low (b + 4) (omega arith),
-      o.low (b + 5) (omega arith),
-      o.low (b + 6) (omega arith),
-      o.low (b + 7) (omega arith),
-      o.low (b + 8) (omega arith),
-      o.low (b + 9) (omega arith),
-      o.low (b + 10) (omega arith),
-      set_apart (b + 11) o (inl (omega arith)),
-      set_apart (b + 268) o (inl (omega arith)),
-    )
+    numbers_stay _ _ b (λ i k. o.low (b + i) (omega arith))
+    ∙ rw (set_apart (b + 11) o (inl (omega arith)), set_apart (b + 268) o (inl (omega arith)))
 row_apart b o (inr h) =
-    rw (
-      o.high b (omega arith),
-      o.high (b + 1) (omega arith),
-      o.high (b + 2) (omega arith),
-      o.high (b + 3) (omega arith),
-      o.high (b + 4) (omega arith),
-      o.high (b + 5) (omega arith),
-      o.high (b + 6) (omega arith),
-      o.high (b + 7) (omega arith),
-      o.high (b + 8) (omega arith),
-      o.high (b + 9) (omega arith),
-      o.high (b + 10) (omega arith),
-      set_apart (b + 11) o (inr (omega arith)),
-      set_apart (b + 268) o (inr (omega arith)),
-    )
+    numbers_stay _ _ b (λ i k. o.high (b + i) (omega arith))
+    ∙ rw (set_apart (b + 11) o (inr (omega arith)), set_apart (b + 268) o (inr (omega arith)))
 
 rows_apart : {f g : List ℕ} {d m : ℕ} (b k : ℕ) → Only f g d m → d + m ≤ b → rows_from g b k ≡ rows_from f b k
 unfolding rows_from
@@ -84,9 +77,6 @@ rows_length f b (suc k) = ap suc (rows_length f (b + 525) k)
 pub table_length : (f : List ℕ) → length (table f) ≡ 201
 unfolding table
 table_length f = rows_length f 0 201
-
-pub table_below : (f : List ℕ) (c : ℕ) → c ≤ 200 → c < length (table f)
-table_below f c h = rw (table_length f) (omega arith)
 
 pub table_read : (f : List ℕ) (c : ℕ) → c ≤ 200 → row_of (table f) c ≡ row_at f (c * 525)
 unfolding table
@@ -129,39 +119,11 @@ row_field f b j x k h =
 
 pub row_set : {f g : List ℕ} (b : ℕ) → Only f g (b + 11) 257 → row_at g b ≡ with_set (set_at g (b + 11)) (row_at f b)
 unfolding row_at
-row_set b o =
-    rw (
-      o.low b (omega arith),
-      o.low (b + 1) (omega arith),
-      o.low (b + 2) (omega arith),
-      o.low (b + 3) (omega arith),
-      o.low (b + 4) (omega arith),
-      o.low (b + 5) (omega arith),
-      o.low (b + 6) (omega arith),
-      o.low (b + 7) (omega arith),
-      o.low (b + 8) (omega arith),
-      o.low (b + 9) (omega arith),
-      o.low (b + 10) (omega arith),
-      set_apart (b + 268) o (inr (omega arith)),
-    )
+row_set b o = numbers_stay _ _ b (λ i k. o.low (b + i) (omega arith)) ∙ rw (set_apart (b + 268) o (inr (omega arith)))
 
 pub row_run : {f g : List ℕ} (b : ℕ) → Only f g (b + 268) 257 → row_at g b ≡ with_run (set_at g (b + 268)) (row_at f b)
 unfolding row_at
-row_run b o =
-    rw (
-      o.low b (omega arith),
-      o.low (b + 1) (omega arith),
-      o.low (b + 2) (omega arith),
-      o.low (b + 3) (omega arith),
-      o.low (b + 4) (omega arith),
-      o.low (b + 5) (omega arith),
-      o.low (b + 6) (omega arith),
-      o.low (b + 7) (omega arith),
-      o.low (b + 8) (omega arith),
-      o.low (b + 9) (omega arith),
-      o.low (b + 10) (omega arith),
-      set_apart (b + 11) o (inl (omega arith)),
-    )
+row_run b o = numbers_stay _ _ b (λ i k. o.low (b + i) (omega arith)) ∙ rw (set_apart (b + 11) o (inl (omega arith)))
 
 -- ---- The same on the table
 pub table_field : (f : List ℕ) (c : ℕ) → c ≤ 200 → 105525 ≤ length f → (j x : ℕ) → j < 11 →
@@ -218,6 +180,9 @@ table_past f c h = row_past (table f) c (rw (table_length f) h)
 
 pub get_past : (f : List ℕ) (c j : ℕ) → 200 < c → 0 ≡ field_of j (row_of (table f) c)
 get_past f c j h = sym (rw (table_past f c h) (field_none j))
+
+-- a number of any row
+pub ruleset any_number = (table_get, get_past, table_length)
 
 pub read_set : (f : List ℕ) (c : ℕ) → c ≤ 200 → (row_of (table f) c).set ≡ set_at f (c * 525 + 11)
 unfolding row_at

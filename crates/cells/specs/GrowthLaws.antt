@@ -4,7 +4,8 @@
 -- - what a store after a push has: Pushed, has_pushed, pushed_by
 -- - one cell more: holds_more
 -- - `make`: making, makes_found, makes_new, makes_full
-use Rattle.std.specs.Prelude.{◌≡◌, refl, List, [], ◌∷◌, ◌++◌, ◌⊎◌, ℕ, suc, ◌+◌, ◌-◌, ◌*◌, ◌≤◌, ◌<◌, eqb, ltb, length}
+use Rattle.std.specs.Prelude.{Option, Some, None, ◌≡◌, refl, List, [], ◌∷◌, ◌++◌, ◌⊎◌, ℕ, suc, ◌+◌, ◌-◌, ◌*◌, ◌≤◌}
+use Rattle.std.specs.Prelude.{◌<◌, eqb, ltb, length}
 use Rattle.std.specs.Prelude.{get_or}
 use Rattle.std.proofs.Common.{sym, ap, ◌∙◌, inl, inr, arith, add-one, length-append}
 use Rattle.std.proofs.Math.ListN.{set, length-set, get_or-append}
@@ -16,7 +17,8 @@ use Rattle.semantics.specs.Cells.{Cell, numbers_of, identity_of, find_cell}
 use Rattle.semantics.specs.Run.{make}
 use Rattle.cells.specs.declared.numbers.CellNumbers.{CellNumbers}
 use Rattle.cells.specs.declared.store.Made.{Made}
-use Rattle.cells.specs.Store.{listed, hash_of, numbers_at, link_at, head_at, find_in, pushed, made_as, made_in, Leads}
+use Rattle.cells.specs.Store.{cell_made, listed, hash_of, numbers_at, link_at, head_at, find_in, pushed, made_as}
+use Rattle.cells.specs.Store.{made_in, Leads}
 use Rattle.cells.specs.Store.{here, next, Holds, Making, Makes}
 use Rattle.cells.specs.NumbersLaws.{hash_lt}
 use Rattle.cells.specs.IndexLaws.{finds, not_found}
@@ -215,7 +217,7 @@ module _ (text store : List ℕ) (cells : List Cell) (held : Holds text store ce
   finds_it : find_cell text cell 1 cells ≡ sought
   finds_it = finds text store cells held cell c numbers
 
-  making_found : (sought ≡ 0 → ⊥) → Making text store cells cell (Made.At sought (length cells))
+  making_found : (sought ≡ 0 → ⊥) → Making text store cells cell (Some (cell_made sought (length cells)))
   unfolding make
   making_found h =
       let t = le-ltb (length cells) (length cells) (omega arith) in
@@ -227,7 +229,7 @@ module _ (text store : List ℕ) (cells : List Cell) (held : Holds text store ce
 
   making_new : sought ≡ 0 → length cells < 4096
       → Making text (pushed store c (suc (length cells)) (hash_of text c)) cells cell
-      (Made.At (suc (length cells)) (suc (length cells)))
+      (Some (cell_made (suc (length cells)) (suc (length cells))))
   unfolding make
   making_new h fits =
       let t = lt-ltb (length cells) (suc (length cells)) (omega arith) in
@@ -240,7 +242,7 @@ module _ (text store : List ℕ) (cells : List Cell) (held : Holds text store ce
         count = rw t (sym (length-append cells (cell ∷ []) ∙ omega arith));
       }
 
-  making_full : sought ≡ 0 → 4096 ≤ length cells → Making text store cells cell Made.Full
+  making_full : sought ≡ 0 → 4096 ≤ length cells → Making text store cells cell None
   unfolding make
   making_full h full = record {
     is = λ s e. rw (e, finds_it, eq-eqb sought 0 h, le-ltb (length cells) 4096 full);
@@ -284,7 +286,7 @@ module _ (text f : List ℕ) (count : ℕ) (c : CellNumbers) where
       rw (t, u) (pushed_beyond (count + 1) (hash_of text c) i (omega arith) (hash_lt text c) h))
       (λ u. rw (t, u)))
 
-  makes : (g : List ℕ) (r : Made) → r ≡ (made_in text f count c).0 →
+  makes : (g : List ℕ) (r : Option Made) → r ≡ (made_in text f count c).0 →
       g ≡ (made_in text f count c).1 → Makes text f g count c r
   makes g r e s = record {
     is = e;
@@ -299,19 +301,19 @@ module _ (text f : List ℕ) (count : ℕ) (c : CellNumbers) where
     way : n ≡ find_in text f c count (head_at f (hash_of text c))
     way = found ∙ ap (find_in text f c count) (e ∙ ap (head_at f) h)
 
-    pub makes_found : 0 < n → Makes text f f count c (Made.At n count)
-    makes_found l = let t = lt-ltb 0 n l in makes f (Made.At n count) (rw (← way, t)) (rw (← way, t))
+    pub makes_found : 0 < n → Makes text f f count c (Some (cell_made n count))
+    makes_found l = let t = lt-ltb 0 n l in makes f (Some (cell_made n count)) (rw (← way, t)) (rw (← way, t))
 
     module _ (none : n ≤ 0) where
       pub makes_new : count < 4096 → (g : List ℕ) → g ≡ pushed f c (count + 1) hash →
-          Makes text f g count c (Made.At (count + 1) (count + 1))
+          Makes text f g count c (Some (cell_made (count + 1) (count + 1)))
       makes_new l g p =
           let t = le-ltb 0 n none in
           let u = lt-ltb count 4096 l in
-          makes g (Made.At (count + 1) (count + 1)) (rw (← way, t, u)) (p ∙ rw (← way, t, u, h))
+          makes g (Some (cell_made (count + 1) (count + 1))) (rw (← way, t, u)) (p ∙ rw (← way, t, u, h))
 
-      pub makes_full : 4096 ≤ count → Makes text f f count c Made.Full
+      pub makes_full : 4096 ≤ count → Makes text f f count c None
       makes_full l =
           let t = le-ltb 0 n none in
           let u = le-ltb count 4096 l in
-          makes f Made.Full (rw (← way, t, u)) (rw (← way, t, u))
+          makes f None (rw (← way, t, u)) (rw (← way, t, u))

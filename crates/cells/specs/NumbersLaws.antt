@@ -2,9 +2,9 @@
 --
 -- Contents:
 -- - identities by numbers: identity_name, identity_other, identity_numbers
--- - equality: same_forms, same_names, same_a, same_b
+-- - equality: same_forms, same_names, same_a, same_b, same_other
 -- - hashes: hash_lt, hash_on, hash_end, hash_name, hash_other
-use Rattle.std.specs.Prelude.{◌≡◌, false, List, [], ◌∷◌, ℕ, ◌+◌, ◌*◌, ◌≤◌, ◌<◌, eqb, length, get_or, drop}
+use Rattle.std.specs.Prelude.{◌≡◌, false, ◌&&◌, List, [], ◌∷◌, ℕ, ◌+◌, ◌*◌, ◌≤◌, ◌<◌, eqb, length, get_or, drop}
 use Rattle.std.proofs.Common.{sym, ap, ◌∙◌, arith, mod-lt, drop_of_length-le, drop-cons}
 use Rattle.std.proofs.Math.Numerals.{add-one}
 use borrow.Author.Tests.{eq-eqb, ne_eqb, eqb-true, eqb-false}
@@ -82,6 +82,19 @@ module _ (text : List ℕ) (c d : CellNumbers) where
       same_b e =
           by_numbers ∙ rw (eq-eqb c.form d.form forms, eq-eqb c.a d.a e)
           (by_test (eqb c.b d.b) (λ t. rw t) (λ t. rw t))
+
+  -- cells that aren't both names are equal by their numbers
+  pub same_other : (c.form ≡ 4 → d.form ≡ 4 → ⊥) →
+      same_in text c d ≡ (eqb c.form d.form && (eqb c.a d.a && eqb c.b d.b))
+  same_other h =
+      by_test (eqb c.form d.form)
+      (λ t.
+      let forms = eqb-true c.form d.form t in
+      let other : c.form ≡ 4 → ⊥ = λ e. h e (sym forms ∙ e) in
+      by_test (eqb c.a d.a)
+      (λ u. same_b forms other (eqb-true c.a d.a u) ∙ rw (t, u))
+      (λ u. same_a forms other (eqb-false c.a d.a u) ∙ rw (t, u)))
+      (λ t. same_forms (eqb-false c.form d.form t) ∙ rw t)
 
 -- ---- Hashes
 hash_from_lt : (hash : ℕ) (xs : List ℕ) → hash < 1024 → hash_from hash xs < 1024

@@ -3,7 +3,8 @@
 --
 -- The store has the three numbers of cell n at 3n - 3, its link at `links` + n, and the head of hash h at `heads` + h.
 -- A head is the newest cell of its hash, a link the next older one of the same hash, and 0 ends the bucket.
-use Rattle.std.specs.Prelude.{◌≡◌, Bool, cond, List, [], ◌∷◌, ◌++◌, ℕ, zero, suc, ◌+◌, ◌-◌, ◌*◌, ◌%◌, ◌≤◌, ◌<◌, eqb}
+use Rattle.std.specs.Prelude.{Option, Some, None, ◌≡◌, Bool, cond, List, [], ◌∷◌, ◌++◌, ℕ, zero, suc, ◌+◌, ◌-◌, ◌*◌}
+use Rattle.std.specs.Prelude.{◌%◌, ◌≤◌, ◌<◌, eqb}
 use Rattle.std.specs.Prelude.{ltb, length, get_or, set, take}
 use Rattle.characters.specs.Spelling.{part_of, same}
 use Rattle.semantics.specs.Numbers.{cell_size, cells_size, most_cells, too_many_cells, name_form}
@@ -90,12 +91,18 @@ pushed store c n hash =
     n
 
 -- what is made, and the store after it, where n is the equal cell that was found, if any
-abbrev pub made_as : List ℕ → ℕ → CellNumbers → ℕ → ℕ → Made × List ℕ
-made_as store count c hash n =
-    cond (ltb 0 n) (Made.At n count, store)
-    (cond (ltb count most_cells) (Made.At (count + 1) (count + 1), pushed store c (count + 1) hash) (Made.Full, store))
+abbrev pub cell_made : ℕ → ℕ → Made
+cell_made cell count = record { cell = cell; count = count }
 
-abbrev pub made_in : List ℕ → List ℕ → ℕ → CellNumbers → Made × List ℕ
+abbrev pub made_as : List ℕ → ℕ → CellNumbers → ℕ → ℕ → Option Made × List ℕ
+made_as store count c hash n =
+    cond (ltb 0 n) (Some (cell_made n count), store)
+    (cond (ltb count most_cells) (Some (cell_made (count + 1) (count + 1)), pushed store c (count + 1) hash) (
+      None,
+      store,
+    ))
+
+abbrev pub made_in : List ℕ → List ℕ → ℕ → CellNumbers → Option Made × List ℕ
 made_in text store count c =
     made_as store count c (hash_of text c) (find_in text store c count (head_at store (hash_of text c)))
 
@@ -121,28 +128,28 @@ pub record Holds (text store : List ℕ) (cells : List Cell) : Type 0 where
   pub reached : (n : ℕ) → 0 < n → n ≤ length cells → Leads store (head_at store (hash_of text (numbers_at store n))) n
 
 -- the cells after a cell was asked for
-abbrev pub cells_after : Made → List Cell → Cell → List Cell
-cells_after (Made.At n count) cells cell = cond (ltb (length cells) count) (cells ++ (cell ∷ [])) cells
-cells_after Made.Full cells cell = cells
+abbrev pub cells_after : Option Made → List Cell → Cell → List Cell
+cells_after (Some m) cells cell = cond (ltb (length cells) m.count) (cells ++ (cell ∷ [])) cells
+cells_after None cells cell = cells
 
-abbrev pub count_after : Made → ℕ → ℕ
-count_after (Made.At n count) before = count
-count_after Made.Full before = before
+abbrev pub count_after : Option Made → ℕ → ℕ
+count_after (Some m) before = m.count
+count_after None before = before
 
 -- what the definitions give where the code gives this
-abbrev pub given : Made → Cell → State → Result Rattle.semantics.specs.Run.Made
-given (Made.At n count) cell s =
-    ok (made n (record { units = s.units; cells = cells_after (Made.At n count) s.cells cell; asked = s.asked }))
-given Made.Full cell s = met too_many_cells s.units
+abbrev pub given : Option Made → Cell → State → Result Rattle.semantics.specs.Run.Made
+given (Some m) cell s =
+    ok (made m.cell (record { units = s.units; cells = cells_after (Some m) s.cells cell; asked = s.asked }))
+given None cell s = met too_many_cells s.units
 
 -- a cell was made of those that the store held
-pub record Making (text after : List ℕ) (cells : List Cell) (cell : Cell) (r : Made) : Type 0 where
+pub record Making (text after : List ℕ) (cells : List Cell) (cell : Cell) (r : Option Made) : Type 0 where
   pub is : (s : State) → s.cells ≡ cells → make text cell s ≡ given r cell s
   pub holds : Holds text after (cells_after r cells cell)
   pub count : count_after r (length cells) ≡ length (cells_after r cells cell)
 
 -- what `make` promises: by the numbers alone, whatever the store holds; and of a store that holds the cells
-pub record Makes (text before after : List ℕ) (count : ℕ) (c : CellNumbers) (r : Made) : Type 0 where
+pub record Makes (text before after : List ℕ) (count : ℕ) (c : CellNumbers) (r : Option Made) : Type 0 where
   pub is : r ≡ (made_in text before count c).0
   pub store : after ≡ (made_in text before count c).1
   pub beyond : (i : ℕ) → store_size ≤ i → get_or after i 0 ≡ get_or before i 0

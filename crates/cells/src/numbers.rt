@@ -1,4 +1,6 @@
 // The three numbers of a cell by its form, whether two cells are equal, and the hash of a cell.
+#![tactic(auto, unfolding(semantics::specs::Cells::numbers_of))]
+
 ghost use Rattle.std.specs.Prelude.{◌≡◌, ◌<◌, ◌/◌, ◌%◌};
 ghost use Rattle.semantics.specs.Numbers.{half};
 ghost use Rattle.semantics.specs.Cells.{Cell, numbers_of};
@@ -6,7 +8,7 @@ ghost use Rattle.cells.specs.Store.{hashes, listed, same_in, mixed, hash_from, h
 
 use characters::{part, same_spelling};
 
-#[derive(Clone, Copy)]
+#[derive(Clone, Copy, PartialEq, Eq, Debug)]
 pub struct CellNumbers {
     pub form: u32,
     pub a: u32,
@@ -15,13 +17,13 @@ pub struct CellNumbers {
 
 // A declared variable's binder, by its depth outwards, and the variable's index within that binder. They are "separate
 // counts" (document 02 d), so each has a type of its own, and neither can be given for the other.
-#[derive(Clone, Copy)]
+#[derive(Clone, Copy, PartialEq, Eq, Debug)]
 pub struct DebruijnIndex(pub u32);
 
-#[derive(Clone, Copy)]
+#[derive(Clone, Copy, PartialEq, Eq, Debug)]
 pub struct VarIndex(pub u32);
 
-// ---- The forms
+// ---- The forms. Numbers and no enum: cells that are lent back by C have any number for a form.
 // "1 empty chain (made as a variant begins); 2 chain, item; 3 variant .., chain; 4 name place, length ..; 5 number
 // high, low half; 6 name number, kind; 7 absent; 8 list, chain"; document 02 d: "cell 9", a declared variable
 pub const EMPTY_FORM: u32 = 1;
@@ -142,26 +144,22 @@ pub fn declared(depth: DebruijnIndex, index: VarIndex) -> CellNumbers
 }
 
 // Names are equal by spelling, other cells by their numbers.
+#[tactic(auto, using(crate::specs::NumbersLaws::same_names, crate::specs::NumbersLaws::same_other))]
 pub fn same_cell(text: &[u8], c: CellNumbers, d: CellNumbers) -> bool
     ensures { result ≡ same_in text.now c d }
 {
-    if c.form != d.form {
-        return false;
-    }
-    if c.form == NAME_FORM {
-        return same_spelling(
+    if c.form == NAME_FORM && d.form == NAME_FORM {
+        same_spelling(
             text,
             c.a as usize,
             c.b as usize,
             text,
             d.a as usize,
             d.b as usize,
-        );
+        )
+    } else {
+        c == d
     }
-    if c.a != d.a {
-        return false;
-    }
-    c.b == d.b
 }
 
 // One number more in a hash.
@@ -172,20 +170,20 @@ fn mix(hash: usize, x: usize) -> usize
     (hash * MULTIPLIER + x) % HASHES
 }
 
+#[tactic(auto, using(crate::specs::NumbersLaws::hash_on, crate::specs::NumbersLaws::hash_end))]
 fn mix_bytes(first: usize, bytes: &[u8]) -> usize
     requires { first < hashes }
     ensures { (result ≡ hash_from first bytes.now) × (result < hashes) }
 {
     let mut hash = first;
-    let mut i = 0;
-    while i < bytes.len() {
-        hash = mix(hash, bytes[i] as usize);
-        i += 1;
+    for byte in bytes {
+        hash = mix(hash, *byte as usize);
     }
     hash
 }
 
 // A name's hash is one of its spelling, not of its place.
+#[tactic(auto, using(crate::specs::NumbersLaws::hash_name, crate::specs::NumbersLaws::hash_other))]
 pub fn hash(text: &[u8], cell: CellNumbers) -> usize
     ensures { (result ≡ hash_of text.now cell) × (result < hashes) }
 {

@@ -1,6 +1,6 @@
 // The cells of a run in a lent slice of numbers, with an index of buckets: the cells of one hash, linked from the
-// newest on.
-ghost use Rattle.std.specs.Prelude.{◌≡◌, List, [], ℕ, ◌≤◌, ◌<◌, length, get_or, set};
+// newest on. No map of the library: the store is lent, by C too, and the reader allocates nothing.
+ghost use Rattle.std.specs.Prelude.{◌≡◌, List, [], ℕ, ◌≤◌, ◌<◌, length, get_or, set, unwrap_or, IfSome};
 ghost use Rattle.cells.specs.Store.{hashes, numbers_at, find_in, pushed, Makes, Cleared};
 
 use crate::numbers::{CellNumbers, HASHES, hash, same_cell};
@@ -21,30 +21,32 @@ const HEADS: usize = 16384;
 
 pub const STORE_SIZE: usize = HEADS + HASHES;
 
-// A cell that was asked for: its number, and how many cells there are now; or limit 23.
-#[derive(Clone, Copy)]
-pub enum Made {
-    At { cell: u32, count: u32 },
-    Full,
+// A cell that was asked for: its number, and how many cells there are now.
+#[derive(Clone, Copy, PartialEq, Eq, Debug)]
+pub struct Made {
+    pub cell: u32,
+    pub count: u32,
 }
 
 // The number at i, and 0 past the end.
 fn get(store: &[u32], i: usize) -> u32
     ensures { result ≡ get_or store.now i 0 }
 {
-    if i < store.len() { store[i] } else { 0 }
+    store.get(i).copied().unwrap_or(0)
 }
 
 // Writes a number; past the end it does nothing.
+#[tactic(auto, using(std::proofs::lemmas::List::set_past))]
 fn put(store: &mut [u32], i: usize, x: u32)
     ensures { store.new ≡ set store.old i x }
 {
+    // no `get_mut`: of its `None` no fact says that the numbers stay, so the contract isn't proved
     if i < store.len() {
         store[i] = x;
     }
 }
 
-// Cell n.
+// Cell n. Past the end its numbers are 0; printing has another, to which such a cell is absent.
 fn cell_at(store: &[u32], n: u32) -> CellNumbers
     requires { 0 < n }
     ensures { result ≡ numbers_at store.now n }
@@ -65,26 +67,27 @@ fn cell_at(store: &[u32], n: u32) -> CellNumbers
     }
 }
 
-// The cell that is equal to c in the bucket from `first` on, or 0. A bucket has at most as many cells as there are.
-fn find(text: &[u8], store: &[u32], c: CellNumbers, count: u32, first: u32) -> u32
-    ensures { result ≡ find_in text.now store.now c count first }
+// The cell that is equal to c in the bucket from `first` on. A bucket has at most as many cells as there are, and 0
+// ends it.
+fn find(text: &[u8], store: &[u32], c: CellNumbers, count: u32, first: u32) -> Option<u32>
+    ensures value { unwrap_or result 0 ≡ find_in text.now store.now c count first }
+    ensures cell { IfSome result (λ n. 0 < n) }
 {
-    let mut left = count;
     let mut n = first;
-    while 0 < left {
+    for _ in 0..count {
         if n == 0 {
-            return 0;
+            return None;
         }
         if same_cell(text, c, cell_at(store, n)) {
-            return n;
+            return Some(n);
         }
         n = get(store, LINKS + n as usize);
-        left -= 1;
     }
-    0
+    None
 }
 
 // Cell n is c, the newest of its hash.
+#[tactic(auto, unfolding(crate::specs::Store::pushed))]
 fn push(store: &mut [u32], c: CellNumbers, n: u32, hash: usize)
     requires { (0 < n) × (hash < hashes) }
     ensures { store.new ≡ pushed store.old c n hash }
@@ -98,25 +101,24 @@ fn push(store: &mut [u32], c: CellNumbers, n: u32, hash: usize)
     put(store, HEADS + hash, n);
 }
 
-// The equal cell, or one more.
-pub fn make(text: &[u8], store: &mut [u32], count: u32, c: CellNumbers) -> Made
+// The equal cell, or one more; none where that would be one too many, limit 23.
+pub fn make(text: &[u8], store: &mut [u32], count: u32, c: CellNumbers) -> Option<Made>
     ensures { Makes text.now store.old store.new count c result }
 {
     let h = hash(text, c);
     let first = get(store, HEADS + h);
-    let n = find(text, store, c, count, first);
-    if 0 < n {
-        return Made::At { cell: n, count };
+    if let Some(cell) = find(text, store, c, count, first) {
+        return Some(Made { cell, count });
     }
     if count < MOST_CELLS {
         let more = count + 1;
         push(store, c, more, h);
-        Made::At {
+        Some(Made {
             cell: more,
             count: more,
-        }
+        })
     } else {
-        Made::Full
+        None
     }
 }
 
@@ -127,9 +129,5 @@ pub fn clear(store: &mut [u32])
     if store.len() < STORE_SIZE {
         return;
     }
-    let mut i = 0;
-    while i < HASHES {
-        store[HEADS + i] = 0;
-        i += 1;
-    }
+    store[HEADS..STORE_SIZE].fill(0);
 }

@@ -5,8 +5,8 @@
 --   number-       when one begins at a place, whether it is too large, and the same bounds
 --
 -- Not here: where a span ends (SkippingLaws).
-use Rattle.std.specs.Prelude.{◌≡◌, true, false, List, [], ◌∷◌, ℕ, ◌+◌, ◌-◌, ◌*◌, ◌^◌, ◌≤◌, ◌<◌, eqb, ltb, leb, length}
-use Rattle.std.specs.Prelude.{get_or, drop}
+use Rattle.std.specs.Prelude.{Some, None, ◌≡◌, true, false, List, [], ◌∷◌, ℕ, ◌+◌, ◌-◌, ◌*◌, ◌^◌, ◌≤◌, ◌<◌, eqb, ltb}
+use Rattle.std.specs.Prelude.{leb, length, get_or, drop}
 use Rattle.std.proofs.Common.{sym, ◌∙◌, arith, add-one, drop_of_length-le, drop-cons}
 use Rattle.std.proofs.Math.ListN.{get_or-eq_default}
 use borrow.Author.Tests.{le-leb, lt-leb, leb-true, leb-false, eq-eqb, ne_eqb, eqb-true, eqb-false, ltb-true, ltb-false}
@@ -18,7 +18,6 @@ use Rattle.characters.specs.Spelling.{part_of}
 use Rattle.characters.specs.Lexemes.{identifier_at, decimal, largest, number_of, number_at}
 use Rattle.characters.specs.declared.classes.Class.TheVariants.{Letter}
 use Rattle.characters.specs.declared.skipping.Span.TheVariants.{Word, Digits}
-use Rattle.characters.specs.declared.lexemes.Identifier.{Identifier}
 use Rattle.characters.specs.declared.lexemes.Number.{Number}
 
 -- ---- Identifiers
@@ -30,21 +29,21 @@ module _ (text : List ℕ) (place : ℕ) where
       (λ t. clash e (rw (get_or-eq_default text 0 (ltb-false place (length text) t))))
 
   pub identifier_letter : is_of Letter (get_or text place 0) ≡ true →
-      identifier_at text place ≡ Identifier.Ends (span_end Word text (place + 1))
+      identifier_at text place ≡ Some (span_end Word text (place + 1))
   unfolding identifier_at
   identifier_letter e = rw e
 
-  pub identifier_none : is_of Letter (get_or text place 0) ≡ false → identifier_at text place ≡ Identifier.Nothing
+  pub identifier_none : is_of Letter (get_or text place 0) ≡ false → identifier_at text place ≡ None
   unfolding identifier_at
   identifier_none e = rw e
 
   -- nothing begins beyond the end
-  pub identifier_out : length text ≤ place → identifier_at text place ≡ Identifier.Nothing
+  pub identifier_out : length text ≤ place → identifier_at text place ≡ None
   identifier_out h =
       by_test (is_of Letter (get_or text place 0)) (λ e. absurd (omega (arith, letter_inside e)))
       (λ e. identifier_none e)
 
-  pub identifier_bounds : (end : ℕ) → identifier_at text place ≡ Identifier.Ends end →
+  pub identifier_bounds : (end : ℕ) → identifier_at text place ≡ Some end →
       (place < end) × (end ≤ length text)
   identifier_bounds end e =
       by_test (is_of Letter (get_or text place 0))

@@ -1,3 +1,4 @@
 pub mod SkippingLaws
 pub mod LexemeLaws
 pub mod SpellingLaws
+pub mod ClassNumbers

@@ -12,11 +12,12 @@ use Rattle.std.specs.Prelude.{◌≡◌, Bool, ltb, eqb, length, get_or, drop}
 use Rattle.std.proofs.Math.Path.{refl, ap}
 use Rattle.std.proofs.Common.{sym, ◌∙◌, add-one, drop_of_length-le}
 use Rattle.std.proofs.Math.Bool.{true, false, not}
-use mathlib.Core.List.{List, [], ◌∷◌}
+use mathlib.Core.List.{List, ◌∷◌}
 use Prim.Native.Nat.{ℕ, zero, suc, ◌+◌, ◌-◌, ◌≤◌, ◌<◌}
 use native.Mathlib.Omega.{arith}
 use Rattle.std.proofs.Math.ListN.{length-drop, get_or-eq_default}
 use Rattle.std.proofs.Math.Seq.{drop-cons, get_or-drop}
+use Rattle.std.proofs.lemmas.List.Sums.{prefix_len_passes, prefix_len_stops, prefix_len-le-length}
 use borrow.Author.Tests.{lt-ltb, le-ltb, eq-eqb, ne_eqb, eqb-true, eqb-false, ltb-true, ltb-false}
 use Rattle.characters.specs.Cases.{by_test, clash}
 use Rattle.characters.specs.ClassLaws.{above_space}
@@ -31,36 +32,25 @@ use Rattle.characters.specs.declared.skipping.Span.TheVariants.{Spaces, Line}
 module _ (test : ℕ → Bool) where
   leading_on : (b : ℕ) (bs : List ℕ) → test b ≡ true → leading test (b ∷ bs) ≡ suc (leading test bs)
   unfolding leading
-  leading_on b bs e = rw (e, leading)
+  leading_on b bs e = rw e (omega arith)
 
   leading_stop : (b : ℕ) (bs : List ℕ) → test b ≡ false → leading test (b ∷ bs) ≡ 0
   unfolding leading
-  leading_stop b bs e = rw (e, leading)
+  leading_stop b bs e = rw e
 
   leading_within : (bs : List ℕ) → leading test bs ≤ length bs
   unfolding leading
-  leading_within [] = omega arith
-  leading_within (b ∷ bs) =
-      let h = leading_within bs in
-      by_test (test b) (λ e. omega (arith, leading_on b bs e)) (λ e. omega (arith, leading_stop b bs e))
+  leading_within bs = prefix_len-le-length test bs
 
   -- each of them passes the test
   leading_all : (bs : List ℕ) (i : ℕ) → i < leading test bs → test (get_or bs i 0) ≡ true
   unfolding leading
-  leading_all [] i h = absurd (omega arith)
-  leading_all (b ∷ bs) zero h = by_test (test b) (λ e. e) (λ e. absurd (omega (arith, leading_stop b bs e)))
-  leading_all (b ∷ bs) (suc i) h =
-      by_test (test b) (λ e. leading_all bs i (omega (arith, leading_on b bs e)))
-      (λ e. absurd (omega (arith, leading_stop b bs e)))
+  leading_all bs i h = prefix_len_passes test bs i 0 h
 
   -- and the next one doesn't
   leading_longest : (bs : List ℕ) → leading test bs < length bs → test (get_or bs (leading test bs) 0) ≡ false
   unfolding leading
-  leading_longest [] h = absurd (omega arith)
-  leading_longest (b ∷ bs) h =
-      by_test (test b)
-      (λ e. rw (leading_on b bs e) (leading_longest bs (omega (arith, leading_on b bs e))))
-      (λ e. rw (leading_stop b bs e) e)
+  leading_longest bs h = prefix_len_stops test bs 0 h
 
 -- ---- Spans
 module _ (span : Span) (text : List ℕ) (place : ℕ) where

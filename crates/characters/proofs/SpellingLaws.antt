@@ -1,12 +1,14 @@
 -- Laws of spellings.
 --
 --   part-    a part beyond the end, inside, and of as much as there is
---   same-    the test of two spellings tells whether they are equal; and how a loop over their bytes goes on and ends
-use Rattle.std.specs.Prelude.{◌≡◌, refl, true, false, List, [], ◌∷◌, ℕ, ◌+◌, ◌-◌, ◌≤◌, ◌<◌, eqb, length, get_or, take}
-use Rattle.std.specs.Prelude.{drop}
+--   same-    the test of two spellings tells whether they are equal; and is the library's;
+--            from a place on it goes on and ends
+use Rattle.std.specs.Prelude.{◌≡◌, refl, true, false, ◌&&◌, List, [], ◌∷◌, ℕ, ◌+◌, ◌-◌, ◌≤◌, ◌<◌, eqb, length, get_or}
+use Rattle.std.specs.Prelude.{take, drop}
 use Rattle.std.proofs.Common.{sym, ap, ◌∙◌, arith, length-drop, drop_of_length-le, take_all}
 use Rattle.std.proofs.Math.Numerals.{add-one}
 use Rattle.std.proofs.Math.Seq.{drop-cons, take-nil}
+use lib.Pointwise.{pointwise}
 use borrow.Author.Tests.{eq-eqb, ne_eqb, eqb-true}
 use Rattle.characters.specs.Cases.{by_test, clash}
 use Rattle.characters.specs.Spelling.{part_of, same}
@@ -46,6 +48,14 @@ same_itself (x ∷ a) = rw (eq-eqb x x refl) (same_itself a)
 
 pub same_lengths : (a b : List ℕ) → (length a ≡ length b → ⊥) → same a b ≡ false
 same_lengths a b h = by_test (same a b) (λ e. absurd (h (ap length (same_equal a b e)))) (λ e. e)
+
+-- the library's test of two lists is this one
+pub same_pointwise : (a b : List ℕ) → same a b ≡ pointwise eqb a b
+unfolding same
+same_pointwise [] [] = refl
+same_pointwise [] (y ∷ b) = refl
+same_pointwise (x ∷ a) [] = refl
+same_pointwise (x ∷ a) (y ∷ b) = ap (λ t. eqb x y && t) (same_pointwise a b)
 
 -- from a place on, of two lists of one length
 module _ (a b : List ℕ) (i : ℕ) (h : i < length a) (equal : length a ≡ length b) where

@@ -1,37 +1,17 @@
 -- Laws of the byte classes.
 --
---   class_at, class_told, class_at_rest   a class's number tells the class
 --   class_table, table_length             the table: two classes to a byte
 --   half_for, table_at                    the half that has a byte's class, and that the table has it there
 --   above_space                          no byte above 32 is whitespace
 --
--- Not here: that the table in the source is `class_table`. The proof of `class_table` computes that, once.
-use Rattle.std.specs.Prelude.{◌≡◌, refl, Bool, true, false, cond, ◌&&◌, ◌||◌, List, [], ◌∷◌, ℕ, zero, suc, ◌+◌, ◌*◌}
+-- Not here: that the table in the source is `class_table`. The proof of `number_of` computes that, once.
+use Rattle.std.specs.Prelude.{◌≡◌, refl, Bool, true, false, ◌&&◌, ◌||◌, List, [], ◌∷◌, ℕ, zero, suc, ◌+◌, ◌*◌}
 use Rattle.std.specs.Prelude.{◌/◌, ◌%◌, ◌^◌, ◌<◌, leb, eqb, length, get_or}
-use Rattle.std.proofs.Common.{sym, ap, ◌∙◌, arith, eqb-true, ne_eqb, le-leb}
+use Rattle.std.proofs.Common.{sym, ◌∙◌, arith, eqb-true, ne_eqb, le-leb}
 use Rattle.std.proofs.lemmas.Bool.{eqb-false, lt-leb}
 use Rattle.characters.specs.Cases.{by_test, clash}
 use Rattle.characters.specs.Classes.{class_number, class_of, between, is_of}
-use Rattle.characters.specs.declared.classes.Class.{Class}
-use Rattle.characters.specs.declared.classes.Class.TheVariants.{Other, Whitespace, Digit, Letter, Refused}
-
--- the class of a number, and refused for a number of none
-abbrev pub class_at : ℕ → Class
-class_at n = cond (eqb n 0) Other (cond (eqb n 1) Whitespace (cond (eqb n 2) Digit (cond (eqb n 3) Letter Refused)))
-
-class_at_number : (class : Class) → class_at (class_number class) ≡ class
-class_at_number Other = refl
-class_at_number Whitespace = refl
-class_at_number Digit = refl
-class_at_number Letter = refl
-class_at_number Refused = refl
-
--- a number that is k, and is the number of a class, tells that class
-pub class_told : {n k : ℕ} {class : Class} → n ≡ k → n ≡ class_number class → class_at k ≡ class
-class_told {class = class} is_k is_number = ap class_at (sym is_k ∙ is_number) ∙ class_at_number class
-
-pub class_at_rest : (n : ℕ) → (n ≡ 0 → ⊥) → (n ≡ 1 → ⊥) → (n ≡ 2 → ⊥) → (n ≡ 3 → ⊥) → class_at n ≡ Refused
-class_at_rest n a b c d = rw (ne_eqb n 0 a, ne_eqb n 1 b, ne_eqb n 2 c, ne_eqb n 3 d)
+use Rattle.characters.specs.declared.classes.Class.TheVariants.{Whitespace}
 
 -- the table of a rule: its value at i and at the n - 1 numbers that follow
 unfoldable pub tabulate : (ℕ → ℕ) → ℕ → ℕ → List ℕ

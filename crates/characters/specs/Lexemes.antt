@@ -1,18 +1,17 @@
 -- Document 01, "Characters": identifiers and numbers. "Every token skips first; what follows it is unskipped": whoever
 -- wants a token reads it where skipping leads, and its end is its own.
-use Rattle.std.specs.Prelude.{cond, List, [], ◌∷◌, ℕ, ◌+◌, ◌-◌, ◌*◌, ◌^◌, leb, eqb, get_or}
+use Rattle.std.specs.Prelude.{Option, Some, None, cond, List, [], ◌∷◌, ℕ, ◌+◌, ◌-◌, ◌*◌, ◌^◌, leb, eqb, get_or}
 use Rattle.characters.specs.Classes.{is_of}
 use Rattle.characters.specs.Skipping.{span_end}
 use Rattle.characters.specs.Spelling.{part_of}
 use Rattle.characters.specs.declared.classes.Class.TheVariants.{Letter}
 use Rattle.characters.specs.declared.skipping.Span.TheVariants.{Word, Digits}
-use Rattle.characters.specs.declared.lexemes.Identifier.{Identifier}
 use Rattle.characters.specs.declared.lexemes.Number.{Number}
 
 -- "letter, then letters or digits, longest"; beyond the end there is none
-unfoldable pub identifier_at : List ℕ → ℕ → Identifier
+unfoldable pub identifier_at : List ℕ → ℕ → Option ℕ
 identifier_at text place =
-    cond (is_of Letter (get_or text place 0)) (Identifier.Ends (span_end Word text (place + 1))) Identifier.Nothing
+    cond (is_of Letter (get_or text place 0)) (Some (span_end Word text (place + 1))) None
 
 -- the number that digits spell after those that spell `value`
 unfoldable pub decimal : ℕ → List ℕ → ℕ

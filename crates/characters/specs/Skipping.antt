@@ -1,6 +1,7 @@
 -- Document 01, "Characters": longest spans, and skipping.
-use Rattle.std.specs.Prelude.{Bool, true, false, cond, not, ◌&&◌, ◌||◌, List, [], ◌∷◌, ℕ, zero, suc, ◌+◌, ltb, eqb}
+use Rattle.std.specs.Prelude.{Bool, true, false, cond, not, ◌&&◌, ◌||◌, List, ℕ, zero, suc, ◌+◌, ltb, eqb}
 use Rattle.std.specs.Prelude.{length, get_or, drop}
+use Rattle.std.specs.List.{prefix_len}
 use Rattle.characters.specs.Classes.{is_of}
 use Rattle.characters.specs.declared.classes.Class.TheVariants.{Whitespace, Digit, Letter}
 use Rattle.characters.specs.declared.skipping.Span.{Span}
@@ -15,8 +16,7 @@ belongs Digits b = is_of Digit b
 
 -- how many bytes at the front pass a test, up to the first that doesn't
 unfoldable pub leading : (ℕ → Bool) → List ℕ → ℕ
-leading test [] = 0
-leading test (b ∷ bs) = elim (test b) [ true ↦ suc (leading test bs) | false ↦ 0 ]
+leading test bytes = prefix_len test bytes
 
 -- where the longest span at a place ends: the place itself, where nothing belongs or the text has ended
 unfoldable pub span_end : Span → List ℕ → ℕ → ℕ

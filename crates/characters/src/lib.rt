@@ -15,6 +15,6 @@ mod spelling;
 mod table;
 
 pub use classes::{Class, byte_at, class_of, is_of};
-pub use lexemes::{Identifier, Number, identifier_at, number_at};
+pub use lexemes::{Number, identifier_at, number_at};
 pub use skipping::skip;
 pub use spelling::{part, same_bytes, same_spelling};

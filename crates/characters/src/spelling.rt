@@ -1,38 +1,32 @@
 // Parts of a text or of a book, and whether two of them are spelled alike.
-ghost use Rattle.std.specs.Prelude.{◌≡◌};
+ghost use Rattle.std.specs.Prelude.{◌≡◌, drop};
 ghost use Rattle.characters.specs.Spelling.{part_of, same};
+
+// The bytes from a place on: none where it lies beyond the end.
+pub(crate) fn rest(bytes: &[u8], start: usize) -> &[u8]
+    ensures { result.now ≡ drop start bytes.now }
+{
+    bytes.get(start..).unwrap_or(&[])
+}
 
 // The part of `bytes` from `start` on that is `size` long, or as much of it as there is.
 pub fn part(bytes: &[u8], start: usize, size: usize) -> &[u8]
     ensures { result.now ≡ part_of bytes.now start size }
 {
-    if bytes.len() <= start {
-        return &bytes[..0];
-    }
-    if size <= bytes.len() - start {
-        &bytes[start..start + size]
-    } else {
-        &bytes[start..]
-    }
+    let rest = rest(bytes, start);
+    rest.get(..size).unwrap_or(rest)
 }
 
+// `==`, in the definitions' words.
+#[tactic(auto, using(crate::proofs::SpellingLaws::same_pointwise))]
 pub fn same_bytes(a: &[u8], b: &[u8]) -> bool
     ensures { result ≡ same a.now b.now }
 {
-    if a.len() != b.len() {
-        return false;
-    }
-    let mut i = 0;
-    while i < a.len() {
-        if a[i] != b[i] {
-            return false;
-        }
-        i += 1;
-    }
-    true
+    a == b
 }
 
-// Whether a part of `left` is spelled as a part of `right`.
+// Whether a part of `left` is spelled as a part of `right`. Each part's start and size stay numbers: callers read them
+// from cells and contracts name them so.
 pub fn same_spelling(
     left: &[u8],
     left_start: usize,

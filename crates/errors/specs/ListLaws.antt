@@ -15,7 +15,8 @@ use Rattle.semantics.proofs.FurthestLaws as laws
 use Rattle.errors.specs.Maps.{error_of}
 use Rattle.errors.specs.Lists.{error_size, error_at, errors_in, Joins, JoinsTo}
 use Rattle.errors.specs.declared.Error.{Error}
-use Rattle.errors.specs.declared.list.Joined.{Joined}
+use Rattle.errors.specs.declared.list.ListError.{ListError}
+use Rattle.std.specs.Prelude.{Result, Ok, Err}
 
 -- ---- No more than one result joins a list
 numbers_of_lem : (p k a : ℕ) (e : Error) → e.place ≡ p → e.kind ≡ k → e.argument ≡ a →
@@ -32,25 +33,25 @@ unfolding errors_in
 none_of_none numbers zero e h f = Memᴰ.not-nil f.member
 none_of_none numbers (suc n) e h f = absurd (omega (arith, h))
 
-pub joins_only : (numbers : List ℕ) (r s : Joined) → Joins numbers r → Joins numbers s → r ≡ s
-joins_only numbers (Joined.At e) (Joined.At x) h g =
+pub joins_only : (numbers : List ℕ) (r s : Result Error ListError) → Joins numbers r → Joins numbers s → r ≡ s
+joins_only numbers (Ok e) (Ok x) h g =
     let l = h.entire in
     let m = g.entire in
     let same : g.count ≡ h.count = omega arith in
-    ap Joined.At
+    ap Ok
     (same_code e x
     (laws.furthest_only (errors_in numbers h.count) (error_of e) (error_of x) h.furthest
     (subst (λ (n : ℕ). Furthest (errors_in numbers n) (error_of x)) same g.furthest)))
-joins_only numbers (Joined.At e) Joined.Empty h g =
+joins_only numbers (Ok e) (Err ListError.Empty) h g =
     let l = h.entire in absurd (none_of_none numbers h.count (error_of e) (omega (arith, g)) h.furthest)
-joins_only numbers (Joined.At e) Joined.Uneven h g = absurd (g h.count h.entire)
-joins_only numbers Joined.Empty (Joined.At x) h g =
+joins_only numbers (Ok e) (Err ListError.Uneven) h g = absurd (g h.count h.entire)
+joins_only numbers (Err ListError.Empty) (Ok x) h g =
     let l = g.entire in absurd (none_of_none numbers g.count (error_of x) (omega (arith, h)) g.furthest)
-joins_only numbers Joined.Empty Joined.Empty h g = refl
-joins_only numbers Joined.Empty Joined.Uneven h g = absurd (g 0 (omega (arith, h)))
-joins_only numbers Joined.Uneven (Joined.At x) h g = absurd (h g.count g.entire)
-joins_only numbers Joined.Uneven Joined.Empty h g = absurd (h 0 (omega (arith, g)))
-joins_only numbers Joined.Uneven Joined.Uneven h g = refl
+joins_only numbers (Err ListError.Empty) (Err ListError.Empty) h g = refl
+joins_only numbers (Err ListError.Empty) (Err ListError.Uneven) h g = absurd (g 0 (omega (arith, h)))
+joins_only numbers (Err ListError.Uneven) (Ok x) h g = absurd (h g.count g.entire)
+joins_only numbers (Err ListError.Uneven) (Err ListError.Empty) h g = absurd (h 0 (omega (arith, g)))
+joins_only numbers (Err ListError.Uneven) (Err ListError.Uneven) h g = refl
 
 -- ---- The laws of joining, over results of the function
 module _ (a b c : Error) where
@@ -76,7 +77,7 @@ module _ (a b c : Error) where
 
 -- ---- A list under way
 pub uneven_list : (numbers : List ℕ) → (length numbers ≡ error_size * (length numbers / error_size) → ⊥) →
-    Joins numbers Joined.Uneven
+    Joins numbers (Err ListError.Uneven)
 uneven_list numbers h n e = h (omega (arith, e))
 
 pub first_joined : (numbers : List ℕ) (e : Error) → error_of e ≡ error_at numbers 0 →

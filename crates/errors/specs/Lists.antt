@@ -5,7 +5,8 @@ use Rattle.semantics.specs.Errors.{error, join}
 use Rattle.semantics.specs.Furthest.{Furthest}
 use Rattle.errors.specs.Maps.{error_of}
 use Rattle.errors.specs.declared.Error.{Error}
-use Rattle.errors.specs.declared.list.Joined.{Joined}
+use Rattle.errors.specs.declared.list.ListError.{ListError}
+use Rattle.std.specs.Prelude.{Result, Ok, Err}
 
 -- ---- Errors in a list
 -- place, kind and argument
@@ -26,10 +27,10 @@ pub record FurthestIn (numbers : List ℕ) (e : Error) : Type 0 where
   pub entire : length numbers ≡ error_size * count
   pub furthest : Furthest (errors_in numbers count) (error_of e)
 
-abbrev pub Joins : List ℕ → Joined → Type 0
-Joins numbers (Joined.At e) = FurthestIn numbers e
-Joins numbers Joined.Empty = length numbers ≡ 0
-Joins numbers Joined.Uneven = (n : ℕ) → length numbers ≡ error_size * n → ⊥
+abbrev pub Joins : List ℕ → Result Error ListError → Type 0
+Joins numbers (Ok e) = FurthestIn numbers e
+Joins numbers (Err ListError.Empty) = length numbers ≡ 0
+Joins numbers (Err ListError.Uneven) = (n : ℕ) → length numbers ≡ error_size * n → ⊥
 
 -- ---- Two errors joined
 abbrev pub JoinsTo : Error → Error → Error → Type 0

@@ -18,9 +18,9 @@ ghost use Rattle.errors.specs.Maps.{error_of, failure_of};
 
 mod list;
 
-pub use list::{ERROR_SIZE, Joined, join_list};
+pub use list::{ERROR_SIZE, ListError, join_list};
 
-// ---- The kinds
+// ---- The kinds. Numbers and no enum: the errors that `join_list` is lent by C have any number for a kind.
 pub const CHARACTER_WANTED: u32 = 1;
 
 pub const WORD_WANTED: u32 = 2;
@@ -47,41 +47,26 @@ pub const MORE_WANTED: u32 = 12;
 
 // The place, which is compared, stands between the two numbers that are only handed on: side by side these would be
 // read as one number of 64 bits, and the reading waits until both were written (docs/PERFORMANCE.md).
-#[derive(Clone, Copy)]
+#[derive(Clone, Copy, PartialEq, Eq, Debug)]
 pub struct Error {
     pub kind: u32,
     pub place: u32,
     pub argument: u32,
 }
 
-// `Option Error`: an error, or none where something was found.
-#[derive(Clone, Copy)]
-pub enum Failure {
-    None,
-    At(Error),
-}
-
-// "The furthest place wins, then least kind, then least argument".
+// "The furthest place wins, then least kind, then least argument". No derived order: the fields stand in another one,
+// as said above.
 fn wins(a: Error, b: Error) -> bool
     ensures { result ≡ winsOver (error_of a) (error_of b) }
 {
-    if b.place < a.place {
-        return true;
-    }
-    if a.place != b.place {
-        return false;
-    }
-    if a.kind < b.kind {
-        return true;
-    }
-    if a.kind != b.kind {
-        return false;
-    }
-    a.argument <= b.argument
+    b.place < a.place
+        || (a.place == b.place
+            && (a.kind < b.kind || (a.kind == b.kind && a.argument <= b.argument)))
 }
 
 // Of two errors that which counts. In whatever order and grouping errors are joined, their furthest, least one is left
 // (semantics, FurthestLaws; specs/ListLaws.antt has it of this function).
+#[tactic(auto, unfolding(semantics::specs::Errors::join))]
 pub fn join(a: Error, b: Error) -> Error
     ensures { JoinsTo a b result }
 {
@@ -89,94 +74,80 @@ pub fn join(a: Error, b: Error) -> Error
 }
 
 // An error that counts only where it lies beyond a place.
-fn beyond(place: u32, e: Error) -> Failure
+#[tactic(auto, unfolding(semantics::specs::Errors::beyond))]
+fn beyond(place: u32, e: Error) -> Option<Error>
     ensures { failure_of result ≡ errorBeyond place (error_of e) }
 {
-    if place < e.place {
-        Failure::At(e)
-    } else {
-        Failure::None
-    }
+    if place < e.place { Some(e) } else { None }
 }
 
 // The errors of two variants: where one has none, the other's counts.
-pub fn join_with(first: Failure, second: Failure) -> Failure
+#[tactic(auto, unfolding(semantics::specs::Errors::join_with))]
+pub fn join_with(first: Option<Error>, second: Option<Error>) -> Option<Error>
     ensures { failure_of result ≡ join_with (failure_of first) (failure_of second) }
 {
-    let Failure::At(a) = first else {
-        return second;
-    };
-    let Failure::At(b) = second else {
-        return first;
-    };
-    Failure::At(join(a, b))
+    match (first, second) {
+        (Some(a), Some(b)) => Some(join(a, b)),
+        (None, _) => second,
+        (_, None) => first,
+    }
 }
 
 // What follows two parses: a parse on either side leaves no error.
-pub fn either(first: Failure, second: Failure) -> Failure
+#[tactic(auto, unfolding(semantics::specs::Run::either))]
+pub fn either(first: Option<Error>, second: Option<Error>) -> Option<Error>
     ensures { failure_of result ≡ either_of (failure_of first) (failure_of second) }
 {
-    let Failure::At(e) = first else {
-        return Failure::None;
-    };
-    let Failure::At(f) = second else {
-        return Failure::None;
-    };
-    Failure::At(join(e, f))
+    let e = first?;
+    let f = second?;
+    Some(join(e, f))
 }
 
 // Both sides of a choice failed: their error, where it consumed something since the choice, else that more was wanted
 // there.
+#[tactic(auto, unfolding(semantics::specs::Errors::choice_error))]
 fn choice_error(at: u32, nonterminal: u32, a: Error, b: Error) -> Error
     ensures { error_of result ≡ choice_error at nonterminal (error_of a) (error_of b) }
 {
-    let Failure::At(e) = beyond(at, join(a, b)) else {
-        return Error {
-            place: at,
-            kind: MORE_WANTED,
-            argument: nonterminal,
-        };
-    };
-    e
+    beyond(at, join(a, b)).unwrap_or(Error {
+        place: at,
+        kind: MORE_WANTED,
+        argument: nonterminal,
+    })
 }
 
 // Both sides of a choice at a place, in a variant of the nonterminal: a parse on either side leaves no error.
-pub fn chosen(at: u32, nonterminal: u32, first: Failure, second: Failure) -> Failure
+#[tactic(auto, unfolding(semantics::specs::Errors::chosen_failure))]
+pub fn chosen(
+    at: u32,
+    nonterminal: u32,
+    first: Option<Error>,
+    second: Option<Error>,
+) -> Option<Error>
     ensures { failure_of result ≡ chosen_failure at nonterminal (failure_of first) (failure_of second) }
 {
-    let Failure::At(a) = first else {
-        return Failure::None;
-    };
-    let Failure::At(b) = second else {
-        return Failure::None;
-    };
-    Failure::At(choice_error(at, nonterminal, a, b))
+    let a = first?;
+    let b = second?;
+    Some(choice_error(at, nonterminal, a, b))
 }
 
 // What a variant's failure counts for a call that begins at `start`: a variant that isn't committed counts nothing.
-pub fn counted(committed: bool, start: u32, failure: Failure) -> Failure
+#[tactic(auto, unfolding(crate::specs::Failures::counted))]
+pub fn counted(committed: bool, start: u32, failure: Option<Error>) -> Option<Error>
     ensures { failure_of result ≡ countedOf committed start (failure_of failure) }
 {
-    let Failure::At(e) = failure else {
-        return Failure::None;
-    };
-    if committed {
-        beyond(start, e)
-    } else {
-        Failure::None
-    }
+    let e = failure?;
+    if committed { beyond(start, e) } else { None }
 }
 
 // What a call without a parse gives: "With none, a call gives 11 at its start".
-pub fn failed_call(start: u32, nonterminal: u32, failure: Failure) -> Error
+#[tactic(auto, unfolding(crate::specs::Failures::failed_call))]
+pub fn failed_call(start: u32, nonterminal: u32, failure: Option<Error>) -> Error
     ensures { error_of result ≡ failed_call start nonterminal (failure_of failure) }
 {
-    let Failure::At(e) = failure else {
-        return Error {
-            place: start,
-            kind: NONTERMINAL_WANTED,
-            argument: nonterminal,
-        };
-    };
-    e
+    failure.unwrap_or(Error {
+        place: start,
+        kind: NONTERMINAL_WANTED,
+        argument: nonterminal,
+    })
 }

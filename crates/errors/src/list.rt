@@ -9,15 +9,16 @@ use crate::{Error, join};
 // An error's numbers in a list: place, kind and argument.
 pub const ERROR_SIZE: usize = 3;
 
-#[derive(Clone, Copy)]
-pub enum Joined {
-    At(Error),
-    // there is no error in the list
+// Why a list has no furthest error.
+#[derive(Clone, Copy, PartialEq, Eq, Debug)]
+pub enum ListError {
+    // there is no error in it
     Empty,
-    // the list's length is not three times a number
+    // its length is not three times a number
     Uneven,
 }
 
+// The list is C's, so the numbers of an error go by their places.
 fn error_at(numbers: &[u32], at: usize) -> Error
     requires { at + error_size ≤ length numbers.now }
     ensures { error_of result ≡ error_at numbers.now at }
@@ -30,23 +31,20 @@ fn error_at(numbers: &[u32], at: usize) -> Error
 }
 
 // The errors are joined one after the other; in another order the same one would be left.
-pub fn join_list(numbers: &[u32]) -> Joined
+#[tactic(auto, using(crate::specs::ListLaws::uneven_list))]
+pub fn join_list(numbers: &[u32]) -> Result<Error, ListError>
     ensures { Joins numbers.now result }
 {
     let count = numbers.len() / ERROR_SIZE;
     if numbers.len() != ERROR_SIZE * count {
-        return Joined::Uneven;
+        return Err(ListError::Uneven);
     }
     if count == 0 {
-        return Joined::Empty;
+        return Err(ListError::Empty);
     }
     let mut found = error_at(numbers, 0);
-    let mut at = ERROR_SIZE;
-    let mut left = count - 1;
-    while 0 < left {
-        found = join(found, error_at(numbers, at));
-        at += ERROR_SIZE;
-        left -= 1;
+    for i in 1..count {
+        found = join(found, error_at(numbers, ERROR_SIZE * i));
     }
-    Joined::At(found)
+    Ok(found)
 }

@@ -1,103 +1,49 @@
 // The printed line compared with the known one.
-use crate::difference::{At, Difference, Part, of_number, or_else};
-use crate::numbers::at_most;
-use crate::record::RECORD_ROOM;
-use book::{INDEX_SIZE, check_into};
-use characters::{byte_at, part};
-use printing::{Length, print};
+use crate::difference::{Difference, Part, of_list, of_number};
+use crate::record::Texts;
+use book::{Book, INDEX_SIZE, check_into};
+use printing::print;
 use run::Answer;
 
 // What the room for a line holds before it is printed: a byte that no line has.
 const FILL: u8 = 7;
 
-fn wide(byte: u8) -> usize {
-    byte as usize
-}
+// The bytes of the longest line.
+const LINE_ROOM: usize = 131072;
 
-fn of_bytes(part: Part, wanted: &[u8], got: &[u8]) -> Difference {
-    let mut i = 0;
-    while i < wanted.len() {
-        let wanted_byte = wanted[i];
-        let got_byte = byte_at(got, i);
-        if wanted_byte != got_byte {
-            return Difference::First(At {
-                part,
-                place: i,
-                wanted: wide(wanted_byte),
-                got: wide(got_byte),
-            });
-        }
-        i += 1;
-    }
-    Difference::Nothing
-}
-
-fn one_less(n: usize) -> usize {
-    if n == 0 { 0 } else { n - 1 }
-}
-
-// How many bytes were printed: none if the room is too little.
-fn printed<'a>(
-    book: &'a [u8],
-    text: &'a [u8],
-    cells: &[u32],
-    answer: Answer,
-    out: &mut [u8],
-) -> usize {
+// How many bytes were printed: none if the room is too little, which for C is 0 too.
+fn printed(texts: &Texts, cells: &[u32], answer: Answer, out: &mut [u8]) -> usize {
     let mut index = [0usize; INDEX_SIZE];
-    check_into(book, &mut index);
-    match print(book, &index, text, cells, answer, out) {
-        Length::Bytes(size) => size,
-        Length::Longer => 0,
-    }
+    // of a refused book no value is printed, and so no name
+    let _ = check_into(texts.book, &mut index);
+    let book = Book::new(texts.book, &index);
+    print(&book, texts.text, cells, answer, out).unwrap_or(0)
 }
 
 // In exactly enough room.
-fn in_enough<'a>(
-    book: &'a [u8],
-    text: &'a [u8],
-    cells: &[u32],
-    answer: Answer,
-    wanted: &[u8],
-) -> Difference {
-    let mut space = [FILL; RECORD_ROOM];
-    let out: &mut [u8] = &mut space;
-    let room = at_most(wanted.len(), out.len());
-    let size = printed(book, text, cells, answer, &mut out[0..room]);
-    or_else(
-        of_number(Part::LineSize, 0, wanted.len(), size),
-        of_bytes(Part::Line, wanted, out),
-    )
+fn in_enough(texts: &Texts, cells: &[u32], answer: Answer) -> Option<Difference> {
+    let wanted = texts.line;
+    let mut space = [FILL; LINE_ROOM];
+    let Some(out) = space.get_mut(..wanted.len()) else {
+        return Some(Difference::Unreadable);
+    };
+    let size = printed(texts, cells, answer, out);
+    let length = of_number(Part::LineSize, 0, wanted.len() as u64, size as u64);
+    length.or(of_list(Part::Line, wanted, out))
 }
 
 // In one byte too few, which stay as they are.
-fn in_too_few<'a>(
-    book: &'a [u8],
-    text: &'a [u8],
-    cells: &[u32],
-    answer: Answer,
-    wanted: &[u8],
-) -> Difference {
-    let untouched = [FILL; RECORD_ROOM];
-    let mut space = [FILL; RECORD_ROOM];
-    let out: &mut [u8] = &mut space;
-    let room = at_most(one_less(wanted.len()), out.len());
-    let size = printed(book, text, cells, answer, &mut out[0..room]);
-    or_else(
-        of_number(Part::Room, 0, 0, size),
-        of_bytes(Part::Room, part(&untouched, 0, room), out),
-    )
+fn in_too_few(texts: &Texts, cells: &[u32], answer: Answer) -> Option<Difference> {
+    let untouched = [FILL; LINE_ROOM];
+    let mut space = [FILL; LINE_ROOM];
+    let Some(out) = space.get_mut(..texts.line.len().saturating_sub(1)) else {
+        return Some(Difference::Unreadable);
+    };
+    let size = printed(texts, cells, answer, out);
+    let length = of_number(Part::Room, 0, 0, size as u64);
+    length.or(of_list(Part::Room, &untouched, out))
 }
 
-pub fn of_line<'a>(
-    book: &'a [u8],
-    text: &'a [u8],
-    cells: &[u32],
-    answer: Answer,
-    wanted: &[u8],
-) -> Difference {
-    or_else(
-        in_enough(book, text, cells, answer, wanted),
-        in_too_few(book, text, cells, answer, wanted),
-    )
+pub fn of_line(texts: &Texts, cells: &[u32], answer: Answer) -> Option<Difference> {
+    in_enough(texts, cells, answer).or(in_too_few(texts, cells, answer))
 }

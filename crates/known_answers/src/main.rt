@@ -13,24 +13,19 @@
 
 mod difference;
 mod line;
-mod numbers;
-mod reading;
+mod reader;
 mod record;
 mod replay;
 mod rust;
 mod tally;
 mod vector;
 
-use replay::{Kind, replay};
-use std::fs::File;
-use std::io;
-
-fn replay_file(rt: &HostRuntime, path: &str, kind: Kind) -> io::Result<()> {
-    let mut file = File::open(rt, path)?;
-    replay(rt.stdout(), &mut file, kind)
-}
+use replay::replay;
+use rust::RustAnswer;
+use std::{fs, io};
+use vector::Vector;
 
 fn main(rt: HostRuntime) -> io::Result<()> {
-    replay_file(&rt, "vectors.bin", Kind::Vector)?;
-    replay_file(&rt, "rust.bin", Kind::Rust)
+    replay::<Vector>(rt.stdout(), &fs::read(&rt, "vectors.bin")?)?;
+    replay::<RustAnswer>(rt.stdout(), &fs::read(&rt, "rust.bin")?)
 }

@@ -1,25 +1,13 @@
 // A book and a text with what the Rust answered. Behind the lengths the head has the start, the refusal, the place (0
 // unless there is no parse) and the number of parses; behind the line stand rest, level and associativity of each
 // parse. compare/README.md tells how the list is made.
-use crate::difference::{Difference, Part, of_number, or_else};
+use crate::difference::{Difference, Part, of_list, of_number};
 use crate::line::of_line;
-use crate::numbers::{FAR, after, number, size_of, wide};
-use crate::record;
-use crate::record::head;
+use crate::reader::{Reader, write_numbers};
+use crate::record::{Lengths, Record, Texts};
 use cells::CELLS_SIZE;
 use run::{Answer, MOST_UNITS, NO_PARSE, read};
-use sets::{MOST_PARSES, PARSE_SIZE, PARSES_SIZE};
-
-// Numbers of the head.
-const START: usize = record::SIZES;
-
-const REFUSAL: usize = START + 1;
-
-const PLACE: usize = REFUSAL + 1;
-
-const PARSES: usize = PLACE + 1;
-
-pub const HEAD: usize = PARSES + 1;
+use sets::{PARSE_SIZE, PARSES_SIZE};
 
 // The numbers of a parse: its cell is the reader's own.
 const RUST_PARSE_SIZE: usize = PARSE_SIZE - 1;
@@ -31,118 +19,88 @@ const ANSWER_PLACE: usize = 1;
 
 const ANSWER_PARSES: usize = 5;
 
-// How many bytes so many parses have.
-fn parses_size(count: usize) -> usize {
-    if count < FAR {
-        size_of(RUST_PARSE_SIZE * count)
-    } else {
-        FAR
-    }
+#[derive(Clone, Copy)]
+pub struct RustAnswer<'a> {
+    start: u32,
+    refusal: u32,
+    place: u32,
+    count: u32,
+    texts: Texts<'a>,
+    parses: &'a [[u8; 4]],
 }
 
-// How many bytes the record has.
-pub fn size(bytes: &[u8]) -> usize {
-    let parses = parses_size(wide(head(bytes, PARSES)));
-    after(record::record_of(bytes, HEAD).numbers, parses)
+fn of_answer_number(place: usize, wanted: u32, got: u32) -> Option<Difference> {
+    of_number(Part::Answer, place, u64::from(wanted), u64::from(got))
 }
 
-fn listed(parses: &[u32], i: usize) -> usize {
-    if i < parses.len() { wide(parses[i]) } else { 0 }
-}
-
-// The parse whose numbers begin at a place of the record, and in the list at number `first`.
-fn of_parse(bytes: &[u8], at: usize, parses: &[u32], first: usize) -> Difference {
-    let mut i = 0;
-    while i < RUST_PARSE_SIZE {
-        let place = after(first, i);
-        let wanted = wide(number(bytes, at, i));
-        let got = listed(parses, place);
-        if wanted != got {
-            return of_number(Part::Parses, place, wanted, got);
+impl<'a> RustAnswer<'a> {
+    // The place is compared where there is no parse.
+    fn of_place(&self, answer: Answer) -> Option<Difference> {
+        if answer.refusal != NO_PARSE {
+            return None;
         }
-        i += 1;
+        of_answer_number(ANSWER_PLACE, self.place, answer.place)
     }
-    Difference::Nothing
-}
 
-fn of_parses(bytes: &[u8], at: usize, parses: &[u32]) -> Difference {
-    let count = wide(head(bytes, PARSES));
-    if MOST_PARSES < count {
-        return Difference::Unreadable;
+    fn of_answer(&self, answer: Answer) -> Option<Difference> {
+        of_answer_number(ANSWER_REFUSAL, self.refusal, answer.refusal)
+            .or(self.of_place(answer))
+            .or(of_answer_number(ANSWER_PARSES, self.count, answer.parses))
     }
-    let mut i = 0;
-    while i < count {
-        let place = after(at, parses_size(i));
-        let difference = of_parse(bytes, place, parses, PARSE_SIZE * i);
-        if let Difference::First(_) = difference {
-            return difference;
+
+    // Of each parse that is given, all but the cell.
+    fn of_parses(&self, parses: &[u32; PARSES_SIZE]) -> Option<Difference> {
+        let mut wanted = *parses;
+        let given = self.parses.chunks_exact(RUST_PARSE_SIZE);
+        for (parse, numbers) in wanted.chunks_exact_mut(PARSE_SIZE).zip(given) {
+            write_numbers(parse, numbers);
         }
-        i += 1;
+        of_list(Part::Parses, &wanted, parses)
     }
-    Difference::Nothing
-}
 
-// The place is compared where there is no parse.
-fn of_place(bytes: &[u8], answer: Answer) -> Difference {
-    if answer.refusal != NO_PARSE {
-        return Difference::Nothing;
+    // The line of a value; a refusal has none in the list.
+    fn of_value(&self, cells: &[u32], answer: Answer) -> Option<Difference> {
+        if answer.refusal != 0 {
+            return of_number(Part::LineSize, 0, self.texts.line.len() as u64, 0);
+        }
+        of_line(&self.texts, cells, answer)
     }
-    of_number(
-        Part::Answer,
-        ANSWER_PLACE,
-        wide(head(bytes, PLACE)),
-        wide(answer.place),
-    )
 }
 
-fn of_answer(bytes: &[u8], answer: Answer) -> Difference {
-    let refusal = of_number(
-        Part::Answer,
-        ANSWER_REFUSAL,
-        wide(head(bytes, REFUSAL)),
-        wide(answer.refusal),
-    );
-    let parses = of_number(
-        Part::Answer,
-        ANSWER_PARSES,
-        wide(head(bytes, PARSES)),
-        wide(answer.parses),
-    );
-    or_else(refusal, or_else(of_place(bytes, answer), parses))
-}
+impl<'a> Record<'a> for RustAnswer<'a> {
+    const NAME: &'static str = "answer of the Rust";
 
-// The line of a value; a refusal has none in the list.
-fn of_value<'a>(
-    book: &'a [u8],
-    text: &'a [u8],
-    cells: &[u32],
-    answer: Answer,
-    wanted: &[u8],
-) -> Difference {
-    if answer.refusal != 0 {
-        return of_number(Part::LineSize, 0, wanted.len(), 0);
+    const NAMES: &'static str = "answers of the Rust";
+
+    fn read(list: &mut Reader<'a>) -> Option<RustAnswer<'a>> {
+        let lengths = Lengths::read(list)?;
+        let start = list.number()?;
+        let refusal = list.number()?;
+        let place = list.number()?;
+        let count = list.number()?;
+        Some(RustAnswer {
+            start,
+            refusal,
+            place,
+            count,
+            texts: Texts::read(list, lengths)?,
+            parses: list.numbers((count as usize).checked_mul(RUST_PARSE_SIZE)?)?,
+        })
     }
-    of_line(book, text, cells, answer, wanted)
-}
 
-pub fn difference(bytes: &[u8]) -> Difference {
-    let r = record::record_of(bytes, HEAD);
-    let book = record::book(bytes, r);
-    let text = record::text(bytes, r);
-    let mut cells = [0u32; CELLS_SIZE];
-    let mut parses = [0u32; PARSES_SIZE];
-    let answer = read(
-        book,
-        text,
-        head(bytes, START),
-        MOST_UNITS,
-        &mut cells,
-        &mut parses,
-    );
-    let numbers = or_else(
-        of_answer(bytes, answer),
-        of_parses(bytes, r.numbers, &parses),
-    );
-    let line = of_value(book, text, &cells, answer, record::line(bytes, r));
-    or_else(numbers, line)
+    fn difference(&self) -> Option<Difference> {
+        let mut cells = [0u32; CELLS_SIZE];
+        let mut parses = [0u32; PARSES_SIZE];
+        let answer = read(
+            self.texts.book,
+            self.texts.text,
+            self.start,
+            MOST_UNITS,
+            &mut cells,
+            &mut parses,
+        );
+        self.of_answer(answer)
+            .or(self.of_parses(&parses))
+            .or(self.of_value(&cells, answer))
+    }
 }

@@ -1,36 +1,13 @@
 // A vector: a call, and all that the documents make of it. Behind the lengths the head has the start, the allowance,
 // the lengths of the lent lists, the seven numbers of the answer, 1 if the lists are written (else 0), and how many
 // numbers of the cells and of the parses are given. These stand behind the line; zeros follow them.
-use crate::difference::{At, Difference, Part, or_else};
+use crate::difference::{Difference, Part, of_list};
 use crate::line::of_line;
-use crate::numbers::{after, at_most, number, size_of, wide};
-use crate::record;
-use crate::record::{Record, head};
+use crate::reader::{Reader, write_numbers};
+use crate::record::{Lengths, Record, Texts};
 use cells::CELLS_SIZE;
 use run::{Answer, read};
 use sets::PARSES_SIZE;
-
-// The numbers of an answer.
-const ANSWER_SIZE: usize = 7;
-
-// Numbers of the head.
-const START: usize = record::SIZES;
-
-const ALLOWANCE: usize = START + 1;
-
-const CELLS_LENT: usize = ALLOWANCE + 1;
-
-const PARSES_LENT: usize = CELLS_LENT + 1;
-
-const ANSWER: usize = PARSES_LENT + 1;
-
-const WRITTEN: usize = ANSWER + ANSWER_SIZE;
-
-const CELLS_GIVEN: usize = WRITTEN + 1;
-
-const PARSES_GIVEN: usize = CELLS_GIVEN + 1;
-
-pub const HEAD: usize = PARSES_GIVEN + 1;
 
 // What the lists hold before a call.
 const FILL: u32 = 4000000007;
@@ -42,111 +19,106 @@ const CELLS_ROOM: usize = CELLS_SIZE + BEYOND;
 
 const PARSES_ROOM: usize = PARSES_SIZE + BEYOND;
 
-// How many bytes the record has.
-pub fn size(bytes: &[u8]) -> usize {
-    let cells = size_of(wide(head(bytes, CELLS_GIVEN)));
-    let parses = size_of(wide(head(bytes, PARSES_GIVEN)));
-    after(after(record::record_of(bytes, HEAD).numbers, cells), parses)
-}
-
-// A list after a call: the numbers that are given, zeros up to `size`, and what it held before.
 #[derive(Clone, Copy)]
-struct Known {
+pub struct Vector<'a> {
+    start: u32,
+    allowance: u32,
+    cells_lent: usize,
+    parses_lent: usize,
+    answer: Answer,
+    // whether the call writes the lists
     written: bool,
-    first: usize,
-    given: usize,
-    size: usize,
+    texts: Texts<'a>,
+    cells: &'a [[u8; 4]],
+    parses: &'a [[u8; 4]],
 }
 
-fn known_number(bytes: &[u8], known: Known, i: usize) -> u32 {
-    if !known.written {
-        return FILL;
-    }
-    if i < known.given {
-        return number(bytes, known.first, i);
-    }
-    if i < known.size { 0 } else { FILL }
+fn read_answer(list: &mut Reader) -> Option<Answer> {
+    Some(Answer {
+        refusal: list.number()?,
+        place: list.number()?,
+        kind: list.number()?,
+        argument: list.number()?,
+        work: list.number()?,
+        parses: list.number()?,
+        value: list.number()?,
+    })
 }
 
-fn of_list(bytes: &[u8], part: Part, known: Known, list: &[u32]) -> Difference {
-    let mut i = 0;
-    while i < list.len() {
-        let wanted = known_number(bytes, known, i);
-        let got = list[i];
-        if wanted != got {
-            return Difference::First(At {
-                part,
-                place: i,
-                wanted: wide(wanted),
-                got: wide(got),
-            });
-        }
-        i += 1;
-    }
-    Difference::Nothing
-}
-
-fn of_answer(bytes: &[u8], a: Answer) -> Difference {
-    let known = Known {
-        written: true,
-        first: size_of(ANSWER),
-        given: ANSWER_SIZE,
-        size: ANSWER_SIZE,
-    };
-    let numbers = [
+fn numbers_of(a: Answer) -> [u32; 7] {
+    [
         a.refusal, a.place, a.kind, a.argument, a.work, a.parses, a.value,
-    ];
-    of_list(bytes, Part::Answer, known, &numbers)
+    ]
 }
 
-fn of_cells(bytes: &[u8], r: Record, cells: &[u32]) -> Difference {
-    let known = Known {
-        written: head(bytes, WRITTEN) != 0,
-        first: r.numbers,
-        given: wide(head(bytes, CELLS_GIVEN)),
-        size: CELLS_SIZE,
-    };
-    of_list(bytes, Part::Cells, known, cells)
+impl<'a> Vector<'a> {
+    fn call(&self, cells: &mut [u32], parses: &mut [u32]) -> Answer {
+        let cells_lent = self.cells_lent.min(cells.len());
+        let parses_lent = self.parses_lent.min(parses.len());
+        read(
+            self.texts.book,
+            self.texts.text,
+            self.start,
+            self.allowance,
+            &mut cells[..cells_lent],
+            &mut parses[..parses_lent],
+        )
+    }
+
+    // A list after the call: if it is written, the numbers that are given and zeros behind them; the rest as it was
+    // before.
+    fn of_lent<const ROOM: usize>(
+        &self,
+        part: Part,
+        given: &[[u8; 4]],
+        list: &[u32; ROOM],
+    ) -> Option<Difference> {
+        let mut wanted = [FILL; ROOM];
+        if self.written {
+            let written = &mut wanted[..ROOM.saturating_sub(BEYOND)];
+            written.fill(0);
+            write_numbers(written, given);
+        }
+        of_list(part, &wanted, list)
+    }
 }
 
-fn of_parses(bytes: &[u8], r: Record, parses: &[u32]) -> Difference {
-    let cells = size_of(wide(head(bytes, CELLS_GIVEN)));
-    let known = Known {
-        written: head(bytes, WRITTEN) != 0,
-        first: after(r.numbers, cells),
-        given: wide(head(bytes, PARSES_GIVEN)),
-        size: PARSES_SIZE,
-    };
-    of_list(bytes, Part::Parses, known, parses)
-}
+impl<'a> Record<'a> for Vector<'a> {
+    const NAME: &'static str = "vector";
 
-fn called(bytes: &[u8], r: Record, cells: &mut [u32], parses: &mut [u32]) -> Answer {
-    let cells_lent = at_most(wide(head(bytes, CELLS_LENT)), cells.len());
-    let parses_lent = at_most(wide(head(bytes, PARSES_LENT)), parses.len());
-    read(
-        record::book(bytes, r),
-        record::text(bytes, r),
-        head(bytes, START),
-        head(bytes, ALLOWANCE),
-        &mut cells[0..cells_lent],
-        &mut parses[0..parses_lent],
-    )
-}
+    const NAMES: &'static str = "vectors";
 
-// The answer first, then the cells and the parses, then the line.
-pub fn difference(bytes: &[u8]) -> Difference {
-    let r = record::record_of(bytes, HEAD);
-    let mut cells = [FILL; CELLS_ROOM];
-    let mut parses = [FILL; PARSES_ROOM];
-    let answer = called(bytes, r, &mut cells, &mut parses);
-    let lists = or_else(of_cells(bytes, r, &cells), of_parses(bytes, r, &parses));
-    let numbers = or_else(of_answer(bytes, answer), lists);
-    let line = of_line(
-        record::book(bytes, r),
-        record::text(bytes, r),
-        &cells,
-        answer,
-        record::line(bytes, r),
-    );
-    or_else(numbers, line)
+    fn read(list: &mut Reader<'a>) -> Option<Vector<'a>> {
+        let lengths = Lengths::read(list)?;
+        let start = list.number()?;
+        let allowance = list.number()?;
+        let cells_lent = list.count()?;
+        let parses_lent = list.count()?;
+        let answer = read_answer(list)?;
+        let written = list.number()? != 0;
+        let cells_given = list.count()?;
+        let parses_given = list.count()?;
+        Some(Vector {
+            start,
+            allowance,
+            cells_lent,
+            parses_lent,
+            answer,
+            written,
+            texts: Texts::read(list, lengths)?,
+            cells: list.numbers(cells_given)?,
+            parses: list.numbers(parses_given)?,
+        })
+    }
+
+    // The answer first, then the cells and the parses, then the line.
+    fn difference(&self) -> Option<Difference> {
+        let mut cells = [FILL; CELLS_ROOM];
+        let mut parses = [FILL; PARSES_ROOM];
+        let answer = self.call(&mut cells, &mut parses);
+        of_list(Part::Answer, &numbers_of(self.answer), &numbers_of(answer))
+            .or(self.of_lent(Part::Cells, self.cells, &cells))
+            .or(self.of_lent(Part::Parses, self.parses, &parses))
+            .or(of_line(&self.texts, &cells, answer))
+    }
 }

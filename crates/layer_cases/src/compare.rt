@@ -1,216 +1,146 @@
-// One case of the file, compared field by field.
-ghost use Rattle.std.specs.Prelude.{◌<◌};
+// The books of a file, each compared field by field with what stands behind it.
+use crate::tally::Tally;
+use book::{Book, INDEX_SIZE, Step, check_into, step_number};
 
-use book::{Associativity, INDEX_SIZE, Mark, Step, Verdict};
-use characters::{byte_at, part, same_bytes};
-
-// Where the comparison stands in the file, and whether all was the same so far.
+// What is left of the file, and whether all before it was as expected. No Option: the books behind a difference are
+// compared too.
 #[derive(Clone, Copy)]
-pub struct Cursor {
-    pub at: usize,
-    pub same: bool,
+struct Cursor<'a> {
+    rest: &'a [u8],
+    same: bool,
 }
 
-fn after(at: usize, size: usize) -> usize {
-    if at < 1000000 {
-        if size < 1000000 {
-            return at + size;
-        }
-    }
-    at
-}
-
-fn byte(file: &[u8], at: usize) -> usize
-    ensures { result < 256 }
-{
-    byte_at(file, at) as usize
-}
-
-fn both(a: bool, b: bool) -> bool {
-    if a { b } else { false }
-}
-
-impl Cursor {
-    // The next byte of the file is `value`.
-    fn is(self, file: &[u8], value: usize) -> Cursor {
-        let equal = byte(file, self.at) == value;
-        Cursor {
-            at: after(self.at, 1),
-            same: both(self.same, equal),
+impl<'a> Cursor<'a> {
+    // The next byte is `value`.
+    fn is(self, value: usize) -> Cursor<'a> {
+        match self.rest.split_first() {
+            Some((byte, rest)) => Cursor {
+                rest,
+                same: self.same && usize::from(*byte) == value,
+            },
+            None => Cursor {
+                rest: self.rest,
+                same: false,
+            },
         }
     }
 
     // The next two bytes are `value`, the high one first.
-    fn is_wide(self, file: &[u8], value: usize) -> Cursor {
-        self.is(file, value / 256).is(file, value % 256)
+    fn is_wide(self, value: usize) -> Cursor<'a> {
+        self.is(value / 256).is(value % 256)
     }
 
     // The next bytes are a length and `bytes`.
-    fn is_spelling(self, file: &[u8], bytes: &[u8]) -> Cursor {
-        let length = self.is(file, bytes.len());
-        let equal = same_bytes(part(file, length.at, bytes.len()), bytes);
-        Cursor {
-            at: after(length.at, bytes.len()),
-            same: both(length.same, equal),
+    fn is_spelling(self, bytes: &[u8]) -> Cursor<'a> {
+        let start = self.is(bytes.len());
+        bytes
+            .iter()
+            .fold(start, |cursor, byte| cursor.is(usize::from(*byte)))
+    }
+
+    // The next bytes are a count and so many records.
+    fn is_section<F: Fn(Cursor<'a>, usize) -> Cursor<'a>>(self, is_record: F) -> Cursor<'a>
+        requires { F.IsAlwaysCallable is_record }
+    {
+        let count = self.rest.first().map_or(0, |count| usize::from(*count));
+        let mut cursor = self.is(count);
+        for i in 0..count {
+            cursor = is_record(cursor, i);
         }
+        cursor
     }
 
-    fn is_step(self, file: &[u8], a: u32, b: u32, c: u32) -> Cursor {
-        self.is(file, a as usize)
-            .is(file, b as usize)
-            .is(file, c as usize)
+    fn is_step(self, step: Step) -> Cursor<'a> {
+        let (a, b, c) = match step {
+            Step::Character(a)
+            | Step::Word(a)
+            | Step::VariableOfKind(a)
+            | Step::Nonterminal(a)
+            | Step::Optional(a)
+            | Step::Many(a)
+            | Step::CommaList(a) => (a, 0, 0),
+            Step::Delimited {
+                nonterminal: a,
+                opening: b,
+                closing: c,
+            }
+            | Step::OptionalDelimited {
+                nonterminal: a,
+                opening: b,
+                closing: c,
+            }
+            | Step::Binder {
+                body: a,
+                opening: b,
+                closing: c,
+            } => (a, b, c),
+            _ => (0, 0, 0),
+        };
+        self.is(step_number(step))
+            .is(a as usize)
+            .is(b as usize)
+            .is(c as usize)
     }
-}
 
-fn mark_number(mark: Mark) -> usize {
-    match mark {
-        Mark::Plain => 0,
-        Mark::Variable => 1,
-        Mark::Identifier => 2,
-        Mark::Binder => 3,
-    }
-}
-
-fn associativity_number(associativity: Associativity) -> usize {
-    match associativity {
-        Associativity::Left => 0,
-        Associativity::Right => 1,
-        Associativity::None => 2,
-        Associativity::Both => 3,
-    }
-}
-
-fn flag(on: bool) -> usize {
-    if on { 1 } else { 0 }
-}
-
-fn step(file: &[u8], start: Cursor, s: Step) -> Cursor {
-    let t = start.is(file, book::step_number(s));
-    match s {
-        Step::Character(a) => t.is_step(file, a, 0, 0),
-        Step::Word(a) => t.is_step(file, a, 0, 0),
-        Step::VariableOfKind(a) => t.is_step(file, a, 0, 0),
-        Step::Nonterminal(a) => t.is_step(file, a, 0, 0),
-        Step::Optional(a) => t.is_step(file, a, 0, 0),
-        Step::Many(a) => t.is_step(file, a, 0, 0),
-        Step::CommaList(a) => t.is_step(file, a, 0, 0),
-        Step::Delimited {
-            nonterminal,
-            opening,
-            closing,
-        } => t.is_step(file, nonterminal, opening, closing),
-        Step::OptionalDelimited {
-            nonterminal,
-            opening,
-            closing,
-        } => t.is_step(file, nonterminal, opening, closing),
-        Step::Binder {
-            body,
-            opening,
-            closing,
-        } => t.is_step(file, body, opening, closing),
-        _ => t.is_step(file, 0, 0, 0),
-    }
-}
-
-#[derive(Clone, Copy)]
-enum Section {
-    Words,
-    Names,
-    Nonterminals,
-    Variants,
-    Steps,
-}
-
-fn nonterminal(file: &[u8], t: Cursor, bytes: &[u8], index: &[usize], i: usize) -> Cursor {
-    let x = book::nonterminal(bytes, index, i);
-    let mark = x.mark;
-    t.is(file, mark_number(mark))
-        .is(file, x.first)
-        .is(file, x.count)
-}
-
-fn variant(file: &[u8], t: Cursor, bytes: &[u8], index: &[usize], j: usize) -> Cursor {
-    let v = book::variant(bytes, index, j);
-    let associativity = v.associativity;
-    let head = t
-        .is(file, v.level)
-        .is(file, associativity_number(associativity));
-    head.is(file, flag(v.committed))
-        .is(file, flag(v.passing))
-        .is(file, v.first)
-        .is(file, v.count)
-}
-
-fn word(file: &[u8], t: Cursor, bytes: &[u8], index: &[usize], i: usize) -> Cursor {
-    t.is(file, book::word_label(bytes, index, i))
-        .is_spelling(file, book::word(bytes, index, i))
-}
-
-fn name(file: &[u8], t: Cursor, bytes: &[u8], index: &[usize], i: usize) -> Cursor {
-    t.is(file, book::name_kind(bytes, index, i))
-        .is_spelling(file, book::name(bytes, index, i))
-}
-
-// Record i of a section.
-fn record_is(
-    file: &[u8],
-    t: Cursor,
-    bytes: &[u8],
-    index: &[usize],
-    section: Section,
-    i: usize,
-) -> Cursor {
-    match section {
-        Section::Words => word(file, t, bytes, index, i),
-        Section::Names => name(file, t, bytes, index, i),
-        Section::Nonterminals => nonterminal(file, t, bytes, index, i),
-        Section::Variants => variant(file, t, bytes, index, i),
-        Section::Steps => step(file, t, book::step(bytes, index, i)),
+    // Marks and associativities have the numbers of their variants' order.
+    fn is_book(self, book: &Book) -> Cursor<'a> {
+        self.is_section(|cursor, i| cursor.is(book.word_label(i)).is_spelling(book.word(i)))
+            .is_section(|cursor, i| cursor.is(book.name_kind(i)).is_spelling(book.name(i)))
+            .is_section(|cursor, i| {
+                let nonterminal = book.nonterminal(i);
+                cursor
+                    .is(nonterminal.mark as usize)
+                    .is(nonterminal.first)
+                    .is(nonterminal.count)
+            })
+            .is_section(|cursor, i| {
+                let variant = book.variant(i);
+                cursor
+                    .is(variant.level)
+                    .is(variant.associativity as usize)
+                    .is(usize::from(variant.committed))
+                    .is(usize::from(variant.passing))
+                    .is(variant.first)
+                    .is(variant.count)
+            })
+            .is_section(|cursor, i| cursor.is_step(book.step(i)))
     }
 }
 
-// A section: a count and records.
-fn section_is(
-    file: &[u8],
-    start: Cursor,
-    bytes: &[u8],
-    index: &[usize],
-    section: Section,
-) -> Cursor {
-    let n = byte(file, start.at);
-    let mut t = start.is(file, n);
-    let mut i = 0;
-    while i < n {
-        t = record_is(file, t, bytes, index, section, i);
-        i += 1;
-    }
-    t
-}
-
-fn fields(file: &[u8], start: Cursor, bytes: &[u8], index: &[usize]) -> Cursor {
-    let words = section_is(file, start, bytes, index, Section::Words);
-    let names = section_is(file, words, bytes, index, Section::Names);
-    let nonterminals = section_is(file, names, bytes, index, Section::Nonterminals);
-    let variants = section_is(file, nonterminals, bytes, index, Section::Variants);
-    section_is(file, variants, bytes, index, Section::Steps)
-}
-
-fn verdict_is(file: &[u8], t: Cursor, bytes: &[u8], index: &mut [usize]) -> Cursor {
-    match book::check_into(bytes, index) {
-        Verdict::Refused { number, place } => t.is(file, number).is_wide(file, place),
-        Verdict::Accepted => fields(file, t.is(file, 0).is_wide(file, 0), bytes, index),
-    }
-}
-
-// The case at a place of the file; the answer stands behind it.
-pub fn case(file: &[u8], at: usize) -> Cursor {
-    let size = byte(file, at) * 256 + byte(file, after(at, 1));
-    let start = after(at, 2);
-    let begun = Cursor {
-        at: after(start, size),
+// The book is checked, and compared with what stands behind it.
+fn compare<'a>(book: &[u8], behind: &'a [u8]) -> Cursor<'a> {
+    let cursor = Cursor {
+        rest: behind,
         same: true,
     };
     let mut index = [0usize; INDEX_SIZE];
-    verdict_is(file, begun, part(file, start, size), &mut index)
+    match check_into(book, &mut index) {
+        Ok(()) => cursor.is(0).is_wide(0).is_book(&Book::new(book, &index)),
+        Err(refusal) => cursor.is(refusal.fault.number()).is_wide(refusal.place),
+    }
+}
+
+// The case at the start of the file: the length of a book in two bytes, the high one first, the book, and what the
+// check answers.
+fn case(file: &[u8]) -> Option<Cursor<'_>> {
+    let (size, rest) = file.split_first_chunk::<2>()?;
+    let (book, rest) = rest.split_at_checked(usize::from(u16::from_be_bytes(*size)))?;
+    Some(compare(book, rest))
+}
+
+// A case that the file cuts short differs, and is the last.
+pub fn cases(tally: &mut Tally, file: &[u8]) {
+    let mut rest = file;
+    // no more cases than bytes: with this bound the loop ends whatever the comparison leaves of the file
+    for _ in 0..file.len() {
+        if rest.is_empty() {
+            return;
+        }
+        let Some(cursor) = case(rest) else {
+            tally.case(false);
+            return;
+        };
+        tally.case(cursor.same);
+        rest = cursor.rest;
+    }
 }

@@ -5,23 +5,21 @@
 --   some_line                                no line is empty
 --   few_numbers, no_answer, line_printed     `midgebillon_print`: too few numbers, numbers that are no answer, the line
 use Rattle.std.specs.Prelude.{◌≡◌, refl, Bool, true, false, cond, ◌&&◌, List, [], ◌∷◌, ℕ, ◌≤◌, ◌<◌, leb, eqb, length}
-use Rattle.std.specs.Prelude.{drop}
+use Rattle.std.specs.Prelude.{drop, Option, Some, None, Ok, Err, unwrap_or}
 use Rattle.std.proofs.Common.{sym, subst, ap, ◌∙◌, arith, le-leb, le-ltb, eqb-true, eq-eqb, ne_eqb}
 use Rattle.std.proofs.lemmas.Bool.{lt-leb, eqb-false}
 use Rattle.characters.specs.Cases.{by_test, clash}
 use Rattle.characters.specs.Slices.{Slice}
 use Rattle.book.specs.Book.{Entry}
 use Rattle.book.specs.Check.{check_book, Outcome}
-use Rattle.book.specs.Index.{book_in, verdict, CheckedInto}
-use Rattle.book.specs.declared.checking.Verdict.{Verdict}
+use Rattle.book.specs.Index.{book_in, verdict, CheckedInto, Verdict}
 use Rattle.semantics.specs.Answer.{Answer, Answered}
 use Rattle.run.specs.Promise.{answer_in, answered, Reads, no_room}
 use Rattle.run.specs.declared.reader.Answer as code
 use Rattle.printing.specs.Printing.{line_bytes, refused_line}
 use Rattle.printing.specs.Lines.{Prints}
-use Rattle.printing.specs.declared.line.Length.{Length}
 use Rattle.midgebillon.specs.Library.{answer_at, storing, Stays, AnswersInto, ReadInto, ReadIntoWith}
-use Rattle.midgebillon.specs.Library.{is_answer, names_of, line_for, PrintsInto, length_of}
+use Rattle.midgebillon.specs.Library.{is_answer, names_of, line_for, PrintsInto}
 
 -- ---- Reading
 -- the numbers stored are read back, and those behind them stay
@@ -82,14 +80,14 @@ nothing out =
     record { size_is = rw (le-leb 0 (length out) (omega arith)); out_is = rw (le-leb 0 (length out) (omega arith)) }
 
 -- a line that is printed as a whole or not at all
-whole : (line out out' : List ℕ) (r : Length) → Prints line out out' r → PrintsInto line out out' (length_of r)
+whole : (line out out' : List ℕ) (r : Option ℕ) → Prints line out out' r → PrintsInto line out out' (unwrap_or r 0)
 whole line out out' r p =
     by_test (leb (length line) (length out))
     (λ t.
-    let e : r ≡ Length.Bytes (length line) = p.length_is ∙ rw t in
+    let e : r ≡ Some (length line) = p.length_is ∙ rw t in
     record { size_is = rw (t, e); out_is = rw (t, e) (p.out_is ∙ rw t) })
     (λ t.
-    let e : r ≡ Length.Longer = p.length_is ∙ rw t in
+    let e : r ≡ None = p.length_is ∙ rw t in
     record { size_is = rw (t, e); out_is = rw (t, e) (p.out_is ∙ rw t) })
 
 -- the line of a refusal names nothing of the book
@@ -100,9 +98,9 @@ names_unused names names' text cells a h = rw (ne_eqb a.refusal 0 h, line_bytes)
 
 -- a value's book is accepted
 value_accepted : (v : Verdict) (cells : List ℕ) (a : Answer) → is_answer v cells a ≡ true →
-    a.refusal ≡ 0 → v ≡ Verdict.Accepted
-value_accepted Verdict.Accepted cells a t e = refl
-value_accepted (Verdict.Refused number place) cells a t e = clash t (rw (eq-eqb a.refusal 0 e))
+    a.refusal ≡ 0 → v ≡ Ok tt
+value_accepted (Ok u) cells a t e = refl
+value_accepted (Err refusal) cells a t e = clash t (rw (eq-eqb a.refusal 0 e))
 
 module _ (bytes text cells numbers out : List ℕ) where
   pub few_numbers : length numbers < 7 → PrintsInto (line_for bytes text cells numbers) out out 0
@@ -139,10 +137,10 @@ module _ (bytes text cells numbers out : List ℕ) where
         names_unused (book_in bytes index').names (names_of (check_book bytes)) text cells (answer_in a)
         (eqb-false a.refusal 0 e))
 
-    pub line_printed : (out' : List ℕ) (r : Length) → test ≡ true →
+    pub line_printed : (out' : List ℕ) (r : Option ℕ) → test ≡ true →
         Prints (line_bytes (book_in bytes index').names text cells (answer_in a)) out out' r →
-        PrintsInto (line_for bytes text cells numbers) out out' (length_of r)
+        PrintsInto (line_for bytes text cells numbers) out out' (unwrap_or r 0)
     line_printed out' r t p =
         let line = same_line t ∙ ap (λ (x : Answer). line_bytes (names_of (check_book bytes)) text cells x) is in
-        subst (λ (l : List ℕ). PrintsInto l out out' (length_of r))
+        subst (λ (l : List ℕ). PrintsInto l out out' (unwrap_or r 0))
         (line ∙ sym (ap line_or (tested ∙ t))) (whole _ out out' r p)

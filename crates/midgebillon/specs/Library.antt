@@ -1,18 +1,16 @@
 -- What the functions for other languages promise that read and print, in the terms of the call and of the line.
 use Rattle.std.specs.Prelude.{◌≡◌, Bool, true, false, cond, ◌&&◌, ◌||◌, List, [], ◌++◌, ℕ, ◌*◌, ◌≤◌, ◌<◌, leb, eqb}
-use Rattle.std.specs.Prelude.{length, get_or, set, drop}
+use Rattle.std.specs.Prelude.{length, get_or, set, drop, Ok, Err}
 use Rattle.characters.specs.Slices.{Slice}
 use Rattle.characters.specs.Classes.{between}
 use Rattle.book.specs.Book.{Entry}
 use Rattle.book.specs.Check.{check_book, Outcome}
-use Rattle.book.specs.Index.{verdict}
-use Rattle.book.specs.declared.checking.Verdict.{Verdict}
+use Rattle.book.specs.Index.{verdict, Verdict}
 use Rattle.semantics.specs.Numbers.{cell_size, most_cells, no_parse, different_values, not_accepted, is_limit}
 use Rattle.semantics.specs.Answer.{Answer, Answered, answer, answer_of}
 use Rattle.run.specs.Promise.{Reads, answer_with}
 use Rattle.run.specs.declared.reader.Answer as code
 use Rattle.printing.specs.Printing.{line_bytes}
-use Rattle.printing.specs.declared.line.Length.{Length}
 
 -- ---- The seven numbers
 -- "refusal (0 if none), place, kind, argument, work, number of parses, value cell"
@@ -70,8 +68,8 @@ abbrev pub has_cell : List ℕ → ℕ → Bool
 has_cell cells n = between 1 most_cells n && leb (cell_size * n) (length cells)
 
 abbrev pub is_accepted : Verdict → Bool
-is_accepted Verdict.Accepted = true
-is_accepted (Verdict.Refused number place) = false
+is_accepted (Ok u) = true
+is_accepted (Err e) = false
 
 -- A value's book is accepted, and its cell is there; a refusal is one of the table. More is not asked: whether the
 -- numbers are the answer to this book and this text only another call can tell, and the line is defined for any others
@@ -98,8 +96,3 @@ fitting line out = cond (leb (length line) (length out)) line []
 pub record PrintsInto (line out out' : List ℕ) (size : ℕ) : Type 0 where
   pub size_is : size ≡ length (fitting line out)
   pub out_is : out' ≡ fitting line out ++ drop size out
-
--- how long a line is that fits
-abbrev pub length_of : Length → ℕ
-length_of (Length.Bytes size) = size
-length_of Length.Longer = 0

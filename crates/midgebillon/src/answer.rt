@@ -1,13 +1,13 @@
-// The seven numbers of an answer in a lent list, and whether numbers are an answer.
+// The seven numbers of an answer in a lent list, and whether numbers are an answer. The list is C's, so its numbers go
+// by their places.
 ghost use Rattle.std.specs.Prelude.{◌≡◌, ◌≤◌, length};
 ghost use Rattle.characters.specs.Classes.{between};
 ghost use Rattle.run.specs.Promise.{answer_in};
 ghost use Rattle.midgebillon.specs.Library.{answer_size, answer_at, storing, has_cell};
-ghost use Rattle.midgebillon.specs.Library.{is_refusal, is_answer, length_of};
+ghost use Rattle.midgebillon.specs.Library.{is_refusal, is_answer};
 
-use book::Verdict;
+use book::Refusal;
 use cells::{CELL_SIZE, MOST_CELLS};
-use printing::Length;
 use run::{Answer, DIFFERENT_VALUES, HIGH_BYTE, NO_PARSE, SHORT_LISTS};
 use transitions::{NO_UNIT, TOO_MANY_CELLS, TOO_MANY_NAMES};
 
@@ -46,60 +46,33 @@ pub fn answer_in(numbers: &[u32]) -> Answer
 fn is_between(low: u32, high: u32, n: u32) -> bool
     ensures { result ≡ between low high n }
 {
-    if n < low {
-        return false;
-    }
-    n <= high
+    (low..=high).contains(&n)
 }
 
 // Whether the list has all three numbers of a cell that a run can make.
 fn has_cell(cells: &[u32], n: u32) -> bool
     ensures { result ≡ has_cell cells.now n }
 {
-    if is_between(1, MOST_CELLS, n) {
-        return CELL_SIZE * n as usize <= cells.len();
-    }
-    false
+    is_between(1, MOST_CELLS, n) && CELL_SIZE * n as usize <= cells.len()
 }
 
 // The numbers of document 01's table, and document 02's further limit.
 fn is_refusal(n: u32) -> bool
     ensures { result ≡ is_refusal n }
 {
-    if is_between(SHORT_LISTS, HIGH_BYTE, n) {
-        return true;
-    }
-    if is_between(NO_UNIT, TOO_MANY_CELLS, n) {
-        return true;
-    }
-    if n == TOO_MANY_NAMES {
-        return true;
-    }
-    is_between(NO_PARSE, DIFFERENT_VALUES, n)
+    is_between(SHORT_LISTS, HIGH_BYTE, n)
+        || is_between(NO_UNIT, TOO_MANY_CELLS, n)
+        || n == TOO_MANY_NAMES
+        || is_between(NO_PARSE, DIFFERENT_VALUES, n)
 }
 
 // A value is one of an accepted book and has its cell; a refusal is one of the documents'.
-pub fn is_answer(verdict: Verdict, cells: &[u32], a: Answer) -> bool
-    ensures { result ≡ is_answer verdict cells.now (answer_in a) }
+pub fn is_answer(checked: Result<(), Refusal>, cells: &[u32], a: Answer) -> bool
+    ensures { result ≡ is_answer checked cells.now (answer_in a) }
 {
-    if a.refusal != 0 {
-        return is_refusal(a.refusal);
-    }
-    match verdict {
-        Verdict::Accepted => has_cell(cells, a.value),
-        Verdict::Refused {
-            number: _,
-            place: _,
-        } => false,
-    }
-}
-
-// The length of a line that fits, else 0: no line is empty.
-pub fn length_of(length: Length) -> usize
-    ensures { result ≡ length_of length }
-{
-    match length {
-        Length::Bytes(size) => size,
-        Length::Longer => 0,
+    if a.refusal == 0 {
+        checked.is_ok() && has_cell(cells, a.value)
+    } else {
+        is_refusal(a.refusal)
     }
 }

@@ -22,8 +22,8 @@ mod joining;
 ghost use Rattle.midgebillon.specs.Joining.{JoinsInto};
 ghost use Rattle.midgebillon.specs.Library.{ReadInto, ReadIntoWith, PrintsInto, line_for};
 
-use answer::{ANSWER_SIZE, answer_in, is_answer, length_of, put_answer};
-use book::{INDEX_SIZE, check_into};
+use answer::{ANSWER_SIZE, answer_in, is_answer, put_answer};
+use book::{Book, INDEX_SIZE, check_into};
 use errors::{ERROR_SIZE, join_list};
 use joining::{number_of, put_joined};
 use printing::print;
@@ -92,11 +92,12 @@ pub fn midgebillon_print<'a>(
     }
     let a = answer_in(answer);
     let mut index = [0usize; INDEX_SIZE];
-    let verdict = check_into(book, &mut index);
-    if is_answer(verdict, cells, a) {
-        return length_of(print(book, &index, text, cells, a, out));
+    let checked = check_into(book, &mut index);
+    if !is_answer(checked, cells, a) {
+        return 0;
     }
-    0
+    // no line is empty
+    print(&Book::new(book, &index), text, cells, a, out).unwrap_or(0)
 }
 
 // The furthest, least of a list of errors, three numbers each: place, kind, argument. 0, and the error at the front of

@@ -9,24 +9,22 @@
 use Rattle.std.specs.Prelude.{◌≡◌, true, false, List, ℕ, zero, suc, ◌+◌, ◌-◌, ◌<◌, ◌≤◌}
 use Rattle.std.proofs.Common.{sym, subst, ◌∙◌, arith, sub-one}
 use Rattle.std.proofs.Math.Path.{ap}
-use Rattle.std.proofs.Math.Option.{some}
+use Rattle.std.specs.Prelude.{Some}
 use Rattle.book.specs.Book.{Book}
 use Rattle.semantics.specs.Run.{Result}
 use Rattle.run_model.specs.Rows.{Row, on_row, opened}
 use Rattle.run_model.specs.Model as model
 use Rattle.run_model.specs.Model.{RowState, row_state, outcome, RowRunner}
 use Rattle.run_model.specs.Model.{one_run_rows, rounds_rows, run_call_rows, enter_rows, runner_rows}
-use Rattle.transitions.specs.declared.outcomes.Outcome.{Outcome}
+use Rattle.transitions.specs.Results.{Entered, Outcome, RunEnd, without_failure}
 use Rattle.transitions.specs.declared.outcomes.State.{State}
-use Rattle.transitions.specs.declared.entering.Entered.{Entered}
-use Rattle.transitions.specs.declared.runs.RunEnd.{RunEnd}
-use Rattle.transitions.specs.Outcomes.{cells_of, Held, given, Ran, Runs, without_failure}
+use Rattle.transitions.specs.Outcomes.{cells_of, Held, given, Ran, Runs}
 use Rattle.transitions.specs.Entering.{inner_runner, goes_in, BeginsUse, goes_again, FirstEnded, RoundEnded}
 use Rattle.parser.specs.ResultLaws.{Going, sub_turn, sub_end}
 
 -- ---- Runners
 pub runner_some : (book : Book) (text : List ℕ) (n : ℕ) → 0 < n →
-    runner_rows book text n ≡ some (inner_runner book text n)
+    runner_rows book text n ≡ Some (inner_runner book text n)
 unfolding runner_rows
 runner_some book text zero h = absurd (omega (arith, h))
 runner_some book text (suc n) h = rw sub-one

@@ -6,7 +6,7 @@
 use Rattle.std.specs.Prelude.{◌≡◌, refl, true, false, List, ℕ, suc, ◌+◌, ◌-◌, ◌<◌, ◌≤◌, get_or, length}
 use Rattle.std.proofs.Common.{sym, subst, ◌∙◌, arith}
 use Rattle.std.proofs.Math.Path.{ap}
-use Rattle.std.proofs.Math.Option.{Option, some}
+use Rattle.std.specs.Prelude.{Option, Some}
 use Rattle.characters.specs.Skipping.{skip_from}
 use Rattle.book.specs.Book.{Entry, Book}
 use Rattle.semantics.specs.Values.{Parse, absent_parse}
@@ -20,11 +20,10 @@ use Rattle.run_model.specs.Model.{RowState, row_state, outcome, RowRunner, RowNe
 use Rattle.run_model.specs.Model.{enter_rows, runner_rows, steps_rows, nested_rows, enter_child_rows, follow_from}
 use Rattle.run_model.specs.Model.{followed_rows}
 use Rattle.errors.specs.Maps.{failure_of}
-use Rattle.transitions.specs.declared.outcomes.Outcome.{Outcome}
+use Rattle.transitions.specs.Results.{Outcome, Stage, without_failure}
 use Rattle.transitions.specs.declared.outcomes.State.{State}
 use Rattle.transitions.specs.declared.stages.Next.{Next}
-use Rattle.transitions.specs.declared.stages.Stage.{Stage}
-use Rattle.transitions.specs.Outcomes.{cells_of, Held, given, goes_on, Ran, Runs, failure_at, without_failure}
+use Rattle.transitions.specs.Outcomes.{cells_of, Held, given, goes_on, Ran, Runs, failure_at}
 use Rattle.transitions.specs.Steps.{next_rows, descends_rows, resumes, StagedFrom, ParseEnded}
 use Rattle.transitions.specs.Entering.{inner_runner}
 use Rattle.parser.specs.Cycle.{follows_rows}
@@ -91,7 +90,7 @@ follow_whole book text inner n c j rest next items k T o st st1 U r h ek run hel
 
 nested_some : (book : Book) (text : List ℕ) (inner : Option RowRunner) (n : ℕ) (s : RowState)
     (f : RowRunner → Result model.Outcome) (run : RowRunner) →
-    inner ≡ some run → nested_rows book text inner n s f ≡ f run
+    inner ≡ Some run → nested_rows book text inner n s f ≡ f run
 unfolding nested_rows
 nested_some book text inner n s f run e = rw e
 

@@ -3,11 +3,10 @@
 -- First what the model of the crate run_model has no function of its own for; then what the contracts ask (CanRun,
 -- CanTry, OnPath, OnNames) and which part of the model each function is; then the measure's rank.
 use Rattle.std.specs.Prelude.{◌≡◌, List, ℕ, ◌+◌, ◌≤◌, ◌<◌, leb, length}
-use Rattle.std.proofs.Math.Option.{Option, none}
+use Rattle.std.specs.Prelude.{Option, None}
 use Rattle.characters.specs.Slices.{Slice}
 use Rattle.book.specs.Numbers.{largest_byte}
 use Rattle.book.specs.Book.{Book, nth_variant}
-use Rattle.book.specs.Index.{book_in}
 use Rattle.semantics.specs.Numbers.{most_nesting, most_rounds}
 use Rattle.semantics.specs.Tokens.{when}
 use Rattle.semantics.specs.Steps.{Todo, todo_of}
@@ -18,8 +17,10 @@ use Rattle.run_model.specs.Model.{RowState, Outcome, outcome, RowRunner, makes, 
 use Rattle.run_model.specs.Model.{followed_rows, or_child, opens_rows, declares_rows, name_choice_rows}
 use Rattle.run_model.specs.Model.{one_run_rows, rounds_rows, run_call_rows, enter_rows, runner_rows}
 use Rattle.errors.specs.Maps.{failure_of}
-use Rattle.calls.specs.Table.{rows_size}
-use Rattle.transitions.specs.declared.outcomes.Outcome as code
+use Rattle.std.specs.Prelude as std
+use Rattle.transitions.specs.Results as code
+use Rattle.transitions.specs.declared.outcomes.Ended.{Ended}
+use Rattle.transitions.specs.declared.stages.Stage as stage
 use Rattle.transitions.specs.declared.stages.Doing.{Doing}
 use Rattle.transitions.specs.declared.stages.Names.{Names}
 use Rattle.transitions.specs.declared.stages.Next.{Next}
@@ -78,24 +79,16 @@ both_sides_rows book text inner n c j rest next M x items s =
 
 -- ---- What the contracts ask
 -- the call of row n, which has its level of nesting
-abbrev pub CanRun : Slice → Slice → Slice → Slice → ℕ → Type 0
-CanRun book index text rows n = (n ≤ most_nesting) × (rows_size ≤ length rows) × Fitting book index text × (0 < n)
-
--- its variants before this one met no limit
-abbrev pub CanTry : Slice → Slice → Slice → Slice → ℕ → code.Outcome → Type 0
-CanTry book index text rows n before =
-    (n ≤ most_nesting) × (rows_size ≤ length rows) × Fitting book index text × (0 < n) × (before.limit ≡ 0)
+abbrev pub CanRun : Book → Slice → ℕ → Type 0
+CanRun book text n = (n ≤ most_nesting) × Fitting book text × (0 < n)
 
 -- a path, with n levels of nesting left
-abbrev pub OnPath : Slice → Slice → Slice → Slice → ℕ → Progress → Type 0
-OnPath book index text rows n here =
-    (n ≤ most_nesting) × (rows_size ≤ length rows) × Fitting book index text ×
-    InRange (book_in book index) here × (n < here.call)
+abbrev pub OnPath : Book → Slice → ℕ → Progress → Type 0
+OnPath book text n here = (n ≤ most_nesting) × Fitting book text × InRange book here × (n < here.call)
 
 -- and with the names of an opening, each of which took a level
-abbrev pub OnNames : Slice → Slice → Slice → Slice → ℕ → Progress → Names → Type 0
-OnNames book index text rows n here names =
-    OnPath book index text rows n here × (names.count + n ≤ most_nesting)
+abbrev pub OnNames : Book → Slice → ℕ → Progress → Names → Type 0
+OnNames book text n here names = OnPath book text n here × (names.count + n ≤ most_nesting)
 
 -- ---- Which part of the model each function is
 module _ (n : ℕ) where
@@ -119,7 +112,7 @@ module _ (n : ℕ) where
   module _ (here : Progress) where
     abbrev pub descends : Next → ℕ → FromState
     descends next N book text s =
-        descends_rows book text (runner_rows book text n) n here.call here.variant (todo_at book here) none next N
+        descends_rows book text (runner_rows book text n) n here.call here.variant (todo_at book here) None next N
         here.place here.items s
 
     abbrev pub follows_each : Next → FromResult
@@ -136,6 +129,12 @@ module _ (n : ℕ) where
     proceeds first book text z =
         resumes book text (runner_rows book text n) n here.call here.variant (todo_at book here) first here.place
         here.items z
+
+    -- from what a part of the path came to
+    abbrev pub resumes_from : code.Stage → FromResult
+    resumes_from g book text z =
+        resumes book text (runner_rows book text n) n here.call here.variant (todo_at book here) g.doing g.place
+        g.items z
 
     -- the names are those of the rows
     module _ (names : Names) where
@@ -164,3 +163,8 @@ rank_of Doing.Steps = 0
 rank_of (Doing.Child M) = 4
 rank_of (Doing.Optional M) = 4
 rank_of (Doing.Elements l) = 4
+
+-- a path that has ended does nothing else
+abbrev pub rank_begun : std.Result stage.Stage Ended → ℕ
+rank_begun (std.Ok g) = rank_of g.doing
+rank_begun (std.Err e) = 0

@@ -8,7 +8,7 @@
 use Rattle.std.specs.Prelude.{◌≡◌, true, false, List, ◌∷◌, ℕ, suc, ◌+◌, ◌-◌, ◌<◌, ◌≤◌, length}
 use Rattle.std.proofs.Math.Path.{sym, ap}
 use Rattle.std.proofs.Common.{subst, ◌∙◌, arith}
-use Rattle.std.proofs.Math.Option.{some}
+use Rattle.std.specs.Prelude.{Some}
 use Rattle.characters.specs.Skipping.{skip_from}
 use Rattle.book.specs.Book.{Book, Entry}
 use Rattle.semantics.specs.Steps.{Todo}
@@ -24,14 +24,12 @@ use Rattle.run_model.proofs.KeepsBinders.{keeps_opens}
 use Rattle.run_model.proofs.KeepsRun.{keeps_runner}
 use Rattle.run_model.proofs.SimChild.{names_still}
 use Rattle.errors.specs.Maps.{failure_of}
-use Rattle.transitions.specs.declared.outcomes.Outcome.{Outcome}
+use Rattle.transitions.specs.Results.{Named, Outcome, Reached, without_failure}
 use Rattle.transitions.specs.declared.outcomes.State.{State}
 use Rattle.transitions.specs.declared.stages.Names.{Names}
 use Rattle.transitions.specs.declared.stages.Next.{Next}
 use Rattle.transitions.specs.declared.stages.Progress.{Progress}
-use Rattle.transitions.specs.declared.stages.Reached.{Reached}
-use Rattle.transitions.specs.declared.names.Named.{Named}
-use Rattle.transitions.specs.Outcomes.{cells_of, Held, given, goes_on, Ran, Runs, Spent, failure_at, without_failure}
+use Rattle.transitions.specs.Outcomes.{cells_of, Held, given, goes_on, Ran, Runs, Spent, failure_at}
 use Rattle.transitions.specs.Steps.{goes_with, descends_rows, Chosen}
 use Rattle.transitions.specs.Names.{names_at, OpensFrom, behind_name, declaring_rows, DeclaresFrom}
 use Rattle.transitions.specs.Entering.{inner_runner}
@@ -43,7 +41,7 @@ use Rattle.parser.specs.CallLaws.{runner_some}
 
 -- the binder of the body, by the number of names
 pub names_binder : (text : List ℕ) (T : List Row) (n count b c : ℕ) → b ≡ suc (suc count) →
-    b ≡ binder_for (some (names_at text T n count)) (row_of T c).binder
+    b ≡ binder_for (Some (names_at text T n count)) (row_of T c).binder
 names_binder text T n count b c e = e ∙ ap (λ k. suc (suc k)) (sym (names_length text T count n))
 
 -- the parts of the model, with these names
@@ -81,7 +79,7 @@ module _ (book : Book) (text : List ℕ) (n : ℕ) (here : Progress) (names : Na
 
     pub close_body : goes_on g.outcome ≡ true → (st2 : List ℕ) (U : List Row) (r : Outcome) →
         Runs text st1 g.outcome.state.cells st2 U r (λ cells.
-        descends_rows book text (runner_rows book text n) n here.call here.variant rest (some (read T)) Next.Steps
+        descends_rows book text (runner_rows book text n) n here.call here.variant rest (Some (read T)) Next.Steps
         names.body g.place g.items (row_state g.outcome.state.units cells T)) →
         Runs text st0 s.cells st2 U r (λ cells. closes (read T) (row_state s.units cells T))
     close_body h st2 U r k held =

@@ -10,7 +10,7 @@ use Rattle.std.specs.Prelude.{◌≡◌, refl, true, false, List, ◌∷◌, ℕ
 use Rattle.std.proofs.Math.Path.{sym, ap, subst}
 use Rattle.std.proofs.Common.{◌∙◌, arith, sub-one, drop-cons}
 use Rattle.std.proofs.Math.Bool.{cond}
-use Rattle.std.proofs.Math.Option.{Option, none}
+use Rattle.std.specs.Prelude.{Option, None}
 use Rattle.characters.specs.Skipping.{skip_from}
 use Rattle.book.specs.Book.{Book, nth_step}
 use Rattle.book.specs.declared.records.Step.{Step}
@@ -23,15 +23,12 @@ use Rattle.run_model.specs.Model.{RowState, row_state, outcome, RowRunner, makes
 use Rattle.run_model.specs.Model.{complete_rows, steps_rows, enter_child_rows, followed_rows, or_child, or_absent_rows}
 use Rattle.run_model.specs.Model.{choice_rows, chosen_rows, name_choice_rows}
 use Rattle.errors.specs.Maps.{failure_of}
-use Rattle.tokens.specs.Maps.{closing_in}
-use Rattle.transitions.specs.declared.outcomes.Outcome.{Outcome}
+use Rattle.transitions.specs.Results.{Outcome, Reached, Stage}
 use Rattle.transitions.specs.declared.outcomes.State.{State}
 use Rattle.transitions.specs.declared.stages.Doing.{Doing}
 use Rattle.transitions.specs.declared.stages.List as list
 use Rattle.transitions.specs.declared.stages.Names.{Names}
 use Rattle.transitions.specs.declared.stages.Next.{Next}
-use Rattle.transitions.specs.declared.stages.Reached.{Reached}
-use Rattle.transitions.specs.declared.stages.Stage.{Stage}
 use Rattle.transitions.specs.Outcomes.{cells_of, Held, given, goes_on, Ran, Runs, failure_at}
 use Rattle.transitions.specs.Steps.{todo_from, next_rows, omits_rows, descends_rows, chooses_rows, names_rows}
 use Rattle.transitions.specs.Steps.{does_rows}
@@ -60,7 +57,7 @@ sides_elements : (book : Book) (text : List ℕ) (inner : Option RowRunner) (n c
 unfolding both_sides_rows chooses_rows first_side_rows next_rows choice_rows
 sides_elements book text inner n c j rest l x items s =
     bind_assoc (spend_rows s)
-    (λ t. stops_rows book text j l.values (closing_in l.closing) (steps_rows book text inner n c j rest) x items t)
+    (λ t. stops_rows book text j l.values (l.closing) (steps_rows book text inner n c j rest) x items t)
     (λ a. or_child book text inner n c l.nonterminal (next_rows book text c j rest (Next.Elements l) items) x a)
 
 module _ (book : Book) (text : List ℕ) (inner : Option RowRunner) (n c j : ℕ) (rest : List (Todo ℕ)) (next : Next)
@@ -91,7 +88,7 @@ module _ (book : Book) (text : List ℕ) (inner : Option RowRunner) (n c j : ℕ
 
   module _ (h : a.limit ≡ 0) (st3 : List ℕ) (U1 : List Row) (b r : Outcome)
       (D : Runs text st2 a.state.cells st3 U1 b
-      (λ cells. descends_rows book text inner n c j rest none next M x items (row_state a.state.units cells U)))
+      (λ cells. descends_rows book text inner n c j rest None next M x items (row_state a.state.units cells U)))
       (C : Chosen text U1 c x a b r) where
     pub choice_both : Runs text st0 s.cells st3 U1 r
         (λ cells. both_sides_rows book text inner n c j rest next M x items (row_state s.units cells T))
@@ -107,7 +104,7 @@ module _ (book : Book) (text : List ℕ) (inner : Option RowRunner) (n c j : ℕ
               ∙ C.is book inner n (cells_of st3 b.state.cells)
               ∙ ap (λ (z : Result model.Outcome).
               z >>= (λ o. ok (chosen_rows book text inner n c (skip_from text x) (failure_of (failure_at a)) o))) d.is
-              ∙ bind_assoc (enter_child_rows book text inner n none c M x
+              ∙ bind_assoc (enter_child_rows book text inner n None c M x
               (row_state a.state.units (cells_of st2 a.state.cells) U))
               (λ o. followed_rows book text inner n (next_rows book text c j rest next items) o)
               (λ o. ok (chosen_rows book text inner n c (skip_from text x) (failure_of (failure_at a)) o))
@@ -120,7 +117,7 @@ module _ (book : Book) (text : List ℕ) (inner : Option RowRunner) (n c j : ℕ
 -- ---- What a path does next
 module _ (book : Book) (text : List ℕ) (inner : Option RowRunner) (n c j : ℕ) (rest : List (Todo ℕ)) (doing : Doing)
     (at items : ℕ) (o : Outcome) (st0 : List ℕ) (T : List Row) where
-  resume_ended : goes_on o ≡ false →
+  pub resume_ended : goes_on o ≡ false →
       Runs text st0 o.state.cells st0 T o
       (λ cells. resumes book text inner n c j rest doing at items (given o cells T))
   unfolding resumes
@@ -162,11 +159,11 @@ module _ (book : Book) (text : List ℕ) (inner : Option RowRunner) (n c j : ℕ
   resume_child : (M : ℕ) → doing ≡ Doing.Child M →
       Runs text st0 o.state.cells st1 U r
       (λ cells.
-      descends_rows book text inner n c j rest none Next.Steps M at items (row_state o.state.units cells T)) →
+      descends_rows book text inner n c j rest None Next.Steps M at items (row_state o.state.units cells T)) →
       Runs text st0 o.state.cells st1 U r
       (λ cells. resumes book text inner n c j rest doing at items (given o cells T))
   unfolding does_rows
-  resume_child M e k = by_part (λ s. descends_rows book text inner n c j rest none Next.Steps M at items s) (λ s. rw e)
+  resume_child M e k = by_part (λ s. descends_rows book text inner n c j rest None Next.Steps M at items s) (λ s. rw e)
       k
 
   resume_optional : (M : ℕ) → doing ≡ Doing.Optional M →
@@ -196,7 +193,7 @@ module _ (book : Book) (text : List ℕ) (inner : Option RowRunner) (n c j : ℕ
   -- no name is read yet
   resume_names : (l : list.List) → doing ≡ Doing.Elements l → l.names ≡ true →
       Runs text st0 o.state.cells st1 U r (λ cells.
-      name_choice_rows book text inner n c j (names_at text T n 0) l.values (closing_code (closing_in l.closing))
+      name_choice_rows book text inner n c j (names_at text T n 0) l.values (closing_code (l.closing))
       l.nonterminal rest at items (row_state o.state.units cells T)) →
       Runs text st0 o.state.cells st1 U r
       (λ cells. resumes book text inner n c j rest doing at items (given o cells T))
@@ -254,7 +251,7 @@ module _ (book : Book) (text : List ℕ) (inner : Option RowRunner) (n c j step 
   module _ (h : goes_on o ≡ true) where
     pub path_child : (st1 : List ℕ) (U : List Row) (r : Outcome) (M : ℕ) → doing ≡ Doing.Child M →
         Runs text st o.state.cells st1 U r (λ cells.
-        descends_rows book text inner n c j (todo_from book step left) none Next.Steps M at items
+        descends_rows book text inner n c j (todo_from book step left) None Next.Steps M at items
         (row_state o.state.units cells T)) → Held text st0 c0 → Ran text st1 U r z
     path_child st1 U r M e k =
         then_whole st1 U r

@@ -11,7 +11,7 @@ use Rattle.run_model.specs.Rows.{Row}
 use Rattle.run_model.specs.Model as model
 use Rattle.run_model.specs.Model.{row_state, outcome}
 use Rattle.errors.specs.Maps.{failure_of}
-use Rattle.transitions.specs.declared.outcomes.Outcome.{Outcome}
+use Rattle.transitions.specs.Results.{Outcome}
 use Rattle.transitions.specs.Outcomes.{Held, given, failure_at}
 use Rattle.transitions.specs.OutcomeLaws.{given_ok}
 

@@ -9,7 +9,7 @@ use Rattle.std.specs.Prelude.{◌≡◌, true, List, [], ℕ, suc, ◌+◌, ◌-
 use Rattle.std.proofs.Math.Path.{sym, ap, subst}
 use Rattle.std.proofs.Common.{◌∙◌, arith}
 use Rattle.std.proofs.Math.Bool.{false}
-use Rattle.std.proofs.Math.Option.{Option}
+use Rattle.std.specs.Prelude.{Option, None}
 use Rattle.std.proofs.Math.Dec.{leb}
 use borrow.Author.Tests.{le-leb, lt-leb}
 use Rattle.characters.specs.Cases.{by_test}
@@ -25,12 +25,10 @@ use Rattle.run_model.specs.Model as model
 use Rattle.run_model.specs.Model.{RowState, row_state, outcome, RowRunner, bare_call, makes, at_row, take_variant}
 use Rattle.run_model.specs.Model.{variants_rows, one_run_rows, runner_rows}
 use Rattle.errors.specs.Maps.{failure_of}
-use Rattle.errors.specs.declared.Failure.{Failure}
-use Rattle.transitions.specs.declared.outcomes.Outcome.{Outcome}
+use Rattle.transitions.specs.Results.{Outcome, Reached, done_with}
 use Rattle.transitions.specs.declared.outcomes.State.{State}
 use Rattle.transitions.specs.declared.stages.Doing.{Doing}
-use Rattle.transitions.specs.declared.stages.Reached.{Reached}
-use Rattle.transitions.specs.Outcomes.{cells_of, Held, given, Ran, Runs, failure_at, done_with}
+use Rattle.transitions.specs.Outcomes.{cells_of, Held, given, Ran, Runs, failure_at}
 use Rattle.transitions.specs.Fit.{Fit}
 use Rattle.transitions.specs.Steps.{todo_from, resumes}
 use Rattle.transitions.specs.Entering.{inner_runner, Begins, VariantEnded}
@@ -95,7 +93,7 @@ module _ (book : Book) (text : List ℕ) (run : RowRunner) (n m k first i : ℕ)
 one_run_is : (book : Book) (text : List ℕ) (run : RowRunner) (n m N : ℕ) (called : Nonterminal) (s : State)
     (o : Outcome) (T T1 : List Row) (cells : List Cell) →
     N ≡ (row_of T n).nonterminal → T1 ≡ on_row T n (with_run []) → called ≡ nth_nonterminal book N →
-    o ≡ done_with Failure.None s →
+    o ≡ done_with None s →
     variants_rows book text run n m called.count called.first (failure_of (failure_at o))
     (row_state o.state.units cells T1)
     ≡ one_run_rows book text run n m (row_state s.units cells T)
@@ -105,7 +103,7 @@ one_run_is book text run n m N called s o T T1 cells eN eT ec eo = rw (eo, ec, e
 pub one_run_whole : (book : Book) (text : List ℕ) (run : RowRunner) (n m N : ℕ) (called : Nonterminal) (s : State)
     (o : Outcome) (T T1 : List Row) (st st1 : List ℕ) (U : List Row) (r : Outcome) →
     N ≡ (row_of T n).nonterminal → T1 ≡ on_row T n (with_run []) → called ≡ nth_nonterminal book N →
-    o ≡ done_with Failure.None s →
+    o ≡ done_with None s →
     (Held text st o.state.cells → Ran text st1 U r
     (variants_rows book text run n m called.count called.first (failure_of (failure_at o))
     (row_state o.state.units (cells_of st o.state.cells) T1))) →

@@ -7,123 +7,111 @@
 //
 // What ends the cycle: a call runs its variants, a parse is followed, and what stands behind a declared name is read,
 // with one level less; on one level the steps that remain become fewer.
+ghost use Rattle.transitions.specs.Results.{outcome_of, stage_of, done_with};
 ghost use Rattle.transitions.specs.LayerContracts.{Does, Continues};
-ghost use Rattle.parser.specs.Cycle.{CanRun, CanTry, OnPath};
-ghost use Rattle.parser.specs.Cycle.{runs_once, tries, descends, follows_each, chooses, proceeds};
+ghost use Rattle.parser.specs.Cycle.{CanRun, OnPath};
+ghost use Rattle.parser.specs.Cycle.{runs_once, tries, descends, follows_each, chooses, resumes_from};
 
 use crate::left_recursion::enter;
 use crate::names::choose;
-use errors::Failure;
+use book::Book;
+use calls::Rows;
+use errors::Error;
 use transitions::{
-    Doing, Next, Outcome, Progress, State, TOO_DEEP, after_parse, after_variant, begin_child,
-    begin_variant, both_sides, done, finish, first_side, goes_on, next_of, no_names, take_step,
-    without_failure,
+    Doing, Ended, Limit, Next, Progress, Stage, State, after_parse, after_variant, begin_child,
+    begin_variant, both_sides, finish, first_side, next_of, no_names, take_step,
 };
 
 // ---- Variants
-// One variant of the call of a row, if its level reaches the minimum; `before` is what the variants before it gave.
+// One variant of the call of a row, if its level reaches the minimum; `before` is the failure of the variants before
+// it.
 #[cycle(descent)]
 fn variant(
-    book: &[u8],
-    index: &[usize],
+    book: &Book,
     text: &[u8],
     store: &mut [u32],
-    rows: &mut [u32],
+    rows: &mut Rows,
     row: usize,
     minimum: usize,
     j: u32,
-    before: Outcome,
-) -> Outcome
-    requires { CanTry book.now index.now text.now rows.old row before }
-    ensures { Does book.now index.now text.now store.old store.new rows.old rows.new before.state result
-        (tries row minimum j before) }
+    before: Option<Error>,
+    state: &mut State,
+) -> Result<Option<Error>, Limit>
+    requires { CanRun book.now text.now row }
+    ensures { Does book.now text.now store.old store.new rows.old rows.new state.old (outcome_of result state.new)
+        (tries row minimum j (done_with before state.old)) }
 {
-    let variant = book::variant(book, index, j as usize);
+    let variant = book.variant(j as usize);
     if variant.level < minimum {
-        return before;
+        return Ok(before);
     }
-    let b = begin_variant(book, index, text, store, rows, row, j, before.state);
-    let first = variant.first as u32;
-    let count = variant.count as u32;
+    let start = rows.start_of(row);
+    let items = begin_variant(book, text, store, rows, row, j, state)?;
     let here = Progress {
         call: row,
         variant: j,
-        step: first,
-        remaining: count,
-        place: b.place,
-        items: b.items,
+        step: variant.first as u32,
+        remaining: variant.count as u32,
+        place: start,
+        items,
     };
-    let o = steps(
-        book,
-        index,
-        text,
-        store,
-        rows,
-        row - 1,
-        here,
-        Doing::Steps,
-        b.outcome,
-    );
-    after_variant(book, index, j, b.place, before, o)
+    let begun = Ok(Stage {
+        place: start,
+        items,
+        doing: Doing::Steps,
+    });
+    let failure = steps(book, text, store, rows, row - 1, here, begun, state)?;
+    Ok(after_variant(book, j, start, before, failure))
 }
 
 // One run of the call of a row.
 #[cycle(descent)]
 pub fn one_run(
-    book: &[u8],
-    index: &[usize],
+    book: &Book,
     text: &[u8],
     store: &mut [u32],
-    rows: &mut [u32],
+    rows: &mut Rows,
     row: usize,
     minimum: usize,
-    state: State,
-) -> Outcome
-    requires { CanRun book.now index.now text.now rows.old row }
-    ensures { Does book.now index.now text.now store.old store.new rows.old rows.new state result
+    state: &mut State,
+) -> Result<Option<Error>, Limit>
+    requires { CanRun book.now text.now row }
+    ensures { Does book.now text.now store.old store.new rows.old rows.new state.old (outcome_of result state.new)
         (runs_once row minimum) }
 {
-    let nonterminal = calls::nonterminal_of(rows, row);
-    calls::clear_run(rows, row);
-    let called = book::nonterminal(book, index, nonterminal as usize);
-    let mut o = done(Failure::None, state);
-    let mut k = 0;
-    while k < called.count {
+    let nonterminal = rows.nonterminal_of(row);
+    rows.clear_run(row);
+    let called = book.nonterminal(nonterminal as usize);
+    let mut failure = None;
+    for k in 0..called.count {
         let j = (called.first + k) as u32;
-        let next = variant(book, index, text, store, rows, row, minimum, j, o);
-        if next.limit != 0 {
-            return next;
-        }
-        o = next;
-        k += 1;
+        failure = variant(book, text, store, rows, row, minimum, j, failure, state)?;
     }
-    o
+    Ok(failure)
 }
 
 // ---- Children
 // The call of a child at the place reached, the Rust's `recurse`, and what follows its parses.
 #[cycle(descent)]
 fn descend(
-    book: &[u8],
-    index: &[usize],
+    book: &Book,
     text: &[u8],
     store: &mut [u32],
-    rows: &mut [u32],
+    rows: &mut Rows,
     free: usize,
     here: Progress,
     next: Next,
     nonterminal: u32,
-    state: State,
-) -> Outcome
-    requires { OnPath book.now index.now text.now rows.old free here }
-    ensures { Does book.now index.now text.now store.old store.new rows.old rows.new state result
+    state: &mut State,
+) -> Result<Option<Error>, Limit>
+    requires { OnPath book.now text.now free here }
+    ensures { Does book.now text.now store.old store.new rows.old rows.new state.old (outcome_of result state.new)
         (descends free here next nonterminal) }
 {
-    let binder = calls::inherited_binder(rows, here.call);
+    let binder = rows.inherited_binder(here.call);
     let at = begin_child(text, rows, here);
-    let o = enter(
+    let failure = enter(
         book,
-        index,
         text,
         store,
         rows,
@@ -132,107 +120,66 @@ fn descend(
         nonterminal,
         at,
         state,
-    );
-    follow(book, index, text, store, rows, free, here, next, o)
+    )?;
+    follow(book, text, store, rows, free, here, next, failure, state)
 }
 
-// What follows each parse that the row found, one level further in.
+// What follows each parse that the row found, one level further in; a child that failed has none.
 #[cycle(descent)]
 pub fn follow(
-    book: &[u8],
-    index: &[usize],
+    book: &Book,
     text: &[u8],
     store: &mut [u32],
-    rows: &mut [u32],
+    rows: &mut Rows,
     free: usize,
     here: Progress,
     next: Next,
-    child: Outcome,
-) -> Outcome
-    requires { OnPath book.now index.now text.now rows.old free here }
-    ensures { Continues book.now index.now text.now store.old store.new rows.old rows.new child result
-        (follows_each free here next) }
+    child: Option<Error>,
+    state: &mut State,
+) -> Result<Option<Error>, Limit>
+    requires { OnPath book.now text.now free here }
+    ensures { Continues book.now text.now store.old store.new rows.old rows.new (done_with child state.old)
+        (outcome_of result state.new) (follows_each free here next) }
 {
-    if !goes_on(child) {
-        return child;
+    if child.is_some() {
+        return Ok(child);
     }
-    let parses = calls::parse_count(rows, free);
+    let parses = rows.parse_count(free);
     let mut all = child;
-    let mut i = 0;
-    while i < parses {
-        let s = all.state;
+    for i in 0..parses {
         if free == 0 {
-            return without_failure(TOO_DEEP, s);
+            return Err(Limit::TooDeep);
         }
-        let q = calls::nth_parse(rows, free, i);
-        let g = next_of(book, index, text, store, here, next, q, s);
-        let doing = g.doing;
-        let there = Progress {
-            call: here.call,
-            variant: here.variant,
-            step: here.step,
-            remaining: here.remaining,
-            place: g.place,
-            items: g.items,
-        };
-        let inner = free - 1;
-        let o = steps(
-            book, index, text, store, rows, inner, there, doing, g.outcome,
-        );
-        all = after_parse(i, all, o);
-        if all.limit != 0 {
-            return all;
-        }
-        i += 1;
+        let q = rows.nth_parse(free, i);
+        let begun = next_of(book, text, store, here, next, q, state);
+        let failure = steps(book, text, store, rows, free - 1, here, begun, state)?;
+        all = after_parse(i, all, failure);
     }
-    all
+    Ok(all)
 }
 
 // ---- Choices
 // An optional child, or the elements of a list: absent, or stop, comes before one more.
 #[cycle(descent)]
 fn choice(
-    book: &[u8],
-    index: &[usize],
+    book: &Book,
     text: &[u8],
     store: &mut [u32],
-    rows: &mut [u32],
+    rows: &mut Rows,
     free: usize,
     here: Progress,
     next: Next,
     nonterminal: u32,
-    state: State,
-) -> Outcome
-    requires { OnPath book.now index.now text.now rows.old free here }
-    ensures { Does book.now index.now text.now store.old store.new rows.old rows.new state result
+    state: &mut State,
+) -> Result<Option<Error>, Limit>
+    requires { OnPath book.now text.now free here }
+    ensures { Does book.now text.now store.old store.new rows.old rows.new state.old (outcome_of result state.new)
         (chooses free here next nonterminal) }
 {
-    let f = first_side(book, index, text, store, here, next, state);
-    let there = Progress {
-        call: here.call,
-        variant: here.variant,
-        step: here.step,
-        remaining: here.remaining,
-        place: f.place,
-        items: f.items,
-    };
-    let a = steps(
+    let begun = first_side(book, text, store, here, next, state);
+    let first = steps(book, text, store, rows, free, here, begun, state)?;
+    let second = descend(
         book,
-        index,
-        text,
-        store,
-        rows,
-        free,
-        there,
-        Doing::Steps,
-        f.outcome,
-    );
-    if a.limit != 0 {
-        return a;
-    }
-    let b = descend(
-        book,
-        index,
         text,
         store,
         rows,
@@ -240,72 +187,61 @@ fn choice(
         here,
         next,
         nonterminal,
-        a.state,
-    );
-    both_sides(text, rows, here, a, b)
+        state,
+    )?;
+    Ok(both_sides(text, rows, here, first, second))
 }
 
 // ---- Steps
-// Goes on from where a path is: first what comes next, then the steps that remain, up to a child or to the variant's
-// end. A path that a limit or a failure has ended stays ended.
+// Goes on with a path from what a part of it came to, at a place, with the items so far and what comes next: first
+// that, then the steps that remain, up to a child or to the variant's end. The place and the items of `from` aren't
+// read. A path that a limit or a failure has ended stays ended.
 #[cycle(descent)]
 fn steps(
-    book: &[u8],
-    index: &[usize],
+    book: &Book,
     text: &[u8],
     store: &mut [u32],
-    rows: &mut [u32],
+    rows: &mut Rows,
     free: usize,
     from: Progress,
-    first: Doing,
-    begun: Outcome,
-) -> Outcome
-    requires { OnPath book.now index.now text.now rows.old free from }
-    ensures { Continues book.now index.now text.now store.old store.new rows.old rows.new begun result
-        (proceeds free from first) }
+    begun: Result<Stage, Ended>,
+    state: &mut State,
+) -> Result<Option<Error>, Limit>
+    requires { OnPath book.now text.now free from }
+    ensures { Continues book.now text.now store.old store.new rows.old rows.new (stage_of begun state.old).outcome
+        (outcome_of result state.new) (resumes_from free from (stage_of begun state.old)) }
 {
-    // Four numbers, and not a copy of the struct: that would be read in larger parts than it was written in, and wait.
-    // The struct is made where it is handed on, so that a step that calls nothing stores none.
+    let mut stage = match begun {
+        Ok(stage) => stage,
+        Err(ended) => return ended.outcome(),
+    };
     let mut step = from.step;
     let mut remaining = from.remaining;
-    let mut place = from.place;
-    let mut items = from.items;
-    let mut doing = first;
-    let mut o = begun;
-    while goes_on(o) {
-        match doing {
+    // No `for` over the steps: a child, or a list, may come before the first of them.
+    loop {
+        let here = Progress {
+            step,
+            remaining,
+            place: stage.place,
+            items: stage.items,
+            ..from
+        };
+        match stage.doing {
             Doing::Steps => {
-                let here = Progress {
-                    call: from.call,
-                    variant: from.variant,
-                    step,
-                    remaining,
-                    place,
-                    items,
-                };
                 if remaining == 0 {
-                    return finish(book, index, text, store, rows, here, o.state);
+                    finish(book, text, store, rows, here, state)?;
+                    return Ok(None);
                 }
-                let g = take_step(book, index, text, store, rows, here, o.state);
+                stage = match take_step(book, text, store, rows, here, state) {
+                    Ok(stage) => stage,
+                    Err(ended) => return ended.outcome(),
+                };
                 step += 1;
                 remaining -= 1;
-                place = g.place;
-                items = g.items;
-                doing = g.doing;
-                o = g.outcome;
             }
             Doing::Child(nonterminal) => {
-                let here = Progress {
-                    call: from.call,
-                    variant: from.variant,
-                    step,
-                    remaining,
-                    place,
-                    items,
-                };
                 return descend(
                     book,
-                    index,
                     text,
                     store,
                     rows,
@@ -313,21 +249,12 @@ fn steps(
                     here,
                     Next::Steps,
                     nonterminal,
-                    o.state,
+                    state,
                 );
             }
             Doing::Optional(nonterminal) => {
-                let here = Progress {
-                    call: from.call,
-                    variant: from.variant,
-                    step,
-                    remaining,
-                    place,
-                    items,
-                };
                 return choice(
                     book,
-                    index,
                     text,
                     store,
                     rows,
@@ -335,38 +262,26 @@ fn steps(
                     here,
                     Next::Steps,
                     nonterminal,
-                    o.state,
+                    state,
                 );
             }
             Doing::Elements(list) => {
-                let here = Progress {
-                    call: from.call,
-                    variant: from.variant,
-                    step,
-                    remaining,
-                    place,
-                    items,
-                };
                 if list.names {
-                    let names = no_names(list);
-                    return choose(book, index, text, store, rows, free, here, names, o.state);
+                    return choose(book, text, store, rows, free, here, no_names(list), state);
                 }
-                let nonterminal = list.nonterminal;
                 let next = Next::Elements(list);
                 return choice(
                     book,
-                    index,
                     text,
                     store,
                     rows,
                     free,
                     here,
                     next,
-                    nonterminal,
-                    o.state,
+                    list.nonterminal,
+                    state,
                 );
             }
         }
     }
-    o
 }

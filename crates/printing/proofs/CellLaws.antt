@@ -1,6 +1,6 @@
 -- What is printed of a cell, by its form.
 --
---   read_none, read_some, older_less     a cell of a list of numbers, and the older ones
+--   read_none, read_part, older_less     a cell of a list of numbers, and the older ones
 --   spelling-, plain-                    the bytes of a name, a number, a variable, a declared one, absent
 --   gap-                                 what stands before an item
 --   item-, items-                        the bytes of a cell and of a chain
@@ -16,6 +16,7 @@ use mathlib.Core.List.{List, [], ◌∷◌, ◌++◌, append_assoc}
 use Prim.Native.Nat.{ℕ, zero, suc, ◌+◌, ◌-◌, ◌*◌, ◌^◌, ◌≤◌, ◌<◌}
 use native.Mathlib.Omega.{arith}
 use Rattle.std.proofs.Math.ListN.{length-append, get_or-eq_default}
+use Rattle.std.proofs.lemmas.List.{get_or-drop, get_or-take}
 use Rattle.std.proofs.Math.Seq.{split_at, drop-append-le}
 use borrow.Author.Tests.{lt-ltb, le-ltb, ltb-true, ltb-false, eq-eqb, ne_eqb}
 use Rattle.characters.specs.Cases.{by_test}
@@ -86,12 +87,26 @@ read_none numbers n c e h =
     let form : c.form ≡ 7 = cc in
     record { is = rw form (sym (cell_none numbers n h)); placed = λ other. absurd (other form) }
 
-pub read_some : (numbers : List ℕ) (n : ℕ) → 0 < n → n * 3 ≤ length numbers
+read_some : (numbers : List ℕ) (n : ℕ) → 0 < n → n * 3 ≤ length numbers
     → cell_of (get_or numbers (n * 3 - 3) 0) (get_or numbers (n * 3 - 3 + 1) 0) (get_or numbers (n * 3 - 3 + 2) 0)
     ≡ cell_in numbers n
 read_some numbers n some h =
     let new : n ≡ 0 → ⊥ = λ z. omega arith in
     rw (ne_eqb n 0 new, le-ltb (length numbers) (n * 3) h)
+
+module _ (numbers part : List ℕ) (n : ℕ) (some : 0 < n) (h : n * 3 ≤ length numbers)
+    (is : part ≡ take (n * 3 - (n * 3 - 3)) (drop (n * 3 - 3) numbers)) where
+  part_at : (k : ℕ) → k < 3 → get_or part k 0 ≡ get_or numbers (n * 3 - 3 + k) 0
+  part_at k inside =
+      let three : n * 3 - (n * 3 - 3) ≡ 3 = omega (arith, some) in
+      rw (is, three)
+      (get_or-take 3 (drop (n * 3 - 3) numbers) k 0 inside ∙ get_or-drop (n * 3 - 3) numbers k 0)
+
+  pub read_part : cell_of (get_or part 0 0) (get_or part 1 0) (get_or part 2 0) ≡ cell_in numbers n
+  read_part =
+      let first : n * 3 - 3 + 0 ≡ n * 3 - 3 = omega arith in
+      rw (part_at 0 (omega arith), part_at 1 (omega arith), part_at 2 (omega arith), first)
+      (read_some numbers n some h)
 
 pub older_less : (n c : ℕ) → 0 < n → older_than n c < n
 older_less n c h = by_test (ltb c n) (λ t. let less = ltb-true c n t in rw t (omega arith)) (λ t. rw t h)

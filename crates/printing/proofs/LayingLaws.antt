@@ -5,12 +5,12 @@
 --   byte-                            one byte: skipped, stored, dropped
 --   laid_short, laid_skip            a line that ends before the part that is asked for, and one that doesn't
 --   laid_window                      what the slice then holds
---   window, whole_line               the part of the line that was asked for; a whole line
+--   window, window_at, whole_line    the part of the line that was asked for; a whole line
 --   short-skip, short-size, ..       whether a line ends before a limit
 --
 -- Not here: what the bytes of the line are (CellLaws, NumberLaws, LineLaws).
-use Rattle.std.specs.Prelude.{◌≡◌, true, List, [], ◌∷◌, ◌++◌, ℕ, zero, suc, ◌+◌, ◌-◌, ◌≤◌, ◌<◌, leb, ltb, length, set}
-use Rattle.std.specs.Prelude.{take, drop}
+use Rattle.std.specs.Prelude.{◌≡◌, true, not, ◌&&◌, List, [], ◌∷◌, ◌++◌, ℕ, zero, suc, ◌+◌, ◌-◌, ◌≤◌, ◌<◌, leb, ltb}
+use Rattle.std.specs.Prelude.{length, set, take, drop}
 use Rattle.std.proofs.Math.Path.{refl, sym}
 use Rattle.std.proofs.Common.{ap, ◌∙◌, append-nil, append_assoc, arith, add-one, take-append-drop}
 use Rattle.std.proofs.Common.{length-set, length-drop, drop_of_length-le, take-suc-set, drop-set-lt, take_all}
@@ -18,9 +18,9 @@ use Rattle.std.proofs.Common.{length-take-le, lt-ltb, le-ltb, leb-true, leb-fals
 use Rattle.std.proofs.Math.Seq.{take-nil}
 use Rattle.characters.specs.Cases.{by_test, clash}
 use Rattle.characters.specs.Spelling.{part_of}
-use Rattle.printing.specs.Laying.{Filling, lay, laid, full, LaysIn}
+use Rattle.printing.specs.Laying.{Laid, Filling, lay, laid, full, LaysIn, Lays}
 use Rattle.printing.specs.Lines.{Window}
-use Rattle.printing.specs.declared.laying.Laid.{Laid}
+use Rattle.printing.specs.declared.laying.Part.{Part}
 
 -- ---- One byte
 module _ (at : Laid) (out : List ℕ) (b : ℕ) where
@@ -39,9 +39,14 @@ module _ (at : Laid) (out : List ℕ) (b : ℕ) where
   byte_skipped h = record { is = sym (lay_skip h) }
 
   pub byte_stored : {out' : List ℕ} → at.skip ≤ 0 → at.size < length out → out' ≡ set out at.size b →
-      LaysIn at out (b ∷ []) out' (record { skip = 0; size = at.size + 1 })
+      LaysIn at out (b ∷ []) out' (record { skip = at.skip; size = at.size + 1 })
   unfolding laid
-  byte_stored h l e = record { is = rw e (sym (lay_store h l)) }
+  byte_stored h l e =
+      let none : 0 ≡ at.skip = omega (arith, h) in
+      record {
+        is = rw e (ap (λ (skip : ℕ). (record { skip = skip; size = at.size + 1 }, set out at.size b)) (sym none)
+            ∙ sym (lay_store h l));
+      }
 
   pub byte_dropped : at.skip ≤ 0 → length out ≤ at.size → LaysIn at out (b ∷ []) out at
   unfolding laid
@@ -59,26 +64,39 @@ laid_full at out [] h l = refl
 laid_full at out (b ∷ w) h l = rw (lay_full at out b h l) (laid_full at out w h l)
 
 module _ {at : Laid} {out : List ℕ} where
-  pub lays_none : LaysIn at out [] out at
+  none_in : LaysIn at out [] out at
   unfolding laid
-  lays_none = record { is = refl }
+  none_in = record { is = refl }
 
-  pub lays_full : full at out ≡ true → (w : List ℕ) → LaysIn at out w out at
-  lays_full e w =
+  full_in : not (ltb 0 at.skip) && leb (length out) at.size ≡ true → (w : List ℕ) → LaysIn at out w out at
+  full_in e w =
       by_test (ltb 0 at.skip)
       (λ t. clash e (rw t))
       (λ t. by_test (leb (length out) at.size)
       (λ u. record { is = sym (laid_full at out w (ltb-false 0 at.skip t) (leb-true (length out) at.size u)) })
       (λ u. clash e (rw (t, u))))
 
-  pub lays_then : {v w out' out'' : List ℕ} {at' at'' : Laid} → LaysIn at out v out' at' →
-      LaysIn at' out' w out'' at'' →
+  then_in : {v w out' out'' : List ℕ} {at' at'' : Laid} → LaysIn at out v out' at' → LaysIn at' out' w out'' at'' →
       LaysIn at out (v ++ w) out'' at''
-  lays_then {v} {w} p q =
+  then_in {v} {w} p q =
       record { is = q.is ∙ ap (λ (s : Filling). laid s w) p.is ∙ sym (laid_append (at, out) v w) }
 
-  pub lays_as : {v w out' : List ℕ} {at' : Laid} → LaysIn at out v out' at' → v ≡ w → LaysIn at out w out' at'
-  lays_as p e = rw e at p
+  as_in : {v w out' : List ℕ} {at' : Laid} → LaysIn at out v out' at' → v ≡ w → LaysIn at out w out' at'
+  as_in p e = rw e at p
+
+module _ {part : Part} where
+  pub lays_none : Lays part part []
+  lays_none = record { same = refl; laid = none_in }
+
+  pub lays_full : full part ≡ true → (w : List ℕ) → Lays part part w
+  lays_full e w = record { same = refl; laid = full_in e w }
+
+  pub lays_then : {v w : List ℕ} {part' part'' : Part} → Lays part part' v → Lays part' part'' w →
+      Lays part part'' (v ++ w)
+  lays_then p q = record { same = q.same ∙ p.same; laid = then_in p.laid q.laid }
+
+  pub lays_as : {v w : List ℕ} {part' : Part} → Lays part part' v → v ≡ w → Lays part part' w
+  lays_as p e = record { same = p.same; laid = as_in p.laid e }
 
 -- ---- What the slice holds
 abbrev before : ℕ → ℕ → Laid
@@ -217,6 +235,11 @@ module _ (from : ℕ) (line out : List ℕ) where
         let short = part_short line from (length out) (omega arith) in
         absurd (some (omega (arith, size_is, short))))
         (λ t. leb-false (length line) from t)
+
+-- the slice that is lent ends as what was laid into it
+pub window_at : {from : ℕ} {line out out' end : List ℕ} {size : ℕ} → Window from line out out' size → end ≡ out' →
+    Window from line out end size
+window_at w e = rw e w
 
 -- a line that fits, in front of what the slice held
 pub whole_line : (line out out' : List ℕ) (size : ℕ) → Window 0 line out out' size → length line ≤ length out →

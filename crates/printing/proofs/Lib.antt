@@ -3,3 +3,4 @@ pub mod NumberLaws
 pub mod CellLaws
 pub mod LineLaws
 pub mod Worked
+pub mod FeedTurns

@@ -5,7 +5,7 @@
 --   prints_whole, prints_nothing                 the line in a slice that holds it, and in one that doesn't
 --
 -- Not here: how its bytes are laid (LayingLaws).
-use Rattle.std.specs.Prelude.{◌≡◌, List, [], ◌∷◌, ◌++◌, ℕ, ◌≤◌, ◌<◌, leb, length, take}
+use Rattle.std.specs.Prelude.{◌≡◌, List, [], ◌∷◌, ◌++◌, ℕ, ◌≤◌, ◌<◌, leb, length, take, Option, Some, None}
 use Rattle.std.proofs.Math.Path.{sym}
 use Rattle.std.proofs.Common.{◌∙◌, arith, le-leb, leb-true, eq-eqb, ne_eqb}
 use Rattle.std.proofs.lemmas.Bool.{lt-leb}
@@ -17,7 +17,6 @@ use Rattle.printing.specs.Printing.{argument_word, line_word, column_word, refus
 use Rattle.printing.proofs.LayingLaws.{whole_line}
 use Rattle.printing.specs.Cells.{item_bytes}
 use Rattle.printing.specs.Lines.{length_within, Prints, Window}
-use Rattle.printing.specs.declared.line.Length.{Length}
 
 -- ---- Parts
 pub refused_fields : (text : List ℕ) (a : Answer) (line column : ℕ) → line ≡ line_of text a → column ≡ column_of text a
@@ -41,14 +40,14 @@ module _ (names : List Entry) (text numbers : List ℕ) (a : Answer) where
 
 -- ---- Whether the line fits
 pub length_in : (limit end : ℕ) (line : List ℕ) → length line ≡ end → end ≤ limit →
-    Length.Bytes end ≡ length_within limit line
+    Some end ≡ length_within limit line
 length_in limit end line e h = rw (e, le-leb end limit h)
 
-pub length_out : (limit : ℕ) (line : List ℕ) → limit < length line → Length.Longer ≡ length_within limit line
+pub length_out : (limit : ℕ) (line : List ℕ) → limit < length line → ◌≡◌ {A = Option ℕ} None (length_within limit line)
 length_out limit line h = rw (lt-leb (length line) limit h)
 
-module _ (line out : List ℕ) (r : Length) (is : r ≡ length_within (length out) line) where
-  pub prints_whole : (out' : List ℕ) (size end : ℕ) → r ≡ Length.Bytes end →
+module _ (line out : List ℕ) (r : Option ℕ) (is : r ≡ length_within (length out) line) where
+  pub prints_whole : (out' : List ℕ) (size end : ℕ) → r ≡ Some end →
       Window 0 line out out' size → Prints line out out' r
   prints_whole out' size end e w =
       by_test (leb (length line) (length out))
@@ -57,15 +56,15 @@ module _ (line out : List ℕ) (r : Length) (is : r ≡ length_within (length ou
         out_is = rw t (whole_line line out out' size w (leb-true (length line) (length out) t));
       })
       (λ t.
-      let longer : r ≡ Length.Longer = is ∙ rw t in
+      let longer : r ≡ None = is ∙ rw t in
       let never : ◌≡◌ {A = ℕ} 0 1 = cc in
       absurd (omega arith))
 
-  pub prints_nothing : r ≡ Length.Longer → Prints line out out r
+  pub prints_nothing : r ≡ None → Prints line out out r
   prints_nothing e =
       by_test (leb (length line) (length out))
       (λ t.
-      let fits : r ≡ Length.Bytes (length line) = is ∙ rw t in
+      let fits : r ≡ Some (length line) = is ∙ rw t in
       let never : ◌≡◌ {A = ℕ} 0 1 = cc in
       absurd (omega arith))
       (λ t. record { length_is = is; out_is = rw t })

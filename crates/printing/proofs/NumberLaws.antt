@@ -1,13 +1,15 @@
 -- Laws of numbers.
 --
 --   decimal_digit, decimal_digits     a number in decimal: its last digit, and those before
---   feeds-, column_step, column_end   the loops for the line and the column of a place
+--   feeds_counted                     line feeds, as the code counts them
+--   column_step, column_end           the loop for the column of a place
 --   after-, column_bounds             the column after a byte
 use Rattle.std.specs.Prelude.{◌≡◌, refl, List, [], ◌∷◌, ◌++◌, ℕ, zero, suc, ◌+◌, ◌/◌, ◌%◌, ◌≤◌, ◌<◌, ltb, eqb, length}
-use Rattle.std.specs.Prelude.{get_or, drop}
+use Rattle.std.specs.Prelude.{get_or, drop, cond, count_by}
 use Rattle.std.proofs.Common.{sym, ap, ◌∙◌, arith, drop_of_length-le, drop-cons}
 use Rattle.std.proofs.Math.Numerals.{add-one}
 use borrow.Author.Tests.{lt-ltb, le-ltb, ltb-true, ltb-false, eq-eqb, ne_eqb}
+use Rattle.std.proofs.lemmas.List.Recursion.{is_count_by}
 use Rattle.characters.specs.Cases.{by_test}
 use Rattle.printing.specs.Printing.{digits, decimal, line_feeds, tab_stop, column_after, column_from}
 
@@ -47,21 +49,22 @@ decimal_digits (suc m) h =
     digits_more m (suc m) h ∙ rw (digits_enough m (suc m / 10) (suc m / 10) (omega arith) (omega arith))
 
 -- ---- Line feeds
+none : line_feeds [] ≡ 0
+unfolding line_feeds
+none = refl
+
+more : (b : ℕ) (bytes : List ℕ) →
+    line_feeds (b ∷ bytes) ≡ cond (eqb b 10) (1 + line_feeds bytes) (line_feeds bytes)
+unfolding line_feeds
+more b bytes =
+    let one : suc (line_feeds bytes) ≡ 1 + line_feeds bytes = omega arith in
+    ap (λ (n : ℕ). cond (eqb b 10) n (line_feeds bytes)) one
+
+pub feeds_counted : (bytes : List ℕ) → count_by (λ b. eqb b 10) bytes ≡ line_feeds bytes
+feeds_counted bytes = sym (is_count_by line_feeds (λ b. eqb b 10) none more bytes)
+
+-- ---- The loop for the column
 module _ (bytes : List ℕ) (i n : ℕ) where
-  pub feeds_hit : i < length bytes → get_or bytes i 0 ≡ 10 →
-      n + 1 + line_feeds (drop (i + 1) bytes) ≡ n + line_feeds (drop i bytes)
-  unfolding line_feeds
-  feeds_hit h e = rw (drop-cons bytes i 0 h, add-one i, eq-eqb (get_or bytes i 0) 10 e) (omega arith)
-
-  pub feeds_miss : i < length bytes → (get_or bytes i 0 ≡ 10 → ⊥) →
-      n + line_feeds (drop (i + 1) bytes) ≡ n + line_feeds (drop i bytes)
-  unfolding line_feeds
-  feeds_miss h e = rw (drop-cons bytes i 0 h, add-one i, ne_eqb (get_or bytes i 0) 10 e)
-
-  pub feeds_end : length bytes ≤ i → n + line_feeds (drop i bytes) ≡ n
-  unfolding line_feeds
-  feeds_end h = rw (drop_of_length-le bytes h) (omega arith)
-
   pub column_step : i < length bytes →
       column_from (column_after n (get_or bytes i 0)) (drop (i + 1) bytes) ≡ column_from n (drop i bytes)
   unfolding column_from

@@ -1,18 +1,12 @@
 -- What is printed of a cell, by its number, as the code goes: from the cell to those that it refers to.
 use Rattle.std.specs.Prelude.{◌≡◌, Bool, true, false, cond, ◌||◌, List, [], ◌∷◌, ℕ, ◌+◌, ◌-◌, ◌*◌, ◌<◌, ltb, eqb}
 use Rattle.std.specs.Prelude.{length, get_or, drop}
-use Rattle.characters.specs.Slices.{Slice}
 use Rattle.characters.specs.Spelling.{part_of}
 use Rattle.book.specs.Book.{Entry, nth_entry}
-use Rattle.book.specs.Index.{book_in}
 use Rattle.semantics.specs.Numbers.{half, absent_form}
 use Rattle.semantics.specs.Cells.{Cell, cell_of, cells_in, Meaning, tree_in, trees_in, nth_meaning, meanings}
 use Rattle.cells.specs.declared.numbers.CellNumbers.{CellNumbers}
 use Rattle.printing.specs.Printing.{space, dollar, hyphen, decimal, declared_bytes, printed, spaced}
-
--- the names of the book that an index gives
-abbrev pub names_in : Slice → Slice → List Entry
-names_in book index = (book_in book index).names
 
 -- cell n of a list of numbers, and absent where there is none
 abbrev pub cell_in : List ℕ → ℕ → Cell

@@ -1,8 +1,12 @@
 -- Bytes of the line, laid into a lent slice one after the other. This is no part of what document 01 says: the
 -- functions that print a part of the line say by `Lays` what they lay, and LayingLaws says what is then in the slice.
 use Rattle.std.specs.Prelude.{◌≡◌, Bool, cond, not, ◌&&◌, List, [], ◌∷◌, ℕ, ◌+◌, ◌-◌, leb, ltb, length, set}
-use Rattle.characters.specs.Slices.{Slice}
-use Rattle.printing.specs.declared.laying.Laid.{Laid}
+use Rattle.printing.specs.declared.laying.Part.{Part}
+
+-- how many bytes of the line are still to be skipped, and how many are stored
+pub record Laid : Type 0 where
+  pub skip : ℕ
+  pub size : ℕ
 
 -- how far the line has come, and the slice
 abbrev pub Filling : Type 0
@@ -18,13 +22,19 @@ unfoldable pub laid : Filling → List ℕ → Filling
 laid s [] = s
 laid s (b ∷ bs) = laid (lay s b) bs
 
--- nothing is to be skipped, and nothing more is stored
-abbrev pub full : Laid → List ℕ → Bool
-full at out = not (ltb 0 at.skip) && leb (length out) at.size
-
 -- the bytes were laid
 pub record LaysIn (at : Laid) (out bytes out' : List ℕ) (at' : Laid) : Type 0 where
   pub is : ◌≡◌ {A = Filling} (at', out') (laid (at, out) bytes)
 
-abbrev pub Lays : Laid → Slice → Slice → List ℕ → Laid → Type 0
-Lays at out out' bytes at' = LaysIn at out bytes out' at'
+-- ---- By the code's parts
+abbrev pub laid_of : Part → Laid
+laid_of part = record { skip = part.skip; size = part.size }
+
+-- nothing is to be skipped, and nothing more is stored
+abbrev pub full : Part → Bool
+full part = not (ltb 0 part.skip) && leb (length part.out.now) part.size
+
+-- the bytes were laid into the part's own slice
+pub record Lays (part part' : Part) (bytes : List ℕ) : Type 0 where
+  pub same : part'.out.ghost_name ≡ part.out.ghost_name
+  pub laid : LaysIn (laid_of part) part.out.now bytes part'.out.now (laid_of part')

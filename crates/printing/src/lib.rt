@@ -10,6 +10,8 @@
 // - `print_part` writes the part of the line from a place on, as much as there is and fits: called with one place after
 //   the other it gives a line of any length.
 //
+// Book, text and cells are given apart, as a caller has them: a struct of the three would only be made for the call.
+//
 // No public function has a `requires`. `line_length` is for a caller who makes room for the line first; `spelling`, the
 // part of the text or of the book that a cell names, for one who prints values in a way of their own. What no theorem
 // says: a call takes time in proportion to the room, with the place where the part begins, and to the text and the
@@ -28,4 +30,4 @@ mod place;
 mod value;
 
 pub use cell::spelling;
-pub use line::{Length, line_length, print, print_part};
+pub use line::{line_length, print, print_part};

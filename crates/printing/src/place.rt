@@ -4,25 +4,14 @@ ghost use Rattle.printing.specs.Printing.{line_feeds, column_after, column_from}
 
 use characters::part;
 
-const TAB: u8 = 9;
-
-const LINE_FEED: u8 = 10;
-
 // How many columns lie from one tab stop to the next.
 const TAB_SIZE: usize = 8;
 
 fn line_feeds(bytes: &[u8]) -> usize
-    ensures { (result ≡ line_feeds bytes.now) × (result ≤ length bytes.now) }
+    ensures is { result ≡ line_feeds bytes.now }
+    ensures most { result ≤ length bytes.now }
 {
-    let mut found = 0;
-    let mut i = 0;
-    while i < bytes.len() {
-        if bytes[i] == LINE_FEED {
-            found += 1;
-        }
-        i += 1;
-    }
-    found
+    bytes.iter().filter(|byte| **byte == b'\n').count()
 }
 
 // The column behind a byte: a tab moves to the next of 9, 17, 25 and so on. A byte moves by at most 8 and a place has
@@ -31,13 +20,11 @@ fn next_column(column: usize, byte: u8) -> usize
     requires { (1 ≤ column) × (column ≤ 8 * 4294967296) }
     ensures { result ≡ column_after column byte }
 {
-    if byte == LINE_FEED {
-        return 1;
+    match byte {
+        b'\n' => 1,
+        b'\t' => column.div_ceil(TAB_SIZE) * TAB_SIZE + 1,
+        _ => column + 1,
     }
-    if byte == TAB {
-        return (column + TAB_SIZE - 1) / TAB_SIZE * TAB_SIZE + 1;
-    }
-    column + 1
 }
 
 pub fn line(text: &[u8], place: u32) -> usize
@@ -51,10 +38,8 @@ pub fn column(text: &[u8], place: u32) -> usize
 {
     let before = part(text, 0, place as usize);
     let mut column = 1;
-    let mut i = 0;
-    while i < before.len() {
-        column = next_column(column, before[i]);
-        i += 1;
+    for byte in before {
+        column = next_column(column, *byte);
     }
     column
 }

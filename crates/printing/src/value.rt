@@ -3,125 +3,92 @@
 ghost use Rattle.semantics.specs.Cells.{cell_of};
 ghost use Rattle.printing.specs.Printing.{declared_bytes};
 ghost use Rattle.printing.specs.Laying.{Lays};
-ghost use Rattle.printing.specs.Cells.{names_in, plain_bytes, item_bytes, items_bytes, gap_bytes};
+ghost use Rattle.printing.specs.Cells.{plain_bytes, item_bytes, items_bytes, gap_bytes};
 
 use crate::cell::{cell_at, older, spelling};
-use crate::laying::{Laid, byte, bytes, is_full, number};
+use crate::laying::Part;
+use book::Book;
 use cells::{
     CHAIN_FORM, CellNumbers, DECLARED_FORM, DebruijnIndex, HALF, LIST_FORM, NAME_FORM, NUMBER_FORM,
     VARIABLE_FORM, VARIANT_FORM, VarIndex,
 };
 
 // A declared variable, `$depth.index`.
-fn declared(out: &mut [u8], at: Laid, depth: DebruijnIndex, index: VarIndex) -> Laid
-    ensures { Lays at out.old out.new (declared_bytes depth.0 index.0) result }
+fn declared(part: &mut Part, depth: DebruijnIndex, index: VarIndex)
+    ensures { Lays part.old part.new (declared_bytes depth.0 index.0) }
 {
-    let marked = byte(out, at, b'$');
-    let outwards = number(out, marked, depth.0 as u64);
-    let dotted = byte(out, outwards, b'.');
-    number(out, dotted, index.0 as u64)
+    part.byte(b'$');
+    part.number(depth.0 as u64);
+    part.byte(b'.');
+    part.number(index.0 as u64);
 }
 
 // An item that has no items itself: a name, a number, a variable, a declared one, or absent.
-fn plain<'a>(
-    book: &'a [u8],
-    index: &[usize],
-    text: &'a [u8],
-    out: &mut [u8],
-    at: Laid,
-    cell: CellNumbers,
-) -> Laid
-    ensures { Lays at out.old out.new
-        (plain_bytes (names_in book.now index.now) text.now (cell_of cell.form cell.a cell.b)) result }
+fn plain(book: &Book, text: &[u8], part: &mut Part, cell: CellNumbers)
+    ensures { Lays part.old part.new
+        (plain_bytes book.now.names text.now (cell_of cell.form cell.a cell.b)) }
 {
-    if cell.form == NUMBER_FORM {
-        return number(out, at, cell.a as u64 * HALF + cell.b as u64);
+    match cell.form {
+        NUMBER_FORM => part.number(cell.a as u64 * HALF + cell.b as u64),
+        NAME_FORM => part.bytes(spelling(book, text, cell)),
+        VARIABLE_FORM => {
+            part.byte(b'$');
+            part.bytes(spelling(book, text, cell));
+        }
+        DECLARED_FORM => declared(part, DebruijnIndex(cell.a), VarIndex(cell.b)),
+        _ => part.byte(b'-'),
     }
-    if cell.form == NAME_FORM {
-        return bytes(out, at, spelling(book, index, text, cell));
-    }
-    if cell.form == VARIABLE_FORM {
-        let next = byte(out, at, b'$');
-        return bytes(out, next, spelling(book, index, text, cell));
-    }
-    if cell.form == DECLARED_FORM {
-        return declared(out, at, DebruijnIndex(cell.a), VarIndex(cell.b));
-    }
-    byte(out, at, b'-')
 }
 
 // The space before an item that comes after the items of a chain; a list's first has none.
-fn gap(cells: &[u32], out: &mut [u8], at: Laid, in_list: bool, chain: u32) -> Laid
-    ensures { Lays at out.old out.new (gap_bytes cells.now in_list chain) result }
+fn gap(cells: &[u32], part: &mut Part, in_list: bool, chain: u32)
+    ensures { Lays part.old part.new (gap_bytes cells.now in_list chain) }
 {
-    if in_list {
-        let before = cell_at(cells, chain);
-        if before.form != CHAIN_FORM {
-            return at;
-        }
+    if in_list && cell_at(cells, chain).form != CHAIN_FORM {
+        return;
     }
-    byte(out, at, b' ')
+    part.byte(b' ');
 }
 
 // The value of cell n.
 #[cycle(item_items)]
-pub fn item<'a>(
-    book: &'a [u8],
-    index: &[usize],
-    text: &'a [u8],
-    cells: &[u32],
-    out: &mut [u8],
-    at: Laid,
-    n: u32,
-) -> Laid
-    ensures { Lays at out.old out.new
-        (item_bytes (names_in book.now index.now) text.now cells.now n) result }
+pub fn item(book: &Book, text: &[u8], cells: &[u32], part: &mut Part, n: u32)
+    ensures { Lays part.old part.new (item_bytes book.now.names text.now cells.now n) }
 {
-    if is_full(out, at) {
-        return at;
+    if part.is_full() {
+        return;
     }
     let cell = cell_at(cells, n);
-    if cell.form == VARIANT_FORM {
-        let opened = byte(out, at, b'(');
-        let numbered = number(out, opened, cell.a as u64);
-        let chain = older(n, cell.b);
-        let filled = items(book, index, text, cells, out, numbered, chain, false);
-        return byte(out, filled, b')');
+    match cell.form {
+        VARIANT_FORM => {
+            part.byte(b'(');
+            part.number(cell.a as u64);
+            items(book, text, cells, part, older(n, cell.b), false);
+            part.byte(b')');
+        }
+        LIST_FORM => {
+            part.byte(b'[');
+            items(book, text, cells, part, older(n, cell.a), true);
+            part.byte(b']');
+        }
+        _ => plain(book, text, part, cell),
     }
-    if cell.form == LIST_FORM {
-        let opened = byte(out, at, b'[');
-        let chain = older(n, cell.a);
-        let filled = items(book, index, text, cells, out, opened, chain, true);
-        return byte(out, filled, b']');
-    }
-    plain(book, index, text, out, at, cell)
 }
 
 // The items of chain n, the oldest first.
 #[cycle(item_items)]
-fn items<'a>(
-    book: &'a [u8],
-    index: &[usize],
-    text: &'a [u8],
-    cells: &[u32],
-    out: &mut [u8],
-    at: Laid,
-    n: u32,
-    in_list: bool,
-) -> Laid
-    ensures { Lays at out.old out.new
-        (items_bytes (names_in book.now index.now) text.now cells.now in_list n) result }
+fn items(book: &Book, text: &[u8], cells: &[u32], part: &mut Part, n: u32, in_list: bool)
+    ensures { Lays part.old part.new (items_bytes book.now.names text.now cells.now in_list n) }
 {
-    if is_full(out, at) {
-        return at;
+    if part.is_full() {
+        return;
     }
     let cell = cell_at(cells, n);
     if cell.form != CHAIN_FORM {
-        return at;
+        return;
     }
     let chain = older(n, cell.a);
-    let filled = items(book, index, text, cells, out, at, chain, in_list);
-    let next = gap(cells, out, filled, in_list, chain);
-    let last = older(n, cell.b);
-    item(book, index, text, cells, out, next, last)
+    items(book, text, cells, part, chain, in_list);
+    gap(cells, part, in_list, chain);
+    item(book, text, cells, part, older(n, cell.b));
 }

@@ -2,7 +2,7 @@
 ghost use Rattle.std.specs.Prelude.{◌≡◌};
 ghost use Rattle.program.specs.Rule.{Answers};
 
-use book::{INDEX_SIZE, check_into};
+use book::{Book, INDEX_SIZE, check_into};
 use cells::CELLS_SIZE;
 use printing::print_part;
 use run::{Answer, MOST_UNITS, read};
@@ -10,47 +10,41 @@ use sets::PARSES_SIZE;
 
 const START: u32 = 0;
 
-const LARGEST: usize = 18446744073709551615;
-
 // The line in parts, each as much as `out` holds, until one is empty or can't be written. Each part is one of
 // `line_bytes` by the contract of `print_part`; no contract can say what is written, so this function has none.
-fn write_line<'a>(
+fn write_line(
     rt: &impl Print,
-    text: &'a [u8],
-    book: &'a [u8],
-    index: &[usize],
+    book: &Book,
+    text: &[u8],
     cells: &[u32],
     answer: Answer,
     out: &mut [u8],
 ) {
     let mut from = 0;
     loop {
-        let size = print_part(book, index, text, cells, answer, from, out);
-        if size == 0 {
-            return;
-        }
-        if rt.write_all(&out[..size]).is_err() {
+        let size = print_part(book, text, cells, answer, from, out);
+        if size == 0 || rt.write_all(&out[..size]).is_err() {
             return;
         }
         // no line has that many bytes, which the definition of the line doesn't say
-        if LARGEST - from < size {
+        let Some(next) = from.checked_add(size) else {
             return;
-        }
-        from += size;
+        };
+        from = next;
     }
 }
 
 // Reads the text by the book, writes the line of the answer by way of `out`, which needs one byte at least, and gives
 // the answer.
-pub fn answer_line<'a>(rt: &impl Print, book: &'a [u8], text: &'a [u8], out: &mut [u8]) -> Answer
+pub fn answer_line(rt: &impl Print, book: &[u8], text: &[u8], out: &mut [u8]) -> Answer
     ensures { Answers book.now text.now result }
 {
     let mut cells = [0u32; CELLS_SIZE];
     let mut parses = [0u32; PARSES_SIZE];
     let answer = read(book, text, START, MOST_UNITS, &mut cells, &mut parses);
-    // the names that variables are spelled by
+    // the names that variables are spelled by; the line of a refused book has none
     let mut index = [0usize; INDEX_SIZE];
-    check_into(book, &mut index);
-    write_line(rt, text, book, &index, &cells, answer, out);
+    let _ = check_into(book, &mut index);
+    write_line(rt, &Book::new(book, &index), text, &cells, answer, out);
     answer
 }

@@ -5,8 +5,5 @@
 mod cases;
 
 fn main(rt: HostRuntime) {
-    cases::rows(&rt);
-    cases::forms(&rt);
-    cases::places(&rt);
-    cases::files(&rt);
+    cases::all(&rt);
 }

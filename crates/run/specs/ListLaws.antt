@@ -1,18 +1,19 @@
--- Lists that are cleared and filled, whole parses and high bytes: a law for each turn and each end of a loop.
+-- Lists that are cleared and filled, whole parses and high bytes: a law for each turn and each end of a loop, or for
+-- what the library's method gives.
 --
 -- Contents:
--- - zeros: clear_first, clear_again
--- - one number more: copy_again
--- - parses: parses_first, parses_again, parses_end
+-- - zeros, and numbers before them: written_zeros, written_over
+-- - parses: parses_first, parses_again
 -- - whole parses: values_again, values_end, by_values_is
--- - high bytes: high_hit, high_on, high_end
--- - what the outermost row found: found_few
+-- - high bytes: high_at
 use Rattle.std.specs.Prelude.{◌≡◌, refl, Bool, true, false, cond, List, [], ◌∷◌, ◌++◌, ℕ, zero, suc, ◌+◌, ◌*◌, ◌<◌}
-use Rattle.std.specs.Prelude.{◌≤◌, eqb, length, get_or, take, drop, set, replicate}
+use Rattle.std.specs.Prelude.{◌≤◌, eqb, length, get_or, take, drop, set, replicate, leb}
+use Rattle.std.specs.List.{position, position_from}
+use Rattle.std.proofs.lemmas.Iterator.Adapters.{position_from-zero}
 use Rattle.std.proofs.Common.{sym, ap, ◌∙◌, arith, add-one, length-append, drop_of_length-le, take-suc}
-use Rattle.std.proofs.Common.{length-take-le, take_all}
+use Rattle.std.proofs.Common.{length-take-le}
 use Rattle.std.proofs.Math.Seq.{drop-cons}
-use borrow.Author.Tests.{lt-ltb, le-ltb, le-leb, lt-leb}
+use Rattle.std.proofs.lemmas.List.{take-replicate}
 use Rattle.characters.specs.Cases.{by_test}
 use Rattle.book.specs.Book.{associativity_number}
 use Rattle.semantics.specs.Values.{Parse, absent_parse, whole}
@@ -20,35 +21,27 @@ use Rattle.semantics.specs.Tokens.{when}
 use Rattle.semantics.specs.Run.{Parsed}
 use Rattle.semantics.specs.Answer.{answer, written, parse_numbers, whole_values, all_are, first_high, filled, by_values}
 use Rattle.sets.specs.Sets as sets
-use Rattle.sets.specs.PlaceLaws.{set_le}
-use Rattle.run_model.specs.Rows.{row_of}
-use Rattle.calls.specs.Table.{table}
-use Rattle.calls.specs.TableLaws.{read_set}
 use Rattle.run.specs.declared.whole.Values.{Values}
-use Rattle.run.specs.Reading.{place_or_none, with_value, with_values, with_parse, end_answer}
+use Rattle.run.specs.Reading.{with_value, with_values, with_parse, end_answer}
 
--- ---- Zeros
-zeros_taken : (m k : ℕ) → m ≤ k → take {A = ℕ} m (replicate k 0) ≡ replicate m 0
-zeros_taken zero k h = refl
-zeros_taken (suc m) zero h = absurd (omega arith)
-zeros_taken (suc m) (suc k) h = ap (λ (l : List ℕ). 0 ∷ l) (zeros_taken m k (omega arith))
-
-zeros_again : (i : ℕ) (l : List ℕ) → i < length l →
-    set (replicate i 0 ++ drop i l) i 0 ≡ replicate (suc i) 0 ++ drop (suc i) l
-zeros_again i [] h = absurd (omega arith)
-zeros_again zero (x ∷ l) h = refl
-zeros_again (suc i) (x ∷ l) h = ap (λ (l : List ℕ). 0 ∷ l) (zeros_again i l (omega arith))
-
-written_zeros : (i : ℕ) (l : List ℕ) → written i [] l ≡ replicate i 0 ++ drop i l
+-- ---- Zeros, and numbers before them
+pub written_zeros : (size : ℕ) (lent : List ℕ) → written size [] lent ≡ replicate size 0 ++ drop size lent
 unfolding written
-written_zeros i l = rw (zeros_taken i i (omega arith))
+written_zeros size lent = rw (take-replicate {X = ℕ} size size 0 (omega arith))
 
-pub clear_first : (l : List ℕ) → l ≡ written 0 [] l
+before_zeros : (numbers : List ℕ) (size k : ℕ) (beyond : List ℕ) → length numbers ≤ size → size ≤ length numbers + k →
+    numbers ++ drop (length numbers) (replicate size 0 ++ beyond) ≡ take size (numbers ++ replicate k 0) ++ beyond
+before_zeros [] size k beyond h room = rw (take-replicate {X = ℕ} size k 0 (omega arith))
+before_zeros (n ∷ numbers) zero k beyond h room = absurd (omega arith)
+before_zeros (n ∷ numbers) (suc size) k beyond h room =
+    ap (λ (l : List ℕ). n ∷ l) (before_zeros numbers size k beyond (omega arith) (omega arith))
+
+pub written_over : (size : ℕ) (numbers lent : List ℕ) → length numbers ≤ size →
+    numbers ++ drop (length numbers) (written size [] lent) ≡ written size numbers lent
 unfolding written
-clear_first l = refl
-
-pub clear_again : (i : ℕ) (l : List ℕ) → i < length l → set (written i [] l) i 0 ≡ written (i + 1) [] l
-clear_again i l h = rw (add-one i, written_zeros i l, written_zeros (suc i) l) (zeros_again i l h)
+written_over size numbers lent h =
+    ap (λ (l : List ℕ). numbers ++ drop (length numbers) l) (written_zeros size lent)
+    ∙ before_zeros numbers size size (drop size lent) h (omega arith)
 
 -- ---- One number more
 more : (numbers : List ℕ) (size k x : ℕ) (beyond : List ℕ) → length numbers < size → size ≤ length numbers + k →
@@ -58,21 +51,15 @@ more numbers zero k x beyond h room = absurd (omega arith)
 more [] (suc size) zero x beyond h room = absurd (omega arith)
 more [] (suc size) (suc k) x beyond h room =
     ap (λ (zeros : List ℕ). x ∷ (zeros ++ beyond))
-    (zeros_taken size k (omega arith) ∙ sym (zeros_taken size (suc k) (omega arith)))
+    (take-replicate {X = ℕ} size k 0 (omega arith) ∙ sym (take-replicate {X = ℕ} size (suc k) 0 (omega arith)))
 more (n ∷ numbers) (suc size) k x beyond h room =
     ap (λ (l : List ℕ). n ∷ l) (more numbers size k x beyond (omega arith) (omega arith))
 
 module _ (size : ℕ) (lent : List ℕ) where
-  written_more : (numbers : List ℕ) (at x : ℕ) → length numbers ≡ at → at < size →
+  pub written_more : (numbers : List ℕ) (at x : ℕ) → length numbers ≡ at → at < size →
       set (written size numbers lent) at x ≡ written size (numbers ++ (x ∷ [])) lent
   unfolding written
   written_more numbers at x e h = rw (← e) (more numbers size size x (drop size lent) (omega arith) (omega arith))
-
-  pub copy_again : (source : List ℕ) (i : ℕ) → i < size → i < length source →
-      set (written size (take i source) lent) i (get_or source i 0) ≡ written size (take (i + 1) source) lent
-  copy_again source i h l =
-      rw (add-one i, take-suc source i 0 l)
-      (written_more (take i source) i (get_or source i 0) (length-take-le i source (omega arith)) h)
 
   snoc_four : (numbers : List ℕ) (a b c d : ℕ) →
       (((numbers ++ (a ∷ [])) ++ (b ∷ [])) ++ (c ∷ [])) ++ (d ∷ []) ≡ numbers ++ (a ∷ b ∷ c ∷ d ∷ [])
@@ -135,10 +122,6 @@ parses_again size lent ps i p h room e =
     ∙ ap parse_numbers (sym (take-suc ps i absent_parse h)))
     ∙ rw (add-one i)
 
-pub parses_end : (size : ℕ) (lent : List ℕ) (ps : List (Parse ℕ)) (i : ℕ) → length ps ≤ i →
-    written size (parse_numbers (take i ps)) lent ≡ written size (parse_numbers ps) lent
-parses_end size lent ps i h = rw (take_all i ps h)
-
 -- ---- Whole parses
 pub values_again : (text : List ℕ) (ps : List (Parse ℕ)) (i : ℕ) (values more : Values) (p : Parse ℕ) → i < length ps →
     p ≡ get_or ps i absent_parse → more ≡ with_parse text values p →
@@ -178,20 +161,10 @@ by_values_is cells parses (v ∷ vs) work r = rw (one_value v vs) (by (all_are v
     by false = refl
 
 -- ---- High bytes
-module _ (text : List ℕ) (i : ℕ) where
-  pub high_hit : i < length text → 128 ≤ get_or text i 0 → place_or_none text i ≡ first_high i (drop i text)
-  unfolding first_high
-  high_hit h l = rw (drop-cons text i 0 h, le-leb 128 (get_or text i 0) l, lt-ltb i (length text) h)
+from_place : (i : ℕ) (text : List ℕ) → first_high i text ≡ position_from (λ b. leb 128 b) i text
+unfolding first_high
+from_place i [] = refl
+from_place i (b ∷ text) = by_test (leb 128 b) (λ t. rw t) (λ t. rw (t, add-one i) (from_place (suc i) text))
 
-  pub high_on : i < length text → get_or text i 0 < 128 →
-      first_high (i + 1) (drop (i + 1) text) ≡ first_high i (drop i text)
-  unfolding first_high
-  high_on h l = rw (add-one i, drop-cons text i 0 h, lt-leb 128 (get_or text i 0) l)
-
-  pub high_end : length text ≤ i → place_or_none text i ≡ first_high i (drop i text)
-  unfolding first_high
-  high_end h = rw (drop_of_length-le text h, le-ltb i (length text) h)
-
--- ---- What the outermost row found
-pub found_few : (rows : List ℕ) → length (row_of (table rows) 200).set ≤ 64
-found_few rows = rw (read_set rows 200 (omega arith)) (set_le rows 105011)
+pub high_at : (text : List ℕ) → position (λ b. leb 128 b) text ≡ first_high 0 text
+high_at text = position_from-zero (λ b. leb 128 b) text ∙ sym (from_place 0 text)

@@ -1,12 +1,11 @@
 -- The parts of the call, in the code's terms: what each asks and equals. The promise of the call itself stands in
 -- Promise. Scaffolding: no definition of document 01.
 use Rattle.std.specs.Prelude.{◌≡◌, Bool, cond, ◌||◌, List, [], ◌∷◌, ℕ, ◌≤◌, ltb, eqb, length}
-use Rattle.std.proofs.Math.Option.{Option, none, some}
 use Rattle.characters.specs.Slices.{Slice}
 use Rattle.book.specs.Book.{Book}
 use Rattle.book.specs.Check.{check_book}
 use Rattle.book.specs.Check as check
-use Rattle.book.specs.Index.{index_size, book_in}
+use Rattle.book.specs.Index.{index_size}
 use Rattle.semantics.specs.Numbers.{cells_size, parses_size, most_units, most_nesting, most_cells, none_whole}
 use Rattle.semantics.specs.Numbers.{different_values}
 use Rattle.semantics.specs.Values.{Parse, whole}
@@ -15,8 +14,8 @@ use Rattle.semantics.specs.Run as definition
 use Rattle.semantics.specs.Answer.{Answer, Answered, answer, written, parse_numbers}
 use Rattle.run_model.proofs.Theorem.{seen}
 use Rattle.cells.specs.Store.{store_size}
-use Rattle.calls.specs.Table.{rows_size, table, row_in}
-use Rattle.transitions.specs.declared.outcomes.Outcome.{Outcome}
+use Rattle.run_model.specs.Rows.{Row, row_of}
+use Rattle.transitions.specs.Results.{Outcome}
 use Rattle.transitions.specs.Outcomes.{cells_of, Held, given}
 use Rattle.transitions.specs.Fit.{Fit}
 use Rattle.run.specs.Promise.{answered}
@@ -31,10 +30,6 @@ short cells parses = ltb (length cells) cells_size || ltb (length parses) parses
 -- "allowance 0 or above 1,000,000"
 abbrev pub no_allowance : ℕ → Bool
 no_allowance allowance = eqb allowance 0 || ltb most_units allowance
-
--- a place of the text, where it is one
-abbrev pub place_or_none : List ℕ → ℕ → Option ℕ
-place_or_none text i = cond (ltb i (length text)) (some i) none
 
 -- ---- Whole parses
 -- one value more
@@ -60,11 +55,12 @@ end_answer Values.Different work parses = answer different_values 0 0 0 work par
 
 -- ---- The run
 -- what a caller sees of the code's outcome: the parses stand in row 200, the cells in the store
-unfoldable pub seen_of : Outcome → List ℕ → List ℕ → Result Parsed
-seen_of o store rows = seen (given o (cells_of store o.state.cells) (table rows))
+unfoldable pub seen_of : Outcome → List ℕ → List Row → Result Parsed
+seen_of o store rows = seen (given o (cells_of store o.state.cells) rows)
 
 -- the code's outcome, with the store and the rows after it, is the definition's run
-pub record RunsText (book : Book) (text : List ℕ) (units start : ℕ) (store rows : List ℕ) (o : Outcome) : Type 0 where
+pub record RunsText (book : Book) (text : List ℕ) (units start : ℕ) (store : List ℕ) (rows : List Row) (o : Outcome) :
+    Type 0 where
   pub is : seen_of o store rows ≡ definition.run book text units start
   pub held : Held text store o.state.cells
 
@@ -74,8 +70,8 @@ abbrev pub Writes : Slice → Slice → ℕ → List ℕ → Type 0
 Writes lent lent' size numbers = lent' ≡ written size numbers lent
 
 -- they become the parses that the outermost row found
-abbrev pub WritesParses : Slice → Slice → Slice → Type 0
-WritesParses parses parses' rows = Writes parses parses' parses_size (parse_numbers (row_in rows most_nesting).set)
+abbrev pub WritesParses : Slice → Slice → List Row → Type 0
+WritesParses parses parses' rows = Writes parses parses' parses_size (parse_numbers (row_of rows most_nesting).set)
 
 -- the answer and both lists at exit, from the lists at entry
 abbrev pub Gives : Slice → Slice → Slice → Slice → code.Answer → (List ℕ → List ℕ → Answered) → Type 0
@@ -85,35 +81,26 @@ Gives cells cells' parses parses' r expected = answered r cells' parses' ≡ exp
 abbrev pub LongLists : Slice → Slice → Type 0
 LongLists cells parses = (cells_size ≤ length cells) × (parses_size ≤ length parses)
 
-abbrev pub HasParses : Slice → Slice → Type 0
-HasParses parses rows = (parses_size ≤ length parses) × (rows_size ≤ length rows)
-
 -- there are `count` cells
-abbrev pub CanFill : Slice → Slice → Slice → Slice → ℕ → Type 0
-CanFill cells parses store rows count =
-    (cells_size ≤ length cells) × (parses_size ≤ length parses) × (store_size ≤ length store) ×
-    (rows_size ≤ length rows) ×
-    (count ≤ most_cells)
+abbrev pub CanFill : Slice → Slice → Slice → ℕ → Type 0
+CanFill cells parses store count =
+    (cells_size ≤ length cells) × (parses_size ≤ length parses) × (store_size ≤ length store) × (count ≤ most_cells)
 
 -- the run is over
-abbrev pub CanEnd : Slice → Slice → Slice → Slice → Slice → Outcome → Type 0
-CanEnd text cells parses store rows o =
-    (cells_size ≤ length cells) × (parses_size ≤ length parses) × (rows_size ≤ length rows) ×
-    Held text store o.state.cells
+abbrev pub CanEnd : Slice → Slice → Slice → Slice → Outcome → Type 0
+CanEnd text cells parses store o =
+    (cells_size ≤ length cells) × (parses_size ≤ length parses) × Held text store o.state.cells
 
 -- the run can begin
-abbrev pub CanStart : Slice → Slice → Slice → Slice → Slice → Type 0
-CanStart book index text store rows =
-    (store_size ≤ length store) × (rows_size ≤ length rows) × Fit (book_in book index) text
+abbrev pub CanStart : Book → Slice → Slice → Type 0
+CanStart book text store = (store_size ≤ length store) × Fit book text
 
--- the book is accepted
-abbrev pub CanRead : Slice → Slice → Slice → Slice → Slice → Slice → Type 0
-CanRead book cells parses index store rows =
+-- the book is accepted: it is that of some bytes
+abbrev pub CanRead : Book → Slice → Slice → Slice → Type 0
+CanRead book cells parses store =
     (cells_size ≤ length cells) × (parses_size ≤ length parses) × (store_size ≤ length store) ×
-    (rows_size ≤ length rows) ×
-    (check_book book ≡ check.Outcome.book (book_in book index))
+    ((bytes : List ℕ) × (check_book bytes ≡ check.Outcome.book book))
 
--- the working memory has its sizes
-abbrev pub HasRoom : Slice → Slice → Slice → Type 0
-HasRoom index store rows =
-    (index_size ≤ length index) × (store_size ≤ length store) × (rows_size ≤ length rows)
+-- the working memory beside the rows has its sizes
+abbrev pub HasRoom : Slice → Slice → Type 0
+HasRoom index store = (index_size ≤ length index) × (store_size ≤ length store)

@@ -4,22 +4,22 @@
 -- - the run: seen_limit, seen_result, run_is
 -- - the end: end_limit, end_failed, end_found
 -- - the start and the text: not_in_book, too_long, high_found, book_run
--- - the call: call_short, call_allowance, call_refused, call_book, long_cells, verdict_refused
--- - demand 3: reads, reads_nothing, reads_in, room
-use Rattle.std.specs.Prelude.{◌≡◌, Bool, true, false, cond, ◌||◌, ℕ, ◌-◌, ◌*◌, ◌<◌, ◌≤◌, ltb, length}
+-- - the call: call_short, call_allowance, call_refused, call_book, verdict_refused
+-- - demand 3: reads, reads_in
+use Rattle.std.specs.Prelude.{◌≡◌, Bool, true, false, cond, ℕ, ◌-◌, ◌*◌, ◌<◌, ◌≤◌, length}
 use Rattle.std.proofs.Math.Path.{refl, sym, ap}
 use Rattle.std.proofs.Common.{subst, ◌∙◌, arith}
 use mathlib.Core.List.{List, []}
-use Rattle.std.proofs.Math.Option.{none}
+use Rattle.std.specs.Prelude.{Option, None, Some, Err}
 use Rattle.std.proofs.Math.ListN.{take}
-use borrow.Author.Tests.{ltb-false, lt-ltb, le-ltb, le-leb, lt-leb, eq-eqb, ne_eqb}
-use Rattle.characters.specs.Cases.{clash}
+use borrow.Author.Tests.{lt-ltb, le-ltb, le-leb, lt-leb, eq-eqb, ne_eqb}
 use Rattle.characters.specs.Classes.{between}
 use Rattle.characters.specs.Skipping.{skip_from}
 use Rattle.book.specs.Book.{Book}
 use Rattle.book.specs.Check.{check_book, Outcome}
-use Rattle.book.specs.Index.{verdict, CheckedInto}
-use Rattle.book.specs.declared.checking.Verdict.{Verdict}
+use Rattle.book.specs.Index.{Verdict, Says, CheckedInto}
+use Rattle.book.specs.Numbers.{fault_number}
+use Rattle.book.specs.declared.refusals.Refusal.{Refusal}
 use Rattle.semantics.specs.Numbers.{is_limit}
 use Rattle.semantics.specs.Cells.{Cell, cells_in}
 use Rattle.semantics.specs.Run as definition
@@ -29,27 +29,24 @@ use Rattle.semantics.specs.Answer.{first_high}
 use Rattle.semantics.specs.Answer.{untouched, at_end, on_book, answer_of}
 use Rattle.semantics.specs.Exact.{Exact}
 use Rattle.semantics.proofs.Theorem.Found.{found_is_exactly_derivable}
-use Rattle.run_model.specs.Rows.{row_of}
+use Rattle.run_model.specs.Rows.{Row, row_of}
 use Rattle.run_model.specs.Model.{row_state, enter_rows, runner_rows}
 use Rattle.run_model.proofs.Theorem.{seen, rows_run}
-use Rattle.calls.specs.Table.{table}
-use Rattle.calls.specs.TableLaws.{table_length}
 use Rattle.cells.specs.Store.{Holds, Cleared}
 use Rattle.cells.specs.StoredLaws.{stored_numbers}
 use Rattle.errors.specs.Maps.{failure_of}
-use Rattle.errors.specs.declared.Failure.{Failure}
 use Rattle.errors.specs.declared.Error as tokens
-use Rattle.transitions.specs.declared.outcomes.Outcome as code
+use Rattle.transitions.specs.Results as code
 use Rattle.transitions.specs.Outcomes.{cells_of, Held, given, Ran, Runs, failure_at}
 use Rattle.run.specs.declared.reader.Answer as parse
 use Rattle.run.specs.declared.whole.Values.{Values}
 use Rattle.run.specs.Promise.{answer_in, answered, no_room, Reads, answer_with}
-use Rattle.run.specs.Reading.{short, no_allowance, place_or_none, with_values, end_answer, seen_of, RunsText}
+use Rattle.run.specs.Reading.{short, no_allowance, with_values, end_answer, seen_of, RunsText}
 use Rattle.run.specs.ListLaws.{by_values_is}
 
 -- the three parts of what is answered
 module _ {a : parse.Answer} {b : Answer} {cells cells' parses parses' : List ℕ} where
-  with_lists : answer_in a ≡ b → cells ≡ cells' → parses ≡ parses' →
+  pub with_lists : answer_in a ≡ b → cells ≡ cells' → parses ≡ parses' →
       answered a cells parses ≡ record { answer = b; cells = cells'; parses = parses' }
   with_lists e f g = cc
 
@@ -66,42 +63,43 @@ held_none text before after c h =
     }
 
 -- what is seen of the code's outcome
-module _ (o : code.Outcome) (store rows : List ℕ) where
+module _ (o : code.Outcome) (store : List ℕ) (rows : List Row) where
   pub seen_limit : (o.limit ≡ 0 → ⊥) → seen_of o store rows ≡ met o.limit o.state.units
   unfolding seen_of given seen
   seen_limit h = rw (ne_eqb o.limit 0 h)
 
   pub seen_result : o.limit ≡ 0 →
       seen_of o store rows ≡
-      ok (parsed (row_of (table rows) 200).set (failure_of (failure_at o))
+      ok (parsed (row_of rows 200).set (failure_of (failure_at o))
       (record { units = o.state.units; cells = cells_of store o.state.cells; asked = [] }))
   unfolding seen_of given seen
   seen_result e = rw (eq-eqb o.limit 0 e)
 
-module _ (book : Book) (text store₀ store₁ store₂ rows rows' : List ℕ) (units start first : ℕ) (o : code.Outcome) where
+module _ (book : Book) (text store₀ store₁ store₂ : List ℕ) (rows rows' : List Row) (units start first : ℕ)
+    (o : code.Outcome) (size : length rows ≡ 201) where
   -- what `enter` says of the code's outcome, seen from outside, is the definition's run
-  run_seen : Ran text store₂ (table rows') o (enter_rows book text (runner_rows book text 200) 200 0 start first
-      (row_state units (cells_of store₁ 0) (table rows))) →
+  run_seen : Ran text store₂ rows' o (enter_rows book text (runner_rows book text 200) 200 0 start first
+      (row_state units (cells_of store₁ 0) rows)) →
       first ≡ skip_from text 0 → seen_of o store₂ rows' ≡ definition.run book text units start
   unfolding seen_of
   run_seen ran e =
       ap seen ran.is
       ∙ ap (λ (cells : List Cell). seen (enter_rows book text (runner_rows book text 200) 200 0 start first
-      (row_state units cells (table rows)))) (no_cells store₁) ∙ ap
+      (row_state units cells rows))) (no_cells store₁) ∙ ap
       (λ (u : ℕ).
-      seen (enter_rows book text (runner_rows book text 200) 200 0 start u (row_state units [] (table rows)))) e
-      ∙ sym (rows_run book text units start (table rows) (table_length rows))
+      seen (enter_rows book text (runner_rows book text 200) 200 0 start u (row_state units [] rows))) e
+      ∙ sym (rows_run book text units start rows size)
 
   pub run_is : Cleared store₀ store₁ → 17408 ≤ length store₀ → first ≡ skip_from text 0 →
-      Runs text store₁ 0 store₂ (table rows') o
+      Runs text store₁ 0 store₂ rows' o
       (λ cells. enter_rows book text (runner_rows book text 200) 200 0 start first
-      (row_state units cells (table rows))) →
+      (row_state units cells rows)) →
       RunsText book text units start store₂ rows' o
   run_is c room e runs =
       let ran = runs (held_none text store₀ store₁ c room) in record { is = run_seen ran e; held = ran.held }
 
 -- ---- The end
-module _ (text cells cells' parses parses' store rows : List ℕ) (allowance work : ℕ) (o : code.Outcome)
+module _ (text cells cells' parses parses' store : List ℕ) (rows : List Row) (allowance work : ℕ) (o : code.Outcome)
     (a : parse.Answer) (w : work ≡ allowance - o.state.units) where
   pub end_limit : (o.limit ≡ 0 → ⊥) → (cells' ≡ written 12288 [] cells) × (parses' ≡ written 256 [] parses) →
       answer_in a ≡ answer o.limit 0 0 0 work 0 0 →
@@ -111,7 +109,7 @@ module _ (text cells cells' parses parses' store rows : List ℕ) (allowance wor
       with_lists {a = a} (e ∙ ap (λ (n : ℕ). answer o.limit 0 0 0 n 0 0) w) lists.0 lists.1
       ∙ rw (seen_limit o store rows h)
 
-  pub end_failed : (e : tokens.Error) → o.limit ≡ 0 → failure_at o ≡ Failure.At e →
+  pub end_failed : (e : tokens.Error) → o.limit ≡ 0 → failure_at o ≡ Some e →
       (cells' ≡ written 12288 [] cells) × (parses' ≡ written 256 [] parses) →
       answer_in a ≡ answer 30 e.place e.kind e.argument work 0 0 →
       answered a cells' parses' ≡ at_end cells parses text allowance (seen_of o store rows)
@@ -121,18 +119,18 @@ module _ (text cells cells' parses parses' store rows : List ℕ) (allowance wor
       (q ∙ ap (λ (n : ℕ). answer 30 e.place e.kind e.argument n 0 0) w) lists.0 lists.1
       ∙ rw (seen_result o store rows h, f)
 
-  pub end_found : (values : Values) (number : ℕ) → o.limit ≡ 0 → failure_at o ≡ Failure.None →
+  pub end_found : (values : Values) (number : ℕ) → o.limit ≡ 0 → failure_at o ≡ None →
       Held text store o.state.cells →
       (cells' ≡ written 12288 (take (3 * o.state.cells) store) cells) ×
-      (parses' ≡ written 256 (parse_numbers (row_of (table rows) 200).set) parses) →
-      values ≡ with_values Values.Nothing (whole_values text (row_of (table rows) 200).set) →
-      number ≡ length (row_of (table rows) 200).set → answer_in a ≡ end_answer values work number →
+      (parses' ≡ written 256 (parse_numbers (row_of rows 200).set) parses) →
+      values ≡ with_values Values.Nothing (whole_values text (row_of rows 200).set) →
+      number ≡ length (row_of rows 200).set → answer_in a ≡ end_answer values work number →
       answered a cells' parses' ≡ at_end cells parses text allowance (seen_of o store rows)
   unfolding at_end
   end_found values number h f held lists v n q =
-      let set = (row_of (table rows) 200).set in
+      let set = (row_of rows 200).set in
       let kept : List Cell = cells_of store o.state.cells in
-      let r : Parsed = parsed set none (record { units = o.state.units; cells = kept; asked = [] }) in
+      let r : Parsed = parsed set None (record { units = o.state.units; cells = kept; asked = [] }) in
       let numbers : take (3 * o.state.cells) store ≡ cell_numbers kept =
       rw held.counted at (stored_numbers text store kept held.holds) in
       with_lists {a = a}
@@ -158,31 +156,21 @@ module _ (cells parses text : List ℕ) (book : Book) (start allowance : ℕ) wh
         with_lists {a = a} q refl refl
         ∙ rw (lt-leb (length book.nonterminals) start (omega arith), lt-ltb 4096 (length text) h)
 
-    module _ (few : length text ≤ 4096) (high : ℕ) (told : place_or_none text high ≡ first_high 0 text) where
-      pub high_found : (a : parse.Answer) → high < length text → answer_in a ≡ answer 11 high 0 0 0 0 0 →
+    module _ (few : length text ≤ 4096) (high : Option ℕ) (told : high ≡ first_high 0 text) where
+      pub high_found : (a : parse.Answer) (i : ℕ) → high ≡ Some i → answer_in a ≡ answer 11 i 0 0 0 0 0 →
           answered a cells parses ≡ on_book cells parses book text start allowance
       unfolding on_book
-      high_found a h q =
+      high_found a i h q =
           with_lists {a = a} q refl refl
-          ∙ rw (
-            lt-leb (length book.nonterminals) start (omega arith),
-            le-ltb 4096 (length text) few,
-            ← told,
-            lt-ltb high (length text) h,
-          )
+          ∙ rw (lt-leb (length book.nonterminals) start (omega arith), le-ltb 4096 (length text) few, ← told, h)
 
-      pub book_run : (r : Answered) (z : Result Parsed) → length text ≤ high →
+      pub book_run : (r : Answered) (z : Result Parsed) → high ≡ None →
           z ≡ definition.run book text allowance start →
           r ≡ at_end cells parses text allowance z → r ≡ on_book cells parses book text start allowance
       unfolding on_book
       book_run r z h ran q =
           q ∙ ap (λ (z : Result Parsed). at_end cells parses text allowance z) ran
-          ∙ rw (
-            lt-leb (length book.nonterminals) start (omega arith),
-            le-ltb 4096 (length text) few,
-            ← told,
-            le-ltb high (length text) h,
-          )
+          ∙ rw (lt-leb (length book.nonterminals) start (omega arith), le-ltb 4096 (length text) few, ← told, h)
 
 -- ---- The call
 module _ (cells parses bytes text : List ℕ) (start allowance : ℕ) where
@@ -209,26 +197,19 @@ module _ (cells parses bytes text : List ℕ) (start allowance : ℕ) where
       unfolding answer_of
       call_book r book c q = q ∙ rw (sym e ∙ long, sym f ∙ allowed, c)
 
--- the lists have their sizes
-pub long_cells : (cells parses : List ℕ) (t : Bool) → t ≡ short cells parses → t ≡ false →
-    (12288 ≤ length cells) × (256 ≤ length parses)
-long_cells cells parses t e h = by (ltb (length cells) 12288) refl (sym e ∙ h)
-  where
-    by : (b : Bool) → ltb (length cells) 12288 ≡ b → (b || ltb (length parses) 256) ≡ false →
-        (12288 ≤ length cells) × (256 ≤ length parses)
-    by true q k = clash refl k
-    by false q k = (ltb-false (length cells) 12288 q, ltb-false (length parses) 256 k)
-
 -- the verdict is the check's, of an index that is long enough
-pub verdict_refused : (bytes index index' : List ℕ) (r : Verdict) (number place : ℕ) →
-    CheckedInto bytes index index' r → 1091 ≤ length index →
-    r ≡ Verdict.Refused number place → check_book bytes ≡ Outcome.refusal number place
-verdict_refused bytes index index' r number place c h e =
-    by (check_book bytes) (sym e ∙ c.says.case ∙ rw (le-ltb (length index) 1091 h))
+pub verdict_refused : (bytes index index' : List ℕ) (r : Verdict) (e : Refusal) →
+    CheckedInto bytes index index' r → 1091 ≤ length index → r ≡ Err e →
+    check_book bytes ≡ Outcome.refusal (fault_number e.fault) e.place
+verdict_refused bytes index index' r e c h is =
+    by (check_book bytes) (rw (le-ltb (length index) 1091 h, is) at c.says)
   where
-    by : (o : Outcome) → Verdict.Refused number place ≡ verdict o → o ≡ Outcome.refusal number place
-    by (Outcome.refusal n p) q = let x : n ≡ number = cc in let y : p ≡ place = cc in cc
-    by (Outcome.book b) q = let z : ◌≡◌ {A = ℕ} 0 1 = cc in absurd (omega arith)
+    by : (o : Outcome) → Says o (Err e) → o ≡ Outcome.refusal (fault_number e.fault) e.place
+    by (Outcome.refusal n p) s =
+        let x : fault_number e.fault ≡ n = s.refusal in
+        let y : e.place ≡ p = s.place in
+        cc
+    by (Outcome.book b) s = let z = s.case in cc
 
 -- ---- Demand 3
 pub reads : (cells parses bytes text : List ℕ) (start allowance : ℕ) (a : Answered) →
@@ -246,17 +227,6 @@ reads cells parses bytes text start allowance a e =
 
 module _ (index store rows cells parses bytes text : List ℕ) (start allowance : ℕ) (t : Bool)
     (e : t ≡ no_room index store rows) where
-  pub reads_nothing : (a : parse.Answer) → t ≡ true → answer_in a ≡ answer 1 0 0 0 0 0 0 →
-      Reads bytes text start (answer_with index store rows cells parses bytes text start allowance)
-      (answered a cells parses)
-  reads_nothing a h q =
-      record {
-        is = with_lists {a = a} q refl refl ∙ rw (sym e ∙ h);
-        exact = λ book accepted early limit.
-            let one : between 1 11 (answer_in a).refusal ≡ true = ap (λ (x : Answer). between 1 11 x.refusal) q in
-            clash one early;
-      }
-
   pub reads_in : (a : Answered) → t ≡ false → a ≡ answer_of cells parses bytes text start allowance →
       Reads bytes text start (answer_with index store rows cells parses bytes text start allowance) a
   reads_in a h q =
@@ -264,16 +234,3 @@ module _ (index store rows cells parses bytes text : List ℕ) (start allowance 
       (ap (λ (t : Bool). cond t (untouched cells parses 1 0) (answer_of cells parses bytes text start allowance))
       (sym h ∙ e))
       (reads cells parses bytes text start allowance a q)
-
--- the working memory has its sizes
-pub room : (index store rows : List ℕ) (t : Bool) → t ≡ no_room index store rows → t ≡ false →
-    (1091 ≤ length index) × (17408 ≤ length store) × (105525 ≤ length rows)
-room index store rows t e h = by (ltb (length index) 1091) (ltb (length store) 17408) refl refl (sym e ∙ h)
-  where
-    by : (a b : Bool) → ltb (length index) 1091 ≡ a → ltb (length store) 17408 ≡ b →
-        (a || (b || ltb (length rows) 105525)) ≡ false →
-        (1091 ≤ length index) × (17408 ≤ length store) × (105525 ≤ length rows)
-    by true b p q k = clash refl k
-    by false true p q k = clash refl k
-    by false false p q k =
-        (ltb-false (length index) 1091 p, ltb-false (length store) 17408 q, ltb-false (length rows) 105525 k)

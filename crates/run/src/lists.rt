@@ -1,9 +1,10 @@
-// The lent lists: cleared, or filled with what the run made and found.
+// The lent lists: cleared, or filled with what the run made and found. They are no struct of both: each contract would
+// have to say that the struct still holds the same two slices.
 ghost use Rattle.std.specs.Prelude.{◌≡◌, [], ◌*◌, ◌≤◌, length, take};
 ghost use Rattle.semantics.specs.Numbers.{cell_size, cells_size, parses_size};
-ghost use Rattle.run.specs.Reading.{LongLists, HasParses, CanFill, Writes, WritesParses};
+ghost use Rattle.run.specs.Reading.{LongLists, CanFill, Writes, WritesParses};
 
-use calls::{MOST_NESTING, nth_parse, parse_count};
+use calls::{MOST_NESTING, Rows};
 use cells::{CELL_SIZE, CELLS_SIZE};
 use sets::{PARSE_SIZE, PARSES_SIZE, put_parse};
 
@@ -12,37 +13,28 @@ fn clear(lent: &mut [u32], size: usize)
     requires { size ≤ length lent.old }
     ensures { Writes lent.old lent.new size [] }
 {
-    let mut i = 0;
-    while i < size {
-        lent[i] = 0;
-        i += 1;
-    }
+    lent[..size].fill(0);
 }
 
-// The first `size` numbers of a lent list become the first `used` of another, and zeros.
-fn write(lent: &mut [u32], size: usize, source: &[u32], used: usize)
-    requires { (size ≤ length lent.old) × (used ≤ size) × (used ≤ length source.now) }
-    ensures { Writes lent.old lent.new size (take used source.now) }
+// The first `size` numbers of a lent list become these, and zeros.
+fn write(lent: &mut [u32], size: usize, numbers: &[u32])
+    requires { (size ≤ length lent.old) × (length numbers.now ≤ size) }
+    ensures { Writes lent.old lent.new size numbers.now }
 {
     clear(lent, size);
-    let mut i = 0;
-    while i < used {
-        lent[i] = source[i];
-        i += 1;
-    }
+    lent[..numbers.len()].copy_from_slice(numbers);
 }
 
-// The first 256 numbers of a lent list become the parses that the outermost row found, and zeros.
-fn write_parses(parses: &mut [u32], rows: &[u32])
-    requires { HasParses parses.old rows.now }
+// The first 256 numbers of a lent list become the parses that the outermost row found, and zeros. By number: the rows
+// are asked for a parse by it, and the list is C's.
+fn write_parses(parses: &mut [u32], rows: &Rows)
+    requires { parses_size ≤ length parses.old }
     ensures { WritesParses parses.old parses.new rows.now }
 {
     clear(parses, PARSES_SIZE);
-    let count = parse_count(rows, MOST_NESTING);
-    let mut i = 0;
-    while i < count {
-        put_parse(parses, PARSE_SIZE * i, nth_parse(rows, MOST_NESTING, i));
-        i += 1;
+    let count = rows.parse_count(MOST_NESTING);
+    for i in 0..count {
+        put_parse(parses, PARSE_SIZE * i, rows.nth_parse(MOST_NESTING, i));
     }
 }
 
@@ -56,11 +48,11 @@ pub fn clear_lists(cells: &mut [u32], parses: &mut [u32])
 }
 
 // The cells of the store, and what the outermost row found.
-pub fn fill_lists(cells: &mut [u32], parses: &mut [u32], store: &[u32], rows: &[u32], count: u32)
-    requires { CanFill cells.old parses.old store.now rows.now count }
+pub fn fill_lists(cells: &mut [u32], parses: &mut [u32], store: &[u32], rows: &Rows, count: u32)
+    requires { CanFill cells.old parses.old store.now count }
     ensures { Writes cells.old cells.new cells_size (take (cell_size * count) store.now)
         × WritesParses parses.old parses.new rows.now }
 {
-    write(cells, CELLS_SIZE, store, CELL_SIZE * count as usize);
+    write(cells, CELLS_SIZE, &store[..CELL_SIZE * count as usize]);
     write_parses(parses, rows);
 }

@@ -2,14 +2,15 @@
 //
 // `read` keeps working memory of its own, 500,460 bytes; `read_in` is lent it, whatever it holds. Its contract says
 // nothing of that memory at exit: it is no part of the answer, and the next call may find anything in it.
-ghost use Rattle.std.specs.Prelude.{◌≡◌, ◌-◌, length};
-ghost use Rattle.book.specs.Index.{book_at};
-ghost use Rattle.semantics.specs.Numbers.{no_parse};
+ghost use Rattle.std.specs.Prelude.{◌≡◌, nat_le, position};
+ghost use Rattle.book.specs.Numbers.{fault_number};
+ghost use Rattle.semantics.specs.Numbers.{no_parse, first_high_byte};
 ghost use Rattle.semantics.specs.Answer as answers;
-ghost use Rattle.semantics.specs.Answer.{answer, first_high, answer_of};
+ghost use Rattle.semantics.specs.Answer.{answer, answer_of};
 ghost use Rattle.transitions.specs.Fit.{Fits};
+ghost use Rattle.transitions.specs.Results.{outcome_of};
 ghost use Rattle.run.specs.Promise.{answer_in, no_room, Read, ReadIn};
-ghost use Rattle.run.specs.Reading.{short, no_allowance, place_or_none, end_answer, seen_of, Gives};
+ghost use Rattle.run.specs.Reading.{short, no_allowance, end_answer, seen_of, Gives};
 ghost use Rattle.run.specs.Reading.{CanEnd, CanStart, CanRead, HasRoom, RunsText};
 
 use crate::lists::{clear_lists, fill_lists};
@@ -18,17 +19,17 @@ use crate::refusals::{
     MOST_UNITS, NO_PARSE, NONE_WHOLE, SHORT_LISTS, UNKNOWN_START,
 };
 use crate::whole::{Values, whole_values};
-use book::{INDEX_SIZE, Verdict, check_into};
-use calls::{MOST_NESTING, OUTSIDE, ROWS_SIZE, parse_count};
+use book::{Book, INDEX_SIZE, Refusal, check_into};
+use calls::{MOST_NESTING, OUTSIDE, ROWS_SIZE, Rows};
 use cells::{CELLS_SIZE, STORE_SIZE};
 use characters::skip;
-use errors::{Error, Failure};
+use errors::Error;
 use parser::enter;
 use sets::PARSES_SIZE;
-use transitions::{Outcome, State, failure_of};
+use transitions::{Limit, State};
 
 // "refusal (0 if none), place, kind, argument, work, number of parses, value cell"
-#[derive(Clone, Copy)]
+#[derive(Clone, Copy, PartialEq, Eq, Debug, Default)]
 pub struct Answer {
     pub refusal: u32,
     pub place: u32,
@@ -47,11 +48,7 @@ fn refused(refusal: u32, place: u32) -> Answer
     Answer {
         refusal,
         place,
-        kind: 0,
-        argument: 0,
-        work: 0,
-        parses: 0,
-        value: 0,
+        ..Answer::default()
     }
 }
 
@@ -61,12 +58,10 @@ fn at_end(refusal: u32, work: u32, parses: u32, value: u32) -> Answer
 {
     Answer {
         refusal,
-        place: 0,
-        kind: 0,
-        argument: 0,
         work,
         parses,
         value,
+        ..Answer::default()
     }
 }
 
@@ -80,8 +75,7 @@ fn failed(e: Error, work: u32) -> Answer
         kind: e.kind,
         argument: e.argument,
         work,
-        parses: 0,
-        value: 0,
+        ..Answer::default()
     }
 }
 
@@ -96,17 +90,6 @@ fn by_values(values: Values, work: u32, parses: u32) -> Answer
     }
 }
 
-// What is gone of the allowance. The units left are never more; if they were, none would be gone.
-fn gone(allowance: u32, left: u32) -> u32
-    ensures { result ≡ allowance - left }
-{
-    if left <= allowance {
-        allowance - left
-    } else {
-        0
-    }
-}
-
 // The end: 20 to 23, 41, 30, 31, 32 or a value.
 fn ending(
     text: &[u8],
@@ -114,29 +97,29 @@ fn ending(
     cells: &mut [u32],
     parses: &mut [u32],
     store: &[u32],
-    rows: &[u32],
-    outcome: Outcome,
+    rows: &Rows,
+    found: Result<Option<Error>, Limit>,
+    state: State,
 ) -> Answer
-    requires { CanEnd text.now cells.old parses.old store.now rows.now outcome }
+    requires { CanEnd text.now cells.old parses.old store.now (outcome_of found state) }
     ensures { Gives cells.old cells.new parses.old parses.new result (λ cells parses.
-        answers.at_end cells parses text.now allowance (seen_of outcome store.now rows.now)) }
+        answers.at_end cells parses text.now allowance (seen_of (outcome_of found state) store.now rows.now)) }
 {
-    let state = outcome.state;
-    let work = gone(allowance, state.units);
-    if outcome.limit != 0 {
-        clear_lists(cells, parses);
-        return at_end(outcome.limit, work, 0, 0);
-    }
-    let failure = failure_of(outcome);
-    match failure {
-        Failure::At(e) => {
+    // The units left are never more than the allowance.
+    let work = allowance.saturating_sub(state.units);
+    match found {
+        Err(limit) => {
+            clear_lists(cells, parses);
+            at_end(limit.number(), work, 0, 0)
+        }
+        Ok(Some(e)) => {
             clear_lists(cells, parses);
             failed(e, work)
         }
-        Failure::None => {
+        Ok(None) => {
             fill_lists(cells, parses, store, rows, state.cells);
             let values = whole_values(text, rows);
-            let number = parse_count(rows, MOST_NESTING) as u32;
+            let number = rows.parse_count(MOST_NESTING) as u32;
             by_values(values, work, number)
         }
     }
@@ -145,23 +128,23 @@ fn ending(
 // ---- The run
 // The start's use at the text's beginning, with 200 levels of nesting and no cells.
 fn run(
-    book: &[u8],
-    index: &[usize],
+    book: &Book,
     text: &[u8],
     store: &mut [u32],
-    rows: &mut [u32],
+    rows: &mut Rows,
     start: u32,
     units: u32,
-) -> Outcome
-    requires { CanStart book.now index.now text.now store.old rows.old }
-    ensures { RunsText (book_at book.now index.now) text.now units start store.new rows.new result }
+) -> (Result<Option<Error>, Limit>, State)
+    requires { CanStart book.now text.now store.old }
+    ensures { RunsText book.now text.now units start store.new rows.new (outcome_of result.0 result.1) }
 {
+    // The table has the outermost call's row.
+    prove!(MOST_NESTING < rows.len());
     cells::clear(store);
-    let begun = State { units, cells: 0 };
+    let mut state = State { units, cells: 0 };
     let first = skip(text, 0) as u32;
-    enter(
+    let found = enter(
         book,
-        index,
         text,
         store,
         rows,
@@ -169,93 +152,73 @@ fn run(
         OUTSIDE,
         start,
         first,
-        begun,
-    )
+        &mut state,
+    );
+    (found, state)
 }
 
 // ---- The text and the start
-// The place of the first byte of 128 or more, or the text's length.
-fn first_high(text: &[u8]) -> usize
-    ensures { place_or_none text.now result ≡ first_high 0 text.now }
+// The place of the first byte of 128 or more.
+fn first_high(text: &[u8]) -> Option<usize>
+    ensures { result ≡ position (λ b. nat_le first_high_byte b) text.now }
 {
-    let mut i = 0;
-    while i < text.len() {
-        if FIRST_HIGH_BYTE <= text[i] {
-            return i;
-        }
-        i += 1;
-    }
-    i
+    text.iter().position(|b| FIRST_HIGH_BYTE <= *b)
 }
 
 // The start, then the text: 9, 10, 11; then the run.
 fn on_book(
-    book: &[u8],
+    book: &Book,
     text: &[u8],
     start: u32,
     allowance: u32,
     cells: &mut [u32],
     parses: &mut [u32],
-    index: &[usize],
     store: &mut [u32],
-    rows: &mut [u32],
+    rows: &mut Rows,
 ) -> Answer
-    requires { CanRead book.now cells.old parses.old index.now store.old rows.old }
+    requires { CanRead book.now cells.old parses.old store.old }
     ensures { Gives cells.old cells.new parses.old parses.new result (λ cells parses.
-        answers.on_book cells parses (book_at book.now index.now) text.now start allowance) }
+        answers.on_book cells parses book.now text.now start allowance) }
 {
-    if book::nonterminals(index) <= start as usize {
+    if book.nonterminals() <= start as usize {
         return refused(UNKNOWN_START, 0);
     }
     if (LONGEST_TEXT as usize) < text.len() {
         return refused(LONG_TEXT, LONGEST_TEXT);
     }
-    let high = first_high(text);
-    if high < text.len() {
+    if let Some(high) = first_high(text) {
         return refused(HIGH_BYTE, high as u32);
     }
-    let outcome = run(book, index, text, store, rows, start, allowance);
-    ending(text, allowance, cells, parses, store, rows, outcome)
+    let (found, state) = run(book, text, store, rows, start, allowance);
+    ending(text, allowance, cells, parses, store, rows, found, state)
 }
 
 // ---- The call
 fn too_short(cells: &[u32], parses: &[u32]) -> bool
     ensures { result ≡ short cells.now parses.now }
 {
-    if cells.len() < CELLS_SIZE {
-        return true;
-    }
-    parses.len() < PARSES_SIZE
+    cells.len() < CELLS_SIZE || parses.len() < PARSES_SIZE
 }
 
 fn no_room(index: &[usize], store: &[u32], rows: &[u32]) -> bool
     ensures { result ≡ no_room index.now store.now rows.now }
 {
-    if index.len() < INDEX_SIZE {
-        return true;
-    }
-    if store.len() < STORE_SIZE {
-        return true;
-    }
-    rows.len() < ROWS_SIZE
+    index.len() < INDEX_SIZE || store.len() < STORE_SIZE || rows.len() < ROWS_SIZE
 }
 
 fn no_allowance(allowance: u32) -> bool
     ensures { result ≡ no_allowance allowance }
 {
-    if allowance == 0 {
-        return true;
-    }
-    MOST_UNITS < allowance
+    allowance == 0 || MOST_UNITS < allowance
 }
 
 // A refusal of the book's check. However long the book is, the check ends within its first 3,778 bytes
 // (`refusal_bounds` of the crate book), so that both numbers fit.
-fn book_refused(number: usize, place: usize) -> Answer
-    requires { Fits number × Fits place }
-    ensures { answer_in result ≡ answer number place 0 0 0 0 0 }
+fn book_refused(refusal: Refusal) -> Answer
+    requires { Fits (fault_number refusal.fault) × Fits refusal.place }
+    ensures { answer_in result ≡ answer (fault_number refusal.fault) refusal.place 0 0 0 0 0 }
 {
-    refused(number as u32, place as u32)
+    refused(refusal.fault.number() as u32, refusal.place as u32)
 }
 
 // The call, where the working memory has its sizes.
@@ -268,9 +231,9 @@ fn in_room(
     parses: &mut [u32],
     index: &mut [usize],
     store: &mut [u32],
-    rows: &mut [u32],
+    rows: &mut Rows,
 ) -> Answer
-    requires { HasRoom index.old store.old rows.old }
+    requires { HasRoom index.old store.old }
     ensures { Gives cells.old cells.new parses.old parses.new result (λ cells parses.
         answer_of cells parses book.now text.now start allowance) }
 {
@@ -280,13 +243,13 @@ fn in_room(
     if no_allowance(allowance) {
         return refused(BAD_ALLOWANCE, 0);
     }
-    let verdict = check_into(book, index);
-    match verdict {
-        Verdict::Refused { number, place } => book_refused(number, place),
-        Verdict::Accepted => on_book(
-            book, text, start, allowance, cells, parses, index, store, rows,
-        ),
+    if let Err(refusal) = check_into(book, index) {
+        return book_refused(refusal);
     }
+    let accepted = Book::new(book, index);
+    on_book(
+        &accepted, text, start, allowance, cells, parses, store, rows,
+    )
 }
 
 // The call, with working memory that is lent and may hold anything: a book's index, a store of cells, the rows of
@@ -308,8 +271,9 @@ pub fn read_in(
     if no_room(index, store, rows) {
         return refused(SHORT_LISTS, 0);
     }
+    let mut rows = Rows::new(rows);
     in_room(
-        book, text, start, allowance, cells, parses, index, store, rows,
+        book, text, start, allowance, cells, parses, index, store, &mut rows,
     )
 }
 

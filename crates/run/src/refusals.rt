@@ -1,5 +1,6 @@
 // The refusals of the call itself, with the limits that they guard, by document 01's table in "The answer". The book's
-// refusals, 3 to 8, stand in the crate book, the run's limits, 20 to 23 and 41, in transitions.
+// refusals, 3 to 8, stand in the crate book, the run's limits, 20 to 23 and 41, in transitions. They are plain numbers:
+// an answer's `refusal` is the number that the documents and the C interface have, 0 if there is none.
 
 // "cells under 12,288 numbers or parses under 256"; also too little working memory
 pub const SHORT_LISTS: u32 = 1;

@@ -1,19 +1,19 @@
 // The values of the whole parses.
-ghost use Rattle.std.specs.Prelude.{◌≡◌, ◌≤◌, length};
+ghost use Rattle.std.specs.Prelude.{◌≡◌};
 ghost use Rattle.semantics.specs.Answer.{whole_values};
 ghost use Rattle.semantics.specs.Numbers.{most_nesting};
 ghost use Rattle.semantics.specs.Values.{whole as wholeIn};
 ghost use Rattle.sets.specs.Sets.{parse_of};
-ghost use Rattle.calls.specs.Table.{rows_size, row_in};
+ghost use Rattle.run_model.specs.Rows.{row_of};
 ghost use Rattle.run.specs.Reading.{with_value, with_values, with_parse};
 ghost use Rattle.run.specs.declared.whole.Values as values;
 
-use calls::{MOST_NESTING, nth_parse, parse_count};
+use calls::{MOST_NESTING, Rows};
 use characters::skip;
 use sets::Parse;
 
-// The values of the whole parses: none, one, or different ones.
-#[derive(Clone, Copy)]
+// The values of the whole parses: none, one, or different ones. Three outcomes, and an answer for each.
+#[derive(Clone, Copy, PartialEq, Eq, Debug)]
 pub enum Values {
     Nothing,
     One(u32),
@@ -21,19 +21,14 @@ pub enum Values {
 }
 
 // One value more.
+#[tactic(auto, unfolding(crate::specs::Reading::with_value))]
 fn with_value(values: Values, value: u32) -> Values
     ensures { result ≡ with_value values value }
 {
     match values {
         Values::Nothing => Values::One(value),
-        Values::One(first) => {
-            if first == value {
-                values
-            } else {
-                Values::Different
-            }
-        }
-        Values::Different => Values::Different,
+        Values::One(first) if first == value => values,
+        _ => Values::Different,
     }
 }
 
@@ -56,17 +51,14 @@ fn with_parse(text: &[u8], values: Values, p: Parse) -> Values
 }
 
 // The values of the whole parses that the outermost row found.
-pub fn whole_values(text: &[u8], rows: &[u32]) -> Values
-    requires { rows_size ≤ length rows.now }
+pub fn whole_values(text: &[u8], rows: &Rows) -> Values
     ensures { result ≡ with_values values.Values.Nothing
-        (whole_values text.now (row_in rows.now most_nesting).set) }
+        (whole_values text.now (row_of rows.now most_nesting).set) }
 {
-    let count = parse_count(rows, MOST_NESTING);
+    let count = rows.parse_count(MOST_NESTING);
     let mut values = Values::Nothing;
-    let mut i = 0;
-    while i < count {
-        values = with_parse(text, values, nth_parse(rows, MOST_NESTING, i));
-        i += 1;
+    for i in 0..count {
+        values = with_parse(text, values, rows.nth_parse(MOST_NESTING, i));
     }
     values
 }

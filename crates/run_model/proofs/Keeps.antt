@@ -7,7 +7,7 @@
 -- functions of the model are in KeepsCalls, KeepsBinders and KeepsRun.
 use Rattle.std.specs.Prelude.{◌≡◌, refl, Bool, true, false, List, [], ◌∷◌, ℕ, zero, suc, ◌<◌, ◌≤◌, set, length}
 use Rattle.std.proofs.Common.{ap, ◌∙◌, arith, length-set, get_or-set_same, get_or-set_other}
-use Rattle.std.proofs.Math.Option.{Option, none, some}
+use Rattle.std.specs.Prelude.{Option, None, Some}
 use Rattle.book.specs.Book.{Book}
 use Rattle.semantics.specs.Tokens.{when}
 use Rattle.semantics.specs.Steps.{Token, Taken, After, goes, halts, Todo}
@@ -181,9 +181,9 @@ on_when Q true f g h k = h
 on_when Q false f g h k = k
 
 pub on_option : {A X : Type 0} (Q : A → Type 0) (o : Option X) (y : Result A) (f : X → Result A) → On Q y →
-    ((x : X) → On Q (f x)) → On Q (elim o [ none ↦ y | some x ↦ f x ])
-on_option Q none y f h k = h
-on_option Q (some x) y f h k = k x
+    ((x : X) → On Q (f x)) → On Q (elim o [ None ↦ y | Some x ↦ f x ])
+on_option Q None y f h k = h
+on_option Q (Some x) y f h k = k x
 
 pub on_list : {A X : Type 0} (Q : A → Type 0) (l : List X) (y : Result A) (f : X → List X → Result A) → On Q y →
     ((x : X) (l : List X) → On Q (f x l)) → On Q (elim l [ [] ↦ y | x ∷ l ↦ f x l ])
@@ -268,8 +268,8 @@ pub record Keeping (m : ℕ) (S : RowRunner) : Type 0 where
 
 -- with n levels left there is none, or one with row n - 1 free
 pub data Inner : ℕ → Option RowRunner → Type 0 where
-  last : (n : ℕ) → Inner n none
-  more : (m : ℕ) (S : RowRunner) → Keeping m S → Inner (suc m) (some S)
+  last : (n : ℕ) → Inner n None
+  more : (m : ℕ) (S : RowRunner) → Keeping m S → Inner (suc m) (Some S)
 
 pub on_nested : (Q : Outcome → Type 0) (book : Book) (text : List ℕ) (n : ℕ) (inner : Option RowRunner) →
     Inner n inner → (s : RowState) (f : RowRunner → Result Outcome) →

@@ -3,7 +3,7 @@
 use Rattle.std.proofs.Common.{◌∙◌, arith}
 use Rattle.std.proofs.Math.Bool.{true}
 use Rattle.std.specs.Prelude.{List, [], ◌∷◌, ◌++◌, ℕ, suc, ◌+◌, ◌<◌, ◌≤◌, leb, length}
-use Rattle.std.proofs.Math.Option.{Option, none, some}
+use Rattle.std.specs.Prelude.{Option, None, Some}
 use Rattle.characters.specs.Cases.{by_test}
 use Rattle.characters.specs.Skipping.{skip_from}
 use Rattle.book.specs.Book.{Entry, Book}
@@ -23,8 +23,8 @@ module _ (book : Book) (text : List ℕ) (n : ℕ) (inner : Option RowRunner) (i
   on_open : {A : Type 0} (Q : A → Type 0) (opening : Option (List Entry)) (s : RowState) (K : RowState → Result A) →
       On Q (K s) → On Q (open_rows book text inner n opening c s >>= K)
   unfolding open_rows ◌>>=◌ On
-  on_open Q none s K h = h
-  on_open Q (some names) s K h =
+  on_open Q None s K h = h
+  on_open Q (Some names) s K h =
       by_test (leb (length names + declared_names (scope_in text s.rows c)) most_declared)
       (λ t. rw t h) (λ t. rw t tt)
 
@@ -52,7 +52,7 @@ module _ (book : Book) (text : List ℕ) (n : ℕ) (inner : Option RowRunner) (i
       let Q = Beside c (suc n) s.rows in
       on_makes Q _ s _
       (λ cell units cells. on_option Q (character_end text close x) _ _ (on_ok Q at_refl)
-      (λ y. keeps_body (some names) j M cell rest y items (row_state units cells s.rows) h))
+      (λ y. keeps_body (Some names) j M cell rest y items (row_state units cells s.rows) h))
 
   pub keeps_declares : (j : ℕ) (names : List Entry) (kinds close M : ℕ) (rest : List (Todo ℕ)) →
       KeepsGo n c (declares_rows book text inner n c j names kinds close M rest)

@@ -5,7 +5,7 @@ use Rattle.std.specs.Prelude.{◌≡◌, Bool, leb, eqb, get_or, set}
 use Rattle.std.proofs.Math.Path.{refl}
 use Rattle.std.proofs.Common.{◌∙◌, arith}
 use mathlib.Core.List.{List, [], ◌∷◌}
-use Rattle.std.proofs.Math.Option.{Option, none, some}
+use Rattle.std.specs.Prelude.{Option, None, Some}
 use Prim.Native.Nat.{ℕ, zero, suc, ◌<◌, ◌≤◌}
 use Rattle.std.proofs.Math.ListN.{length, length-set}
 use Rattle.characters.specs.Skipping.{skip_from}
@@ -67,7 +67,7 @@ module _ (book : Book) (text : List ℕ) (m : ℕ) (S : RowRunner) (keeping : Ke
   keeps_one_run s h =
       let U = on_row s.rows n (with_run []) in
       on_map (Ran n U) (Ran n s.rows) _
-      (keeps_variants _ _ none (at_row n (with_run []) s) (length-set s.rows n (with_run [] (row_of s.rows n)) ∙ h))
+      (keeps_variants _ _ None (at_row n (with_run []) s) (length-set s.rows n (with_run [] (row_of s.rows n)) ∙ h))
       (λ o a. run_then (run_put n s.rows (with_run [] (row_of s.rows n)) (omega arith) refl) a)
 
   keeps_settle : (T : List Row) (again : RowState → Result Outcome) (s : RowState) → length s.rows ≡ 201 →
@@ -123,8 +123,8 @@ module _ (book : Book) (text : List ℕ) (m : ℕ) (S : RowRunner) (keeping : Ke
 keeps_named : (book : Book) (text : List ℕ) (n N u : ℕ) (T : List Row) (s : RowState) → n < length s.rows →
     Called n T s.rows → (end : Option ℕ) → On (Calls n T) (named_rows book text n N u s end)
 unfolding named_rows
-keeps_named book text n N u T s h c none = on_ok (Calls n T) c
-keeps_named book text n N u T s h c (some end) =
+keeps_named book text n N u T s h c None = on_ok (Calls n T) c
+keeps_named book text n N u T s h c (Some end) =
     on_makes (Calls n T) _ s _
     (λ cell units cells. on_ok (Calls n T) (called_put n T s.rows _ h c.above c.shut))
 
@@ -236,5 +236,5 @@ module _ (book : Book) (text : List ℕ) (n : ℕ) (inner : Option RowRunner)
         let T = o.state.rows in
         on_option (Beside c (suc n) T) o.failure _ _
         (on_map (Beside c n T) (Beside c (suc n) T) _
-        (keeps_follow next f (length (row_of T n).set) 0 none o.state h) (λ p a. at_less (omega arith) a))
+        (keeps_follow next f (length (row_of T n).set) 0 None o.state h) (λ p a. at_less (omega arith) a))
         (λ e. on_ok (Beside c (suc n) T) at_refl)

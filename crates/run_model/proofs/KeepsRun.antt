@@ -4,7 +4,7 @@ use Rattle.std.specs.Prelude.{◌≡◌, refl, Bool, length}
 use Rattle.std.proofs.Common.{◌∙◌, arith}
 use Rattle.std.proofs.Math.Bool.{true, false}
 use mathlib.Core.List.{List, [], ◌∷◌}
-use Rattle.std.proofs.Math.Option.{Option, none}
+use Rattle.std.specs.Prelude.{Option, None}
 use Prim.Native.Nat.{ℕ, zero, suc, ◌<◌, ◌≤◌}
 use Rattle.characters.specs.Classes.{between}
 use Rattle.characters.specs.Skipping.{skip_from}
@@ -46,7 +46,7 @@ module _ (book : Book) (text : List ℕ) (n : ℕ) (inner : Option RowRunner) (i
       let T = a.state.rows in
       let Q = Beside c (suc n) T in
       on_bind (Calls n (on_row T c (with_child (skip_from text x)))) Q _ _
-      (keeps_child book text n inner inners room c below within none M x a.state h)
+      (keeps_child book text n inner inners room c below within None M x a.state h)
       (λ r k.
       let d : KeepsAt c (suc n) T r.state.rows =
       child_leaves book text n inner inners room c below within x T r.state.rows h k in
@@ -120,7 +120,7 @@ module _ (book : Book) (text : List ℕ) (n : ℕ) (inner : Option RowRunner) (i
       g t.next cell (row_state units₁ cells₁ s.rows) h))
       (λ M.
       on_bind (Calls n (on_row s.rows c (with_child (skip_from text x)))) Q _ _
-      (keeps_child book text n inner inners room c below within none M x (row_state units cells s.rows) h)
+      (keeps_child book text n inner inners room c below within None M x (row_state units cells s.rows) h)
       (λ r k.
       let d : KeepsAt c (suc n) s.rows r.state.rows =
       child_leaves book text n inner inners room c below within x s.rows r.state.rows h k in
@@ -135,14 +135,14 @@ module _ (book : Book) (text : List ℕ) (n : ℕ) (inner : Option RowRunner) (i
       (row_state units cells s.rows) h)
       (λ y. on_makes Q _ (row_state units cells s.rows) _
       (λ cell units₁ cells₁.
-      keeps_stops book text n c j cell none (steps_rows book text inner n c j rest) g y items
+      keeps_stops book text n c j cell None (steps_rows book text inner n c j rest) g y items
       (row_state units₁ cells₁ s.rows) h))
       (λ close M y. on_makes Q _ (row_state units cells s.rows) _
       (λ cell units₁ cells₁.
       keeps_name_choice book text n inner inners room c below within j [] cell close M rest y items
       (row_state units₁ cells₁ s.rows) h))
       (λ M. on_makes Q _ (row_state units cells s.rows) _
-      (λ cell units₁ cells₁. keeps_body book text n inner inners room c below within none j M cell rest x items
+      (λ cell units₁ cells₁. keeps_body book text n inner inners room c below within None j M cell rest x items
       (row_state units₁ cells₁ s.rows) h)))
 
   pub keeps_steps : (j : ℕ) (todo : List (Todo ℕ)) →

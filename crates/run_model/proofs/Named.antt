@@ -5,7 +5,7 @@
 -- row that is put says what it holds (`entry_declared`), and is one name more (`names_more`).
 use Rattle.std.specs.Prelude.{◌≡◌, refl, List, [], ◌∷◌, ◌++◌, map, ℕ, zero, suc, ◌+◌, ◌-◌, ◌≤◌, length, set}
 use Rattle.std.proofs.Common.{sym, ap, ◌∙◌, arith}
-use Rattle.std.proofs.Math.Option.{some}
+use Rattle.std.specs.Prelude.{Some}
 use Rattle.characters.specs.Skipping.{skip_from}
 use Rattle.book.specs.Book.{Book, Entry}
 use Rattle.book.specs.declared.records.Step.{Step}
@@ -74,7 +74,7 @@ length_more (n ∷ names) e = ap suc (length_more names e)
 
 -- a name that is declared stands in its row as it was read
 entry_declared : (book : Book) (text : List ℕ) (at : ℕ) (d : Read Entry) (r : Row) →
-    declaration_at book text at ≡ some d →
+    declaration_at book text at ≡ Some d →
     entry_at text (declared d.value.label (name_place book text at) (d.end - name_place book text at) r) ≡ d.value
 unfolding declaration_at name_of_kind name_place
 entry_declared book text at d r q =
@@ -91,7 +91,7 @@ entry_declared book text at d r q =
 
 -- behind a declared name its row is one of the names'
 pub names_declared : (book : Book) (text : List ℕ) (T : List Row) (m at : ℕ) (d : Read Entry) (names : List Entry) →
-    suc m ≤ 200 → length T ≡ 201 → declaration_at book text at ≡ some d → NamesAt text T (suc m) names →
+    suc m ≤ 200 → length T ≡ 201 → declaration_at book text at ≡ Some d → NamesAt text T (suc m) names →
     NamesAt text (on_row T (suc m)
     (declared d.value.label (name_place book text at) (d.end - name_place book text at))) m
     (names ++ (d.value ∷ []))
@@ -113,7 +113,7 @@ names_length text T (suc k) n = ap suc (names_length text T k n)
 
 -- the names of k rows, and the one that is declared below them
 pub names_with : (book : Book) (text : List ℕ) (T : List Row) (k m at : ℕ) (d : Read Entry) →
-    suc m ≤ 200 → length T ≡ 201 → declaration_at book text at ≡ some d →
+    suc m ≤ 200 → length T ≡ 201 → declaration_at book text at ≡ Some d →
     names_above text (on_row T (suc m)
     (declared d.value.label (name_place book text at) (d.end - name_place book text at))) (suc k) m
     ≡ names_above text T k (suc m) ++ (d.value ∷ [])

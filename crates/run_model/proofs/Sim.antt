@@ -7,7 +7,7 @@
 -- of row c runs, at its end, and after a call at row n.
 use Rattle.std.specs.Prelude.{◌≡◌, refl, Bool, true, false, List, [], ◌∷◌, ℕ, suc, ◌-◌, ◌<◌, ◌≤◌, ltb, eqb, length}
 use Rattle.std.proofs.Common.{ap, ◌∙◌, arith, eqb-true}
-use Rattle.std.proofs.Math.Option.{Option, none, some}
+use Rattle.std.specs.Prelude.{Option, None, Some}
 use Rattle.std.proofs.lemmas.Bool.{eqb-false}
 use Rattle.characters.specs.Cases.{by_test}
 use Rattle.book.specs.Book.{Book, nth_variant, associativity_number}
@@ -61,10 +61,10 @@ when_see g false F H f h p q = q refl
 
 pub option_see :
     {A B X : Type 0} (g : A → B) (o : Option X) (Y : Result B) (F : X → Result B) (y : Result A) (f : X → Result A) →
-    (o ≡ none → Y ≡ see g y) → ((x : X) → o ≡ some x → F x ≡ see g (f x)) →
-    elim o [ none ↦ Y | some x ↦ F x ] ≡ see g (elim o [ none ↦ y | some x ↦ f x ])
-option_see g none Y F y f p q = p refl
-option_see g (some x) Y F y f p q = q x refl
+    (o ≡ None → Y ≡ see g y) → ((x : X) → o ≡ Some x → F x ≡ see g (f x)) →
+    elim o [ None ↦ Y | Some x ↦ F x ] ≡ see g (elim o [ None ↦ y | Some x ↦ f x ])
+option_see g None Y F y f p q = p refl
+option_see g (Some x) Y F y f p q = q x refl
 
 pub list_see : {A B X : Type 0} (g : A → B) (l : List X) (Y : Result B) (F : X → List X → Result B) (y : Result A)
     (f : X → List X → Result A) → (l ≡ [] → Y ≡ see g y) → ((x : X) (k : List X) → l ≡ x ∷ k → F x k ≡ see g (f x k)) →
@@ -169,8 +169,8 @@ module _ (book : Book) (text : List ℕ) where
 
   pub plain_token : (j items : ℕ) (item : Option Item) → Plain (with_token book text j items item)
   unfolding with_token
-  plain_token j items none = plain_ok items
-  plain_token j items (some item) =
+  plain_token j items None = plain_ok items
+  plain_token j items (Some item) =
       plain_then _ (λ cell s. with_cell book text j items cell s) (plain_make text (item_cell item))
       (λ cell. plain_with j items cell)
 
@@ -289,9 +289,9 @@ pub record Alike (book : Book) (text : List ℕ) (m : ℕ) (S : RowRunner) (R : 
 
 -- with n levels left there are none, or two that are alike
 pub data Kin (book : Book) (text : List ℕ) : ℕ → Option RowRunner → Option Runner → Type 0 where
-  last : (n : ℕ) → Kin book text n none none
+  last : (n : ℕ) → Kin book text n None None
   more : (m : ℕ) (S : RowRunner) (R : Runner) → Keeping m S → Alike book text m S R →
-      Kin book text (suc m) (some S) (some R)
+      Kin book text (suc m) (Some S) (Some R)
 
 pub kin_inner : (book : Book) (text : List ℕ) (n : ℕ) (inner : Option RowRunner) (innerA : Option Runner) →
     Kin book text n inner innerA → Inner n inner

@@ -5,7 +5,7 @@ use Rattle.std.specs.Prelude.{◌≡◌, refl, Bool, List, [], ◌∷◌, ◌++�
 use Rattle.std.proofs.Common.{sym, subst, arith}
 use Rattle.std.proofs.Math.Path.{ap}
 use Rattle.std.proofs.Math.Bool.{true}
-use Rattle.std.proofs.Math.Option.{Option, none, some}
+use Rattle.std.specs.Prelude.{Option, None, Some}
 use Rattle.characters.specs.Cases.{by_test}
 use Rattle.characters.specs.Skipping.{skip_from}
 use Rattle.book.specs.Book.{Entry, Book}
@@ -41,8 +41,8 @@ module _ (book : Book) (text : List ℕ) (n : ℕ) (inner : Option RowRunner) (i
       (open_scope opening (scope_of C.path) (state_of units cells asked) >>= L)
       ≡ see (ran_at c) (open_rows book text inner n opening c (row_state units cells T) >>= K)
   unfolding open_scope open_rows declared_names ◌>>=◌ see
-  open_see none units cells T asked L K e h = h
-  open_see (some names) units cells T asked L K e h =
+  open_see None units cells T asked L K e h = h
+  open_see (Some names) units cells T asked L K e h =
       rw e (by_test (leb (length names + declared_names (scope_of C.path)) most_declared)
       (λ t. rw t h) (λ t. rw t))
 
@@ -72,7 +72,7 @@ module _ (book : Book) (text : List ℕ) (n : ℕ) (inner : Option RowRunner) (i
       makes_see (ran_at c) _ (plain_make text (Cell.list kinds)) (row_state units cells T)
       (asked_at (row_of T c) ∷ marks_of T c) _ _
       (λ cell units₁ cells₁. option_see (ran_at c) (character_end text close x) _ _ _ _ (λ z. refl)
-      (λ y z. sim_body (some names) M cell y items units₁ cells₁ T h is))
+      (λ y z. sim_body (Some names) M cell y items units₁ cells₁ T h is))
 
   -- the row that keeps a name is no call's, and is below those that are
   declared_here : (at : ℕ) (d : Read Entry) (units : ℕ) (cells : List Cell) (T : List Row) →
@@ -109,7 +109,7 @@ module _ (book : Book) (text : List ℕ) (n : ℕ) (inner : Option RowRunner) (i
       (subst (λ k. Here book text C c k j s.rows) e (declared_here at d units cells T h)) is)
 
   names_on : (m at : ℕ) (d : Read Entry) (names : List Entry) (units : ℕ) (cells : List Cell) (T : List Row) →
-      n ≡ suc m → declaration_at book text at ≡ some d → Here book text C c (suc n) j T → NamesAt text T n names →
+      n ≡ suc m → declaration_at book text at ≡ Some d → Here book text C c (suc n) j T → NamesAt text T n names →
       NamesAt text (with_declared book text inner n at d (row_state units cells T)).rows m (names ++ (d.value ∷ []))
   names_on m at d names units cells T e there h is =
       rw e (names_declared book text T m at d names (omega arith) h.standing.size there (rw e at is))

@@ -7,7 +7,7 @@ use Rattle.std.specs.Prelude.{◌≡◌, Bool, false, leb, get_or}
 use Rattle.std.proofs.Math.Path.{refl, sym, ap}
 use Rattle.std.proofs.Common.{subst, ◌∙◌, arith, le-ltb}
 use mathlib.Core.List.{List, [], ◌∷◌}
-use Rattle.std.proofs.Math.Option.{Option, none, some}
+use Rattle.std.specs.Prelude.{Option, None, Some}
 use Prim.Native.Nat.{ℕ, zero, suc, ◌-◌, ◌<◌, ◌≤◌}
 use Rattle.std.proofs.Math.ListN.{set, length, length-set}
 use Rattle.book.specs.Book.{Book, nth_nonterminal, nth_variant}
@@ -47,14 +47,14 @@ state_put n units cells T r h e =
 counted_bare : (book : Book) (text : List ℕ) (C : Call) (N u j : ℕ) (f : Option Error) → u ≡ C.start →
     counted book text C j f ≡ counted book text (bare_call N u) j f
 unfolding counted
-counted_bare book text C N u j none e = refl
-counted_bare book text C N u j (some f) e = rw e
+counted_bare book text C N u j None e = refl
+counted_bare book text C N u j (Some f) e = rw e
 
 failed_bare : (C : Call) (N u : ℕ) (f : Option Error) → N ≡ C.nonterminal → u ≡ C.start →
     failed_call C f ≡ failed_call (bare_call N u) f
 unfolding failed_call
-failed_bare C N u none d e = rw (d, e)
-failed_bare C N u (some f) d e = refl
+failed_bare C N u None d e = rw (d, e)
+failed_bare C N u (Some f) d e = refl
 
 -- only the units of a state matter where a set grows
 add_all_state : (units : ℕ) (cells : List Cell) (A B : List Bool) (set ps : List (Parse ℕ)) →
@@ -155,7 +155,7 @@ module _ (book : Book) (text : List ℕ) (m : ℕ) (S : RowRunner) (R : Runner) 
       let same : D ≡ C = h.call in
       rw (← same)
       (rw (f, state_put n units cells T r l refl) at
-      (sim_variants D nt.count nt.first none units cells (set T n r)
+      (sim_variants D nt.count nt.first None units cells (set T n r)
       (standing_keeps text D n T (set T n r) g (run_put n T r l refl))))
 
   -- a further run is settled: its set joins the call's
@@ -188,7 +188,7 @@ module _ (book : Book) (text : List ℕ) (m : ℕ) (S : RowRunner) (R : Runner) 
       ≡ see (end_at n) (onward (row_state units cells T))) →
       (units : ℕ) (cells : List Cell) (T : List Row) → Standing text (call_of text T n) n T →
       when (all_in (row_of T n).set (row_of T n).run)
-      (λ _. ok (parsed (row_of T n).set none (state_at n (row_state units cells T))))
+      (λ _. ok (parsed (row_of T n).set None (state_at n (row_state units cells T))))
       (λ _. add_all (state_at n (row_state units cells T)) (row_of T n).set (row_of T n).run >>=
       (λ all. rounds book text k R (with_mine (call_of text T n) all) least (state_at n (row_state units cells T))))
       ≡ see (end_at n) (settle book text n onward (row_state units cells T))
@@ -197,7 +197,7 @@ module _ (book : Book) (text : List ℕ) (m : ℕ) (S : RowRunner) (R : Runner) 
       let r = row_of T n in
       let l : n < length T = omega (arith, h.size) in
       when_see (end_at n) (all_in r.set r.run) _ _ _ _
-      (λ _. ap ok (sym (end_seen units cells T none (ended r) l refl)))
+      (λ _. ap ok (sym (end_seen units cells T None (ended r) l refl)))
       (λ _. rw (add_all_state units cells (asked_at r ∷ marks_of T n) [] r.set r.run)
       (same_see (end_at n) (add_all (state_of units cells []) r.set r.run) _ _
       (λ all. rw (state_put n units cells T (with_set all r) l refl) at
@@ -223,10 +223,10 @@ module _ (book : Book) (text : List ℕ) (m : ℕ) (S : RowRunner) (R : Runner) 
   -- the first run is settled: its set is the call's
   sim_first : (C : Call) (f : Option Error) (units : ℕ) (cells : List Cell) (T : List Row) → Standing text C n T →
       elim (row_of T n).run [
-        | [] ↦ ok (parsed [] (some (failed_call C f)) (state_at n (row_state units cells T)))
+        | [] ↦ ok (parsed [] (Some (failed_call C f)) (state_at n (row_state units cells T)))
         | p ∷ ps ↦ when (asked_at (row_of T n))
             (λ _. rounds book text 65 R (with_mine C (row_of T n).run) least (state_at n (row_state units cells T)))
-            (λ _. ok (parsed (row_of T n).run none (state_at n (row_state units cells T))))
+            (λ _. ok (parsed (row_of T n).run None (state_at n (row_state units cells T))))
       ]
       ≡ see (end_at n)
       (settle_first book text n (λ t. rounds_rows book text 65 S n least t) (outcome f (row_state units cells T)))
@@ -239,14 +239,14 @@ module _ (book : Book) (text : List ℕ) (m : ℕ) (S : RowRunner) (R : Runner) 
       let failure : failed_call C f ≡ e =
       failed_bare C r.nonterminal r.start f (ap (λ c. c.nonterminal) h.call) (ap (λ c. c.start) h.call) in
       list_see (end_at n) r.run _ _ _ _
-      (λ z. ap ok (sym (end_seen units cells T (some e) q l refl ∙ rw (
+      (λ z. ap ok (sym (end_seen units cells T (Some e) q l refl ∙ rw (
         z,
         failure,
-      ) (refl {a = parsed [] (some e) (state_at n (row_state units cells T))}))))
+      ) (refl {a = parsed [] (Some e) (state_at n (row_state units cells T))}))))
       (λ p ps z. when_see (end_at n) (asked_at r) _ _ _ _
       (λ _. rw (state_put n units cells T (copied r) l refl) at
       (sim_rounds 65 (with_mine C r.run) units cells (on_row T n copied) (all_standing C T r.run h)))
-      (λ _. ap ok (sym (end_seen units cells T none q l refl))))
+      (λ _. ap ok (sym (end_seen units cells T None q l refl))))
 
   sim_opened : (C : Call) (binder N u units : ℕ) (cells : List Cell) (T : List Row) →
       Standing text C n (on_row T n (opened binder N u)) →
@@ -297,13 +297,13 @@ module _ (book : Book) (text : List ℕ) (n binder N u : ℕ) (T : List Row) (si
       named book text (use_call text T n binder N u) (state_of units cells (marks_of T n)) end
       ≡ see (found_at n) (named_rows book text n N u (row_state units cells (set T n nameless)) end)
   unfolding named named_rows failed_call see
-  sim_named units cells none = ap ok (sym (found_seen n units cells T (some (error u 11 N)) nameless size))
-  sim_named units cells (some end) =
+  sim_named units cells None = ap ok (sym (found_seen n units cells T (Some (error u 11 N)) nameless size))
+  sim_named units cells (Some end) =
       let l : length (set T n nameless) ≡ length T = length-set T n nameless in
       makes_see (found_at n) (make text (Cell.name u (end - u))) (plain_make text (Cell.name u (end - u)))
       (row_state units cells (set T n nameless)) (marks_of T n) _ _
       (λ cell units₁ cells₁. ap ok
-      (sym (found_seen n units₁ cells₁ (set T n nameless) none _ (omega arith) ∙ rw (open_put asked_at T n nameless))))
+      (sym (found_seen n units₁ cells₁ (set T n nameless) None _ (omega arith) ∙ rw (open_put asked_at T n nameless))))
 
   pub sim_identifier : Scoped text T n binder → (units : ℕ) (cells : List Cell) →
       run_identifier book text (use_call text T n binder N u) (state_of units cells (marks_of T n))
@@ -321,7 +321,7 @@ module _ (book : Book) (text : List ℕ) (n binder N u : ℕ) (T : List Row) (si
       ∙ ap (λ p. has_claimant book text p u) path in
       rw (q, scope)
       (sim_named units cells
-      (when (claimed book text (path_at text T n binder) u) (λ _. none) (λ _. free_end book text u)))
+      (when (claimed book text (path_at text T n binder) u) (λ _. None) (λ _. free_end book text u)))
 
 -- ---- A call
 module _ (book : Book) (text : List ℕ) (n : ℕ) (inner : Option RowRunner) (innerA : Option Runner)

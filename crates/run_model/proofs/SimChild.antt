@@ -8,7 +8,7 @@ use Rattle.std.specs.Prelude.{◌≡◌, Bool, eqb, get_or, drop}
 use Rattle.std.proofs.Math.Path.{refl, ap}
 use Rattle.std.proofs.Common.{sym, ◌∙◌, drop-cons, eqb-true}
 use mathlib.Core.List.{List, [], ◌∷◌}
-use Rattle.std.proofs.Math.Option.{Option, none, some}
+use Rattle.std.specs.Prelude.{Option, None, Some}
 use Prim.Native.Nat.{ℕ, zero, suc, ◌+◌, ◌<◌, ◌≤◌}
 use native.Mathlib.Omega.{arith}
 use Rattle.std.proofs.Math.ListN.{length, length-set}
@@ -59,8 +59,8 @@ module _ (text : List ℕ) (n : ℕ) where
 
   -- the names of an opening stand above the free row
   abbrev pub OpensAt : List Row → Option (List Entry) → Type 0
-  OpensAt T none = Unit {0}
-  OpensAt T (some names) = NamesAt text T n names
+  OpensAt T None = Unit {0}
+  OpensAt T (Some names) = NamesAt text T n names
 
   -- the names stay while the rows above the free one do, but for what the call's own may change
   pub names_still : (c : ℕ) (T U : List Row) (names : List Entry) → KeepsAt c (suc n) T U → NamesAt text T n names →
@@ -76,13 +76,13 @@ module _ (book : Book) (text : List ℕ) (n : ℕ) (inner : Option RowRunner) (C
   pub chosen_seen : (at : ℕ) (a : Option Error) (b : Outcome) → C.nonterminal ≡ (row_of b.state.rows c).nonterminal →
       chosen C at a (ran_at c b) ≡ ran_at c (chosen_rows book text inner n c at a b)
   unfolding chosen chosen_failure
-  chosen_seen at none b e = refl
-  chosen_seen at (some a) b e = both b.failure refl
+  chosen_seen at None b e = refl
+  chosen_seen at (Some a) b e = both b.failure refl
     where
       both : (f : Option Error) → f ≡ b.failure →
-          chosen C at (some a) (ran_at c b) ≡ ran_at c (chosen_rows book text inner n c at (some a) b)
-      both none z = rw (← z)
-      both (some d) z = rw (← z, e)
+          chosen C at (Some a) (ran_at c b) ≡ ran_at c (chosen_rows book text inner n c at (Some a) b)
+      both None z = rw (← z)
+      both (Some d) z = rw (← z, e)
 
 -- ---- What follows a parse of a child
 module _ (book : Book) (text : List ℕ) (n : ℕ) (C : Call) (c j : ℕ) where
@@ -176,7 +176,7 @@ module _ (book : Book) (text : List ℕ) (n : ℕ) (inner : Option RowRunner) (i
       enter_child book text innerA opening C j M x (state_at c (row_state units cells T))
       ≡ see (found_at n) (enter_child_rows book text inner n opening c M x (row_state units cells T))
   unfolding enter_child enter_child_rows
-  sim_child none M x units cells T h is =
+  sim_child None M x units cells T h is =
       let at = skip_from text x in
       let b = inherited (row_of T c).binder in
       let same : call_of text T c ≡ C = h.standing.call in
@@ -190,7 +190,7 @@ module _ (book : Book) (text : List ℕ) (n : ℕ) (inner : Option RowRunner) (i
       ) at
       (sim_enter book text n inner innerA kin room b M at (put T at) size
       (child_scoped T at (row_of T c).binder refl h) units cells))
-  sim_child (some names) M x units cells T h is =
+  sim_child (Some names) M x units cells T h is =
       let at = skip_from text x in
       let same : call_of text T c ≡ C = h.standing.call in
       let size : length (put T at) ≡ 201 = length-set T c (with_child at (row_of T c)) ∙ h.standing.size in
@@ -259,7 +259,7 @@ module _ (book : Book) (text : List ℕ) (n : ℕ) (inner : Option RowRunner) (i
     sim_follow : (Q : List (Parse ℕ)) (k units : ℕ) (cells : List Cell) (T : List Row) → (row_of T n).set ≡ Q →
         k ≡ length Q → Here book text C c n j T →
         follow book text innerA nextA Q (row_of T c).run (state_at c (row_state units cells T))
-        ≡ see (ran_at c) (follow_from book text inner n next k 0 none (row_state units cells T))
+        ≡ see (ran_at c) (follow_from book text inner n next k 0 None (row_state units cells T))
     unfolding follow follow_from together see
     sim_follow [] k units cells T f g h = rw g
     sim_follow (q ∷ Q) k units cells T f g h =
@@ -299,7 +299,7 @@ module _ (book : Book) (text : List ℕ) (n : ℕ) (inner : Option RowRunner) (i
         (sim_followed o.failure o.state.units o.state.cells U (here_shut book text C c n j U g k.shut) g))
 
     pub sim_or_child : (M x : ℕ) (a : Outcome) → Here book text C c (suc n) j a.state.rows →
-        (enter_child book text innerA none C j M x (ran_at c a).state
+        (enter_child book text innerA None C j M x (ran_at c a).state
         >>= (λ r. followed book text innerA nextA (ran_at c a).set r >>=
         (λ b. ok (chosen C (skip_from text x) (ran_at c a).failure b))))
         ≡ see (ran_at c) (or_child book text inner n c M next x a)
@@ -307,8 +307,8 @@ module _ (book : Book) (text : List ℕ) (n : ℕ) (inner : Option RowRunner) (i
     sim_or_child M x a h =
         let T = a.state.rows in
         then_see (found_at n) (ran_at c) (Calls n (put T (skip_from text x))) _ _ _ _
-        (sim_child none M x a.state.units a.state.cells T h tt)
-        (keeps_child book text n inner inners room c below within none M x a.state h.standing.size)
+        (sim_child None M x a.state.units a.state.cells T h tt)
+        (keeps_child book text n inner inners room c below within None M x a.state h.standing.size)
         (λ o k.
         let U = o.state.rows in
         let g = child_here x T U h k in

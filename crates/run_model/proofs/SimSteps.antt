@@ -5,7 +5,7 @@ use Rattle.std.proofs.Math.Path.{refl, ap}
 use Rattle.std.proofs.Common.{sym, arith}
 use Rattle.std.proofs.Math.Bool.{true, false}
 use mathlib.Core.List.{List, [], ◌∷◌}
-use Rattle.std.proofs.Math.Option.{Option, none, some}
+use Rattle.std.specs.Prelude.{Option, None, Some}
 use Rattle.std.proofs.Math.ListN.{length}
 use Rattle.characters.specs.Classes.{between}
 use Rattle.characters.specs.Skipping.{skip_from}
@@ -107,13 +107,13 @@ module _ (book : Book) (text : List ℕ) (n : ℕ) (inner : Option RowRunner) (i
 
     -- a list without its opening
     sim_unopened : GoAlike (λ x items s.
-        makes (make text Cell.empty) s >>= (λ e. stops_rows book text j e.cell none go x items e.state))
+        makes (make text Cell.empty) s >>= (λ e. stops_rows book text j e.cell None go x items e.state))
         (λ x items set s.
-        make text Cell.empty s >>= (λ e. stops book text j e.cell none goA x items set e.state))
+        make text Cell.empty s >>= (λ e. stops book text j e.cell None goA x items set e.state))
     sim_unopened x items units cells T h =
         makes_see (ran_at c) _ (plain_make text Cell.empty) (row_state units cells T)
         (asked_at (row_of T c) ∷ marks_of T c) _ _
-        (λ cell units₁ cells₁. sim_stops cell none x items units₁ cells₁ T h)
+        (λ cell units₁ cells₁. sim_stops cell None x items units₁ cells₁ T h)
 
     -- a token
     sim_token : (t : Token) → GoAlike (λ x items s.
@@ -127,7 +127,7 @@ module _ (book : Book) (text : List ℕ) (n : ℕ) (inner : Option RowRunner) (i
   -- ---- A variant's end
   sim_add : (p : Parse ℕ) (units : ℕ) (cells : List Cell) (T : List Row) → Here book text C c (suc n) j T →
       (add (state_at c (row_state units cells T)) (row_of T c).run p
-      >>= (λ more. ok (parsed more none (state_at c (row_state units cells T)))))
+      >>= (λ more. ok (parsed more None (state_at c (row_state units cells T)))))
       ≡ see (ran_at c) (add_run book text c p (row_state units cells T))
   unfolding add_run add see
   sim_add p units cells T h =
@@ -137,7 +137,7 @@ module _ (book : Book) (text : List ℕ) (n : ℕ) (inner : Option RowRunner) (i
       let r = with_run more (row_of T c) in
       let f : (row_of (set T c r) c).run ≡ more = ap (λ r. r.run) (row_put T c r l) in
       ap ok (sym (rw (f, state_put c units cells T r l refl)
-      (refl {a = parsed more none (state_at c (row_state units cells T))}))))
+      (refl {a = parsed more None (state_at c (row_state units cells T))}))))
 
   sim_complete : GoAlike (λ x items s. complete_rows book text c j x items s)
       (λ x items set s. complete book text j x items set s)
@@ -170,10 +170,10 @@ module _ (book : Book) (text : List ℕ) (n : ℕ) (inner : Option RowRunner) (i
 
   -- a step that takes nothing
   sim_nothing : (step : Step) (x units : ℕ) (cells : List Cell) (T : List Row) → Here book text C c (suc n) j T →
-      ok (parsed (row_of T c).run (some (step_error book text (scope_of C.path) step (skip_from text x)))
+      ok (parsed (row_of T c).run (Some (step_error book text (scope_of C.path) step (skip_from text x)))
       (state_at c (row_state units cells T)))
       ≡ see (ran_at c)
-      (ok (outcome (some (step_error book text (scope_in text T c) step (skip_from text x))) (row_state units cells T)))
+      (ok (outcome (Some (step_error book text (scope_in text T c) step (skip_from text x))) (row_state units cells T)))
   unfolding see
   sim_nothing step x units cells T h = rw h.standing.scope
 
@@ -195,7 +195,7 @@ module _ (book : Book) (text : List ℕ) (n : ℕ) (inner : Option RowRunner) (i
       (λ M. sim_descend book text n inner innerA kin room C c j below within
       (plain_next_rows book text c j rest items) (plain_next book text C j rest items)
       (keeps_plain_next book text n c below within j rest items)
-      (sim_plain_next book text n C c j rest plain items) none M x units₁ cells T h tt)
+      (sim_plain_next book text n C c j rest plain items) None M x units₁ cells T h tt)
       (λ M. sim_or_absent (rows_go rest) (steps_go rest) k f M rest plain x items units₁ cells T h)
       (λ comma M close y.
       sim_listing (rows_go rest) (steps_go rest) k f comma M close rest plain y items units₁ cells T h)
@@ -207,7 +207,7 @@ module _ (book : Book) (text : List ℕ) (n : ℕ) (inner : Option RowRunner) (i
       (λ M. makes_see (ran_at c) _ (plain_make text Cell.absent) (row_state units₁ cells T)
       (asked_at (row_of T c) ∷ marks_of T c) _ _
       (λ cell units₂ cells₂. sim_body book text n inner innerA kin room C c j below within rest plain
-      none M cell x items units₂ cells₂ T h tt))))
+      None M cell x items units₂ cells₂ T h tt))))
 
   pub sim_steps : (todo : List (Todo ℕ)) (x items units : ℕ) (cells : List Cell) (T : List Row) →
       Here book text C c (suc n) j T → NamesIn text T n todo →

@@ -11,7 +11,7 @@
 -- The letters are those of the run's definition, but that c, n and g are rows: of the call at hand, the free one, and
 -- the governor's. T is a table.
 use Rattle.std.specs.Prelude.{Bool, true, ◌&&◌, List, [], ◌∷◌, ◌++◌, ℕ, zero, suc, ◌+◌, ◌-◌, leb, eqb, length, get_or}
-use Rattle.std.proofs.Math.Option.{Option, none, some}
+use Rattle.std.specs.Prelude.{Option, None, Some}
 use Rattle.characters.specs.Classes.{between}
 use Rattle.characters.specs.Skipping.{skip_from}
 use Rattle.book.specs.Book.{Entry, Book, nth_nonterminal, nth_variant, associativity_number, step_number}
@@ -94,8 +94,8 @@ bare_call N u = call [] [] N u []
 
 -- no parse is a failure
 unfoldable pub fails_empty : List (Parse ℕ) → Error → Option Error
-fails_empty [] e = some e
-fails_empty (p ∷ ps) e = none
+fails_empty [] e = Some e
+fails_empty (p ∷ ps) e = None
 
 -- the failures of what follows the parses of a child, up to the i-th
 unfoldable pub together : ℕ → Option Error → Option Error → Option Error
@@ -104,7 +104,7 @@ together (suc i) before failure = either before failure
 
 -- where the spelling of a name that is declared at a place begins: behind the word for its kind
 unfoldable pub name_place : Book → List ℕ → ℕ → ℕ
-name_place book text at = elim (kind_at book text at) [ some k ↦ skip_from text k.end | none ↦ 0 ]
+name_place book text at = elim (kind_at book text at) [ Some k ↦ skip_from text k.end | None ↦ 0 ]
 
 module _ (book : Book) (text : List ℕ) where
   -- ---- The end of a variant
@@ -123,7 +123,7 @@ module _ (book : Book) (text : List ℕ) where
 
   -- a parse joins the run's set of row c
   unfoldable pub add_run : ℕ → Parse ℕ → RowState → Result Outcome
-  add_run c p s = add (unmarked s) (row_of s.rows c).run p >>= (λ more. ok (outcome none (at_row c (with_run more) s)))
+  add_run c p s = add (unmarked s) (row_of s.rows c).run p >>= (λ more. ok (outcome None (at_row c (with_run more) s)))
 
   unfoldable pub complete_rows : ℕ → ℕ → ℕ → ℕ → RowState → Result Outcome
   complete_rows c j x items s = makes (cell_of_value j items) s >>= (λ m. add_run c (variant_parse j x m.cell) m.state)
@@ -148,13 +148,13 @@ module _ (book : Book) (text : List ℕ) where
   unfoldable pub one_run_rows : RowRunner → ℕ → ℕ → RowState → Result Outcome
   one_run_rows run c m s =
       let nt = nth_nonterminal book (row_of s.rows c).nonterminal in
-      variants_rows run c m nt.count nt.first none (at_row c (with_run []) s)
+      variants_rows run c m nt.count nt.first None (at_row c (with_run []) s)
 
   -- after a further run: it added nothing, or its set joins the call's and the call is run again
   unfoldable pub settle : ℕ → (RowState → Result Outcome) → RowState → Result Outcome
   settle c again s =
       let r = row_of s.rows c in
-      when (all_in r.set r.run) (λ _. ok (outcome none (at_row c ended s)))
+      when (all_in r.set r.run) (λ _. ok (outcome None (at_row c ended s)))
       (λ _. add_all (unmarked s) r.set r.run >>= (λ all. again (at_row c (with_set all) s)))
 
   unfoldable pub rounds_rows : ℕ → RowRunner → ℕ → ℕ → RowState → Result Outcome
@@ -168,11 +168,11 @@ module _ (book : Book) (text : List ℕ) where
       let r = row_of s.rows c in
       elim r.run [
         | [] ↦
-            ok (outcome (some (failed_call (bare_call r.nonterminal r.start) o.failure))
+            ok (outcome (Some (failed_call (bare_call r.nonterminal r.start) o.failure))
             (at_row c (λ r. ended (copied r)) s))
         | p ∷ ps ↦
             when (eqb r.asked 1) (λ _. again (at_row c copied s))
-            (λ _. ok (outcome none (at_row c (λ r. ended (copied r)) s)))
+            (λ _. ok (outcome None (at_row c (λ r. ended (copied r)) s)))
       ]
 
   unfoldable pub run_call_rows : RowRunner → ℕ → ℕ → ℕ → ℕ → ℕ → RowState → Result Outcome
@@ -190,15 +190,15 @@ module _ (book : Book) (text : List ℕ) where
       record { rest = end; level = default_level; associativity = Associativity.Both; value = cell }
 
   unfoldable pub named_rows : ℕ → ℕ → ℕ → RowState → Option ℕ → Result Outcome
-  named_rows n N u s none = ok (outcome (some (failed_call (bare_call N u) none)) s)
-  named_rows n N u s (some end) = do
+  named_rows n N u s None = ok (outcome (Some (failed_call (bare_call N u) None)) s)
+  named_rows n N u s (Some end) = do
     m ← makes (make text (Cell.name u (end - u))) s
-    ok (outcome none (at_row n (with_set (identifier_parse end m.cell ∷ [])) m.state))
+    ok (outcome None (at_row n (with_set (identifier_parse end m.cell ∷ [])) m.state))
 
   unfoldable pub run_identifier_rows : ℕ → ℕ → ℕ → ℕ → RowState → Result Outcome
   run_identifier_rows n binder N u s =
       let t = at_row n (λ r. ended (with_set [] r)) s in
-      named_rows n N u t (when (claimed_rows t.rows n binder u) (λ _. none) (λ _. free_end book text u))
+      named_rows n N u t (when (claimed_rows t.rows n binder u) (λ _. None) (λ _. free_end book text u))
 
   -- ---- What follows a parse
   unfoldable pub plain_next_rows : ℕ → ℕ → List (Todo ℕ) → ℕ → RowNext
@@ -218,14 +218,14 @@ module _ (book : Book) (text : List ℕ) where
   stops_rows j values close go x items s = do
     l ← makes (make text (Cell.list values)) s
     elim (closed text close x) [
-      | none ↦ ok (outcome (some (error (skip_from text x) character_wanted (closing_code close))) l.state)
-      | some y ↦ makes (with_cell book text j items l.cell) l.state >>= (λ m. go y m.cell m.state)
+      | None ↦ ok (outcome (Some (error (skip_from text x) character_wanted (closing_code close))) l.state)
+      | Some y ↦ makes (with_cell book text j items l.cell) l.state >>= (λ m. go y m.cell m.state)
     ]
 
 -- ---- One level of nesting, with n levels left. `inner` runs a variant one level further in; none is 21
 module _ (book : Book) (text : List ℕ) (inner : Option RowRunner) (n : ℕ) where
   unfoldable pub nested_rows : RowState → (RowRunner → Result Outcome) → Result Outcome
-  nested_rows s f = elim inner [ some run ↦ f run | none ↦ met too_deep s.units ]
+  nested_rows s f = elim inner [ Some run ↦ f run | None ↦ met too_deep s.units ]
 
   -- row n keeps a name that is declared at a place: its kind, and where its spelling begins and how long it is
   abbrev pub with_declared : ℕ → Read Entry → RowState → RowState
@@ -264,12 +264,12 @@ module _ (book : Book) (text : List ℕ) (inner : Option RowRunner) (n : ℕ) wh
     follow_from next k (suc i) (together i failure o.failure) o.state
 
   abbrev pub follow_rows : RowNext → RowState → Result Outcome
-  follow_rows next s = follow_from next (length (row_of s.rows n).set) 0 none s
+  follow_rows next s = follow_from next (length (row_of s.rows n).set) 0 None s
 
   -- the parses of a child are followed, if there are any
   unfoldable pub followed_rows : RowNext → Outcome → Result Outcome
   followed_rows next o =
-      elim o.failure [ some e ↦ ok (outcome (some e) o.state) | none ↦ follow_rows next o.state ]
+      elim o.failure [ Some e ↦ ok (outcome (Some e) o.state) | None ↦ follow_rows next o.state ]
 
   unfoldable pub step_unit_rows : Step → RowState → Result RowState
   step_unit_rows step s = when (between 10 11 (step_number step)) (λ _. ok s) (λ _. spend_rows s)
@@ -281,7 +281,7 @@ module _ (book : Book) (text : List ℕ) (inner : Option RowRunner) (n : ℕ) wh
   -- a child at a place is called, then followed, behind the other side of the choice
   unfoldable pub or_child : ℕ → ℕ → RowNext → ℕ → Outcome → Result Outcome
   or_child c M next x a = do
-    r ← enter_child_rows none c M x a.state
+    r ← enter_child_rows None c M x a.state
     b ← followed_rows next r
     ok (chosen_rows c (skip_from text x) a.failure b)
 
@@ -305,8 +305,8 @@ module _ (book : Book) (text : List ℕ) (inner : Option RowRunner) (n : ℕ) wh
   -- ---- Binders
   -- the names in scope leave room for those of an opening
   unfoldable pub open_rows : Option (List Entry) → ℕ → RowState → Result RowState
-  open_rows none c s = ok s
-  open_rows (some names) c s =
+  open_rows None c s = ok s
+  open_rows (Some names) c s =
       when (leb (length names + declared_names (scope_in text s.rows c)) most_declared) (λ _. ok s)
       (λ _. met too_many_names s.units)
 
@@ -321,8 +321,8 @@ module _ (book : Book) (text : List ℕ) (inner : Option RowRunner) (n : ℕ) wh
   opens_rows c j names kinds close M rest x items s = do
     l ← makes (make text (Cell.list kinds)) s
     elim (character_end text close x) [
-      | none ↦ ok (outcome (some (error (skip_from text x) character_wanted close)) l.state)
-      | some y ↦ body_rows (some names) c j M l.cell rest y items l.state
+      | None ↦ ok (outcome (Some (error (skip_from text x) character_wanted close)) l.state)
+      | Some y ↦ body_rows (Some names) c j M l.cell rest y items l.state
     ]
 
   -- a declared name, which row n keeps, and what follows it, one level further in
@@ -330,8 +330,8 @@ module _ (book : Book) (text : List ℕ) (inner : Option RowRunner) (n : ℕ) wh
   declares_rows c j names kinds close M rest x items s₀ = do
     s ← spend_rows s₀
     nested_rows s (λ run. elim (declaration_at book text (skip_from text x)) [
-      | none ↦ ok (outcome (some (declaration_error book text (skip_from text x))) s)
-      | some d ↦ do
+      | None ↦ ok (outcome (Some (declaration_error book text (skip_from text x))) s)
+      | Some d ↦ do
         k ← makes (make text (Cell.number 0 d.value.label)) s
         m ← makes (make text (Cell.chain kinds k.cell)) k.state
         elim (after_element text true d.end) [
@@ -363,23 +363,23 @@ module _ (book : Book) (text : List ℕ) (inner : Option RowRunner) (n : ℕ) wh
   steps_rows c j (taking step ∷ rest) x items s₀ = do
     s ← step_unit_rows step s₀
     elim (step_at book text (scope_in text s.rows c) step x) [
-      | Taken.nothing ↦ ok (outcome (some (step_error book text (scope_in text s.rows c) step (skip_from text x))) s)
+      | Taken.nothing ↦ ok (outcome (Some (step_error book text (scope_in text s.rows c) step (skip_from text x))) s)
       | Taken.token t ↦ makes (with_token book text j items t.item) s >>=
           (λ m. steps_rows c j rest t.next m.cell m.state)
-      | Taken.child M ↦ enter_child_rows none c M x s >>=
+      | Taken.child M ↦ enter_child_rows None c M x s >>=
           (λ r. followed_rows (plain_next_rows book text c j rest items) r)
       | Taken.optional M ↦ or_absent_rows c j M rest (steps_rows c j rest) x items s
       | Taken.list comma M close y ↦ listing_rows c j comma M close rest (steps_rows c j rest) y items s
       | Taken.unopened y ↦ makes (make text Cell.empty) s >>=
-          (λ e. stops_rows book text j e.cell none (steps_rows c j rest) y items e.state)
+          (λ e. stops_rows book text j e.cell None (steps_rows c j rest) y items e.state)
       | Taken.names close M y ↦ makes (make text Cell.empty) s >>=
           (λ e. name_choice_rows c j [] e.cell close M rest y items e.state)
       | Taken.body M ↦ makes (make text Cell.absent) s >>=
-          (λ a. body_rows none c j M a.cell rest x items a.state)
+          (λ a. body_rows None c j M a.cell rest x items a.state)
     ]
 
 module _ (book : Book) (text : List ℕ) where
   -- a runner with so many levels of nesting left
   unfoldable pub runner_rows : ℕ → Option RowRunner
-  runner_rows zero = none
-  runner_rows (suc n) = some (steps_rows book text (runner_rows n) n)
+  runner_rows zero = None
+  runner_rows (suc n) = Some (steps_rows book text (runner_rows n) n)

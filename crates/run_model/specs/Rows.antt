@@ -14,7 +14,7 @@
 -- stored sets and the marks; then governors and claims by rows.
 use Rattle.std.specs.Prelude.{Bool, true, false, not, ◌&&◌, ◌||◌, List, [], ◌∷◌, ℕ, zero, suc, ◌+◌, ◌-◌, ltb, eqb}
 use Rattle.std.specs.Prelude.{get_or, length, set}
-use Rattle.std.proofs.Math.Option.{Option, none, some}
+use Rattle.std.specs.Prelude.{Option, None, Some}
 use Rattle.characters.specs.Spelling.{part_of}
 use Rattle.book.specs.Book.{Book, Entry}
 use Rattle.book.specs.Check.{associativity_of}
@@ -159,8 +159,8 @@ inherited (suc b) = 1
 
 -- the binder of a child: of a body behind an opening, the opening's names
 abbrev pub binder_for : Option (List Entry) → ℕ → ℕ
-binder_for none b = inherited b
-binder_for (some names) b = suc (suc (length names))
+binder_for None b = inherited b
+binder_for (Some names) b = suc (suc (length names))
 
 -- a call with this binder is the body behind an opening
 unfoldable pub is_body : ℕ → Bool

@@ -1,7 +1,7 @@
 -- Document 02 d, by examples: names in nested scopes, what is read as a declared name, the run behind an opening, and
 -- answers by a book with a binder.
 use Rattle.std.specs.Prelude.{◌≡◌, refl, true, false, List, [], ◌∷◌, ◌++◌, ℕ, replicate}
-use Rattle.std.proofs.Math.Option.{Option, none, some}
+use Rattle.std.specs.Prelude.{Option, None, Some}
 use Rattle.book.specs.Book.{Entry, Book}
 use Rattle.book.specs.Check.{check_book, Outcome}
 use Rattle.book.specs.declared.records.Mark.{Mark}
@@ -78,14 +78,14 @@ abbrev takes : Step → Taken
 takes step = step_at book letter (scope_of path) step 4
 
 abbrev variable : ℕ → Item → Option Variable
-variable kind item = some (record { kind = kind; item = item })
+variable kind item = Some (record { kind = kind; item = item })
 
 -- ---- Declared names
 abbrev declares : List ℕ → Option (Read Entry)
 declares text = declaration_at book text 0
 
 abbrev declared : ℕ → ℕ → Option (Read Entry)
-declared end kind = some (record { end = end; value = entry kind 120 })
+declared end kind = Some (record { end = end; value = entry kind 120 })
 
 -- ---- The run behind the opening of `<u a>a`: of a call of the binder at place 0, whose variant has begun
 abbrev state : ℕ → List Cell → State
@@ -101,11 +101,11 @@ behind_opening levels =
 
 -- n names are declared in a scope that has 32
 abbrev opens : ℕ → Result State
-opens n = open_scope (some (replicate n (entry 0 97))) (replicate 32 (entry 0 97) ∷ []) (state 7 [])
+opens n = open_scope (Some (replicate n (entry 0 97))) (replicate 32 (entry 0 97) ∷ []) (state 7 [])
 
 -- the body behind 65 names, with these cells, no unit and no level of nesting
 abbrev body : List Cell → Result Parsed
-body cs = body_after book text none (some (replicate 65 (entry 0 97))) (call [] [] 0 0 []) 0 1 2 [] 5 1 [] (state 0 cs)
+body cs = body_after book text None (Some (replicate 65 (entry 0 97))) (call [] [] 0 0 []) 0 1 2 [] 5 1 [] (state 0 cs)
 
 -- ---- Values: of the binder's variant, of the variable's, and of the variant with `-`
 abbrev bound : Tree → Tree → Tree
@@ -135,7 +135,7 @@ pub record DeclaredNameAnswers : Type 0 where
   pub claims : has_claimant book text (within f ∷ path) 4 ≡ true
   pub unclaimed : has_claimant book text path 4 ≡ false
   -- kinds 5 and 6 and the claim look in the scope, too: `a` is of kind 1 there, and no starting name
-  pub of_kind : takes (Step.VariableOfKind 1) ≡ Taken.token (record { next = 5; item = some (Item.declared 0 1) })
+  pub of_kind : takes (Step.VariableOfKind 1) ≡ Taken.token (record { next = 5; item = Some (Item.declared 0 1) })
   pub of_no_kind : takes (Step.VariableOfKind 0) ≡ Taken.nothing
   pub wrong_kind_lem : step_error book letter (scope_of path) (Step.VariableOfKind 0) 4 ≡ error 4 8 0
   pub no_variable : takes Step.RejectVariable ≡ Taken.nothing
@@ -144,8 +144,8 @@ pub record DeclaredNameAnswers : Type 0 where
   -- a reserved word; `u x`; `w x`; and `u t`, a reserved identifier
   pub reserved_kind : declares (116 ∷ 32 ∷ 120 ∷ []) ≡ declared 3 0
   pub least : declares (117 ∷ 32 ∷ 120 ∷ []) ≡ declared 3 1
-  pub above_7 : declares (119 ∷ 32 ∷ 120 ∷ []) ≡ none
-  pub reserved : declares (117 ∷ 32 ∷ 116 ∷ []) ≡ none
+  pub above_7 : declares (119 ∷ 32 ∷ 120 ∷ []) ≡ None
+  pub reserved : declares (117 ∷ 32 ∷ 116 ∷ []) ≡ None
   -- "its error 11 has argument 32": `x`; behind the word, of an identifier: `u`, `u t`, `u 1`
   pub no_kind : declaration_error book (120 ∷ []) 0 ≡ error 0 11 32
   pub ended : declaration_error book (117 ∷ []) 0 ≡ error 1 4 0
@@ -155,7 +155,7 @@ pub record DeclaredNameAnswers : Type 0 where
   pub open_64 : opens 32 ≡ ok (state 7 [])
   pub open_65 : opens 33 ≡ met 41 7
   pub nested_65 :
-      body_after book text none (some (replicate 33 (entry 0 97)))
+      body_after book text None (Some (replicate 33 (entry 0 97)))
       (call (behind (replicate 32 (entry 0 97)) ∷ []) [] 0 0 []) 0 1 2 [] 5 1 [] (state 0 (Cell.empty ∷ []))
       ≡ met 41 0
   -- behind the cells of the kinds, and "before the body's unit"
@@ -164,7 +164,7 @@ pub record DeclaredNameAnswers : Type 0 where
   -- a unit for the choice, the name, the body's call and the first step of each of the body's two variants; the name's
   -- kind "is made last"; "Its items are the kinds as a list of numbers, .. and the body"
   pub read :
-      behind_opening 2 ≡ ok (parsed (parse_by book text 0 6 11 ∷ []) none (state 0
+      behind_opening 2 ≡ ok (parsed (parse_by book text 0 6 11 ∷ []) None (state 0
       (Cell.empty ∷ Cell.list 1 ∷ Cell.number 0 1 ∷ Cell.chain 1 3 ∷ Cell.list 4 ∷ Cell.chain 1 5 ∷ Cell.declared 0 0
       ∷ Cell.chain 1 7 ∷ Cell.variant 1 8 ∷ Cell.chain 6 9 ∷ Cell.variant 0 10 ∷ [])))
   -- what follows a name is one level further in, and so is the body's call

@@ -20,7 +20,7 @@ use Rattle.std.specs.Prelude.{drop}
 use Rattle.std.proofs.Common.{sym, ◌∙◌, arith, get_or-take, get_or-drop}
 use Rattle.std.proofs.Math.Path.{ap}
 use Rattle.std.proofs.Math.Bool.{false}
-use Rattle.std.proofs.Math.Option.{Option, none, some}
+use Rattle.std.specs.Prelude.{Option, None, Some}
 use Rattle.std.proofs.Math.Dec.{ltb}
 use Rattle.std.proofs.Math.ListN.{length, length-take, get_or-eq_default}
 use borrow.Author.Tests.{lt-ltb, le-ltb, ltb-true, ltb-false, ne_eqb}
@@ -106,11 +106,11 @@ module _ (text : List ℕ) (s : ℕ) (skipped : skip_from text s ≡ s) where
           let none_between : e - s ≡ 0 = omega arith in
           rw none_between (skip_out [] 0 (omega arith))
 
-  pub beyond_some : (e : Error) → (OnlySkipped text s e.place → ⊥) → beyond s e ≡ some e
+  pub beyond_some : (e : Error) → (OnlySkipped text s e.place → ⊥) → beyond s e ≡ Some e
   unfolding beyond
   beyond_some e more = rw (lt-ltb s e.place ((more_than_skipped e.place).1 more))
 
-  pub beyond_none : (e : Error) → OnlySkipped text s e.place → beyond s e ≡ none
+  pub beyond_none : (e : Error) → OnlySkipped text s e.place → beyond s e ≡ None
   unfolding beyond
   beyond_none e only =
       by_test (ltb s e.place)
@@ -201,10 +201,10 @@ alike_choice place at N a b c d l h k =
 
 -- a call that begins at the place
 pub alike_counted : (book : Book) (text : List ℕ) (c : Call) (j : ℕ) (a b : Error) → Alike c.start a b →
-    counted book text c j (some a) ≡ counted book text c j (some b)
+    counted book text c j (Some a) ≡ counted book text c j (Some b)
 unfolding counted
 alike_counted book text c j a b h =
-    ap (λ (o : Option Error). cond (nth_variant book j).committed o none) (alike_beyond c.start a b h)
+    ap (λ (o : Option Error). cond (nth_variant book j).committed o None) (alike_beyond c.start a b h)
 
 -- ---- What a choice drops
 -- a choice gives 12 at its place, or an error beyond it
@@ -223,25 +223,25 @@ choice_drops at N argument a b e =
     (λ far. let there = ap (λ (d : Error). d.place) e in omega arith)
 
 chosen_drops : (c : Call) (at argument : ℕ) (o : Option Error) (b : Parsed) →
-    (chosen c at o b).failure ≡ some (error at nonterminal_wanted argument) → ⊥
+    (chosen c at o b).failure ≡ Some (error at nonterminal_wanted argument) → ⊥
 unfolding chosen
-chosen_drops c at argument none b e = none_some e
-chosen_drops c at argument (some a) b e = by b.failure refl e
+chosen_drops c at argument None b e = none_some e
+chosen_drops c at argument (Some a) b e = by b.failure refl e
   where
     by : (o : Option Error) → b.failure ≡ o →
         (elim o as (λ _. Parsed) [
-          | none ↦ b
-          | some d ↦ parsed b.set (some (choice_error at c.nonterminal a d)) b.state
-        ]).failure ≡ some (error at nonterminal_wanted argument) → ⊥
-    by none n e = none_some (sym n ∙ e)
-    by (some d) n e = choice_drops at c.nonterminal argument a d (some_inj e)
+          | None ↦ b
+          | Some d ↦ parsed b.set (Some (choice_error at c.nonterminal a d)) b.state
+        ]).failure ≡ Some (error at nonterminal_wanted argument) → ⊥
+    by None n e = none_some (sym n ∙ e)
+    by (Some d) n e = choice_drops at c.nonterminal argument a d (some_inj e)
 
 -- a declared name whose kind's word is missing fails where its choice is made: the choice never hands that error on
 pub missing_kind_drops : (book : Book) (text : List ℕ) (inner : Option Runner) (c : Call) (j : ℕ) (names : List Entry)
     (kinds close M : ℕ) (rest : List (Todo ℕ)) (x items : ℕ) (set : List (Parse ℕ)) (s : State) (r : Parsed) →
-    kind_at book text (skip_from text x) ≡ none →
+    kind_at book text (skip_from text x) ≡ None →
     name_choice book text inner c j names kinds close M rest x items set s ≡ ok r →
-    r.failure ≡ some (declaration_error book text (skip_from text x)) → ⊥
+    r.failure ≡ Some (declaration_error book text (skip_from text x)) → ⊥
 unfolding name_choice declaration_error
 missing_kind_drops book text inner c j names kinds close M rest x items set s r missing e failed =
     after _ _ e (λ t spent e₁. after _ _ e₁ (λ a opened e₂. after _ _ e₂ (λ b declared is.

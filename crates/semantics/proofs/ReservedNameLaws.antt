@@ -8,12 +8,12 @@ use Rattle.std.specs.Prelude.{◌≡◌, true, false, ℕ, suc, ◌<◌, eqb, le
 use Rattle.std.proofs.Math.Path.{refl, sym}
 use Rattle.std.proofs.Common.{ap, ◌∙◌, arith, ne_eqb}
 use mathlib.Core.List.{List, [], ◌∷◌}
-use Rattle.std.proofs.Math.Option.{none, some}
+use Rattle.std.specs.Prelude.{None, Some}
 use Rattle.characters.specs.Cases.{by_test, clash}
 use Rattle.characters.specs.Spelling.{same}
 use Rattle.characters.proofs.SpellingLaws.{same_equal}
 use Rattle.book.specs.Book.{Book, Entry, nth_entry, is_reserved, lookup_from}
-use Rattle.book.specs.declared.names.Found.{Found}
+use Rattle.book.specs.declared.names.StartingName.{StartingName}
 use Rattle.book.specs.declared.records.Step.{Step}
 use Rattle.semantics.specs.Numbers.{reserved_found, wrong_kind}
 use Rattle.semantics.specs.Tokens.{Variable, Read, is_some, identifier_end, spelled, reserved_at, free_end}
@@ -26,7 +26,7 @@ use Rattle.semantics.proofs.Theorem.Results.{option_cases, none_some}
 use Rattle.semantics.proofs.Theorem.Tokens.{identifier_within}
 
 module _ (book : Book) (text : List ℕ) where
-  free_reserved : (at : ℕ) → reserved_at book text at ≡ true → free_end book text at ≡ none
+  free_reserved : (at : ℕ) → reserved_at book text at ≡ true → free_end book text at ≡ None
   unfolding free_end
   free_reserved at reserved = rw reserved
 
@@ -35,18 +35,18 @@ module _ (book : Book) (text : List ℕ) where
   free_unreserved at unreserved = rw unreserved refl
 
   -- where an identifier stands, the text hasn't ended
-  not_ended : (at end : ℕ) → identifier_end text at ≡ some end → eqb at (length text) ≡ false
+  not_ended : (at end : ℕ) → identifier_end text at ≡ Some end → eqb at (length text) ≡ false
   not_ended at end e =
       let within = identifier_within text at end e in
       ne_eqb at (length text) (λ is. omega (arith, within.0, within.1))
 
   -- where one that isn't reserved stands, none is missing
-  identifier_there : (at end : ℕ) (other : Error) → identifier_end text at ≡ some end →
+  identifier_there : (at end : ℕ) (other : Error) → identifier_end text at ≡ Some end →
       reserved_at book text at ≡ false → identifier_error book text at other ≡ other
   unfolding identifier_error
   identifier_there at end other e unreserved = rw (not_ended at end e, unreserved, e, identifier_error) refl
 
-  pub variable_before_lem : (at : ℕ) → reserved_at book text at ≡ true → variable_before book text at ≡ none
+  pub variable_before_lem : (at : ℕ) → reserved_at book text at ≡ true → variable_before book text at ≡ None
   unfolding variable_before
   variable_before_lem at reserved = rw (free_reserved at reserved, variable_before) refl
 
@@ -59,7 +59,7 @@ module _ (book : Book) (text : List ℕ) where
       (λ end e. rw (not_ended at end e, reserved, identifier_error) refl)
 
   pub claim_unseen : (c : Call) (s : State) → reserved_at book text c.start ≡ true →
-      run_identifier book text c s ≡ ok (parsed [] (some (failed_call c none)) s)
+      run_identifier book text c s ≡ ok (parsed [] (Some (failed_call c None)) s)
   unfolding run_identifier free_end named
   claim_unseen c s reserved =
       by_test (claimed book text c.path c.start) (λ is. rw (is, named)) (λ is. rw (is, reserved, named))
@@ -73,7 +73,7 @@ module _ (book : Book) (text : List ℕ) where
         (λ t. no_name t ∙ sym (variable_before_lem at t))
         (λ t. rw (free_unreserved at t, variable_before) refl)
 
-    variable_unreserved : (v : Read Variable) → variable_at book text [] at ≡ some v → reserved_at book text at ≡ false
+    variable_unreserved : (v : Read Variable) → variable_at book text [] at ≡ Some v → reserved_at book text at ≡ false
     variable_unreserved v there =
         by_test (reserved_at book text at) (λ t. absurd (none_some (sym (no_name t) ∙ there))) (λ t. t)
 
@@ -96,7 +96,7 @@ unmoved_at book text at no_name =
 -- a reserved spelling is no name, if none is
 lookup_nothing : (words names : List Entry) (i : ℕ) (spelling : List ℕ) → is_reserved words spelling ≡ true →
     ((m : ℕ) → m < length names → is_reserved words (nth_entry names m).spelling ≡ false) →
-    lookup_from Found.Nothing i names spelling ≡ Found.Nothing
+    lookup_from None i names spelling ≡ None
 unfolding lookup_from
 lookup_nothing words [] i spelling reserved none_reserved = refl
 lookup_nothing words (n ∷ names) i spelling reserved none_reserved =

@@ -1,7 +1,7 @@
 -- Document 01, "The answer"; document 02 d, 41.
 use Rattle.std.specs.Prelude.{Bool, true, cond, ◌&&◌, ◌||◌, List, [], ◌∷◌, ◌++◌, ℕ, suc, ◌-◌, leb, ltb, eqb, length}
 use Rattle.std.specs.Prelude.{take, drop, replicate}
-use Rattle.std.proofs.Math.Option.{Option, none, some}
+use Rattle.std.specs.Prelude.{Option, None, Some}
 use Rattle.book.specs.Book.{Book, associativity_number}
 use Rattle.book.specs.Check.{check_book, Outcome}
 use Rattle.semantics.specs.Numbers.{cells_size, parses_size, most_units, longest_text, first_high_byte}
@@ -65,8 +65,8 @@ all_are v (w ∷ ws) = eqb v w && all_are v ws
 
 -- the first byte of 128 or more
 unfoldable pub first_high : ℕ → List ℕ → Option ℕ
-first_high i [] = none
-first_high i (b ∷ bs) = when (leb first_high_byte b) (λ _. some i) (λ _. first_high (suc i) bs)
+first_high i [] = None
+first_high i (b ∷ bs) = when (leb first_high_byte b) (λ _. Some i) (λ _. first_high (suc i) bs)
 
 module _ (cells parses : List ℕ) where
   -- "1 to 11 (not accepted): work 0, lists untouched"
@@ -99,8 +99,8 @@ module _ (cells parses : List ℕ) where
   at_end text allowance (met number units) = cleared (answer number 0 0 0 (allowance - units) 0 0)
   at_end text allowance (ok r) =
       elim r.failure [
-        | some e ↦ cleared (answer no_parse e.place e.kind e.argument (allowance - r.state.units) 0 0)
-        | none ↦ by_values (whole_values text r.set) (allowance - r.state.units) r
+        | Some e ↦ cleared (answer no_parse e.place e.kind e.argument (allowance - r.state.units) 0 0)
+        | None ↦ by_values (whole_values text r.set) (allowance - r.state.units) r
       ]
 
   -- the start, then the text
@@ -109,8 +109,8 @@ module _ (cells parses : List ℕ) where
       when (leb (length book.nonterminals) start) (λ _. untouched unknown_start 0)
       (λ _. when (ltb longest_text (length text)) (λ _. untouched long_text longest_text)
       (λ _. elim (first_high 0 text) [
-        | some i ↦ untouched high_byte i
-        | none ↦ at_end text allowance (run book text allowance start)
+        | Some i ↦ untouched high_byte i
+        | None ↦ at_end text allowance (run book text allowance start)
       ]))
 
   unfoldable pub answer_of : List ℕ → List ℕ → ℕ → ℕ → Answered

@@ -1,7 +1,7 @@
 -- Document 01, "Derivations", with the rules of document 02 d for binders: what a text's derivations are. Nothing here
 -- speaks of a run.
 use Rattle.std.specs.Prelude.{◌≡◌, true, false, cond, List, [], ◌∷◌, ◌++◌, ℕ, ◌+◌, ◌<◌, leb}
-use Rattle.std.proofs.Math.Option.{Option, none, some}
+use Rattle.std.specs.Prelude.{Option, None, Some}
 use Rattle.characters.specs.Skipping.{skip_from}
 use Rattle.characters.specs.Spelling.{part_of}
 use Rattle.book.specs.Book.{Book, nth_nonterminal, nth_variant}
@@ -45,8 +45,8 @@ tree_of text (Item.declared depth index) = declared depth index
 
 -- the items with a token's
 unfoldable pub with_item : List ℕ → Trees → Option Item → Trees
-with_item text items none = items
-with_item text items (some item) = items ▸ tree_of text item
+with_item text items None = items
+with_item text items (Some item) = items ▸ tree_of text item
 
 -- what stays the same while a variant's steps are taken: the use, by its path, nonterminal and start; the number of the
 -- variant; and the parse that it comes to
@@ -87,7 +87,7 @@ module _ (book : Book) (text : List ℕ) where
           Derives Q f.nonterminal f.start p → keeps f p ≡ true → Derives P N u p
       -- "A mark-2 use yields an identifier .. unless .."
       by_identifier : {P N u p m end : _} → governor P N u ≡ minimum m → has_mark book 2 N ≡ true →
-          claimed book text P u ≡ false → free_end book text u ≡ some end →
+          claimed book text P u ≡ false → free_end book text u ≡ Some end →
           p ≡ identifier_parse text u end → Derives P N u p
 
     -- an attempt, with this left to do at a place, after these items, comes to its parse. "Kinds 2 to 5 and 8 to 13 add
@@ -124,7 +124,7 @@ module _ (book : Book) (text : List ℕ) where
           after_element text comma q.rest ≡ halts y →
           Through a (ending (values ▸ q.value) close ∷ rest) y items →
           Through a (elements comma M values close ∷ rest) x items
-      by_ending : {a values close y rest x items : _} → closed text close x ≡ some y →
+      by_ending : {a values close y rest x items : _} → closed text close x ≡ Some y →
           Through a rest y (items ▸ list values) → Through a (ending values close ∷ rest) x items
       -- document 02 d: "an opening character, a comma list of names, a closing character, and a body; without the
       -- opening, the body alone", in the scope around
@@ -138,15 +138,15 @@ module _ (book : Book) (text : List ℕ) where
           Through a (closing names kinds close M ∷ rest) x items →
           Through a (naming names kinds close M ∷ rest) x items
       by_name : {a names kinds close M d y rest x items : _} →
-          declaration_at book text (skip_from text x) ≡ some d → after_element text true d.end ≡ goes y →
+          declaration_at book text (skip_from text x) ≡ Some d → after_element text true d.end ≡ goes y →
           Through a (naming (names ++ (d.value ∷ [])) (kinds ▸ number d.value.label) close M ∷ rest) y items →
           Through a (naming names kinds close M ∷ rest) x items
       by_last_name : {a names kinds close M d y rest x items : _} →
-          declaration_at book text (skip_from text x) ≡ some d → after_element text true d.end ≡ halts y →
+          declaration_at book text (skip_from text x) ≡ Some d → after_element text true d.end ≡ halts y →
           Through a (closing (names ++ (d.value ∷ [])) (kinds ▸ number d.value.label) close M ∷ rest) y items →
           Through a (naming names kinds close M ∷ rest) x items
       -- "The body is read in a new scope"
-      by_opening : {a names kinds close M q y rest x items : _} → character_end text close x ≡ some y →
+      by_opening : {a names kinds close M q y rest x items : _} → character_end text close x ≡ Some y →
           Derives (behind names ∷ inside book a (skip_from text y)) M (skip_from text y) q →
           Through a rest q.rest (items ▸ list kinds ▸ q.value) →
           Through a (closing names kinds close M ∷ rest) x items

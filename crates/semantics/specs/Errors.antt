@@ -1,6 +1,6 @@
 -- Document 01, "Errors", with those of document 02 d's declared names.
 use Rattle.std.specs.Prelude.{Bool, cond, ◌&&◌, ◌||◌, List, ℕ, leb, ltb, eqb, length}
-use Rattle.std.proofs.Math.Option.{Option, none, some}
+use Rattle.std.specs.Prelude.{Option, None, Some}
 use Rattle.characters.specs.Skipping.{skip_from}
 use Rattle.characters.specs.Lexemes.{number_at}
 use Rattle.characters.specs.declared.lexemes.Number.{Number}
@@ -33,23 +33,23 @@ join a b = cond (wins a b) a b
 -- an error that counts only beyond a skipped place, where a call begins or a choice is made: "more than skipped text
 -- lies between" exactly if the error's place is greater (`more_than_skipped` of ErrorLaws)
 unfoldable pub beyond : ℕ → Error → Option Error
-beyond place e = cond (ltb place e.place) (some e) none
+beyond place e = cond (ltb place e.place) (Some e) None
 
 unfoldable pub join_with : Option Error → Option Error → Option Error
-join_with none b = b
-join_with (some a) none = some a
-join_with (some a) (some b) = some (join a b)
+join_with None b = b
+join_with (Some a) None = Some a
+join_with (Some a) (Some b) = Some (join a b)
 
 -- "When both sides of a choice fail, errors that consumed nothing since it drop; if none remain, 12 there", with "the
 -- variant's nonterminal"
 unfoldable pub choice_error : ℕ → ℕ → Error → Error → Error
-choice_error at N a b = elim (beyond at (join a b)) [ some e ↦ e | none ↦ error at more_wanted N ]
+choice_error at N a b = elim (beyond at (join a b)) [ Some e ↦ e | None ↦ error at more_wanted N ]
 
 -- what `chosen` of the run gives of the failures of both sides: a side that yields a parse leaves no error
 unfoldable pub chosen_failure : ℕ → ℕ → Option Error → Option Error → Option Error
-chosen_failure at N none second = none
-chosen_failure at N (some a) none = none
-chosen_failure at N (some a) (some b) = some (choice_error at N a b)
+chosen_failure at N None second = None
+chosen_failure at N (Some a) None = None
+chosen_failure at N (Some a) (Some b) = Some (choice_error at N a b)
 
 -- what a step gives where it takes nothing
 module _ (book : Book) (text : List ℕ) where
@@ -59,16 +59,16 @@ module _ (book : Book) (text : List ℕ) where
   identifier_error at other =
       when (eqb at (length text)) (λ _. error at text_ended 0)
       (λ _. when (reserved_at book text at) (λ _. error at reserved_found 0)
-      (λ _. elim (identifier_end text at) [ some end ↦ other | none ↦ error at identifier_wanted 0 ]))
+      (λ _. elim (identifier_end text at) [ Some end ↦ other | None ↦ error at identifier_wanted 0 ]))
 
   -- a declared name was wanted: "a call of a committed variant .. (its error 11 has argument 32 ..)"; behind the word
   -- of its kind an identifier, as in kind 2, and that error counts, since more than skipped text lies between
   unfoldable pub declaration_error : ℕ → Error
   declaration_error at =
       elim (kind_at book text at) [
-        | some k ↦
+        | Some k ↦
             let after = skip_from text k.end in identifier_error after (error after identifier_wanted 0)
-        | none ↦ error at nonterminal_wanted declared_name
+        | None ↦ error at nonterminal_wanted declared_name
       ]
 
   -- at a skipped place. Kinds 8 to 11, 13 and 14 always take something and are never asked for

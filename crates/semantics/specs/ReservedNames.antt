@@ -2,7 +2,7 @@
 -- it is that nothing else moves: "Old answers that change, for such a word only". They stand in no other file. All is
 -- outside every opening (the scope []): names declared inside a rule came later.
 use Rattle.std.specs.Prelude.{◌≡◌, true, false, List, [], ℕ, ◌<◌, length}
-use Rattle.std.proofs.Math.Option.{Option, none, some}
+use Rattle.std.specs.Prelude.{Option, None, Some}
 use Rattle.book.specs.Book.{Book, nth_entry, is_reserved}
 use Rattle.book.specs.declared.records.Step.{Step}
 use Rattle.semantics.specs.Numbers.{unknown_name, wrong_kind}
@@ -15,11 +15,11 @@ module _ (book : Book) (text : List ℕ) where
   unfoldable pub variable_before : ℕ → Option (Read Variable)
   variable_before at =
       elim (free_end book text at) [
-        | some end ↦ elim (variable_in book.names 0 [] (spelled text at end)) [
-          | some v ↦ some (record { end = end; value = v })
-          | none ↦ none
+        | Some end ↦ elim (variable_in book.names 0 [] (spelled text at end)) [
+          | Some v ↦ Some (record { end = end; value = v })
+          | None ↦ None
         ]
-        | none ↦ none
+        | None ↦ None
       ]
 
   -- the error of kind 5 at a skipped place
@@ -35,7 +35,7 @@ module _ (book : Book) (text : List ℕ) where
 
   -- no starting name stands at a place that is a reserved word
   abbrev pub NoReservedNameAt : ℕ → Type 0
-  NoReservedNameAt at = reserved_at book text at ≡ true → variable_at book text [] at ≡ none
+  NoReservedNameAt at = reserved_at book text at ≡ true → variable_at book text [] at ≡ None
 
 -- no starting name of the book is a reserved word
 abbrev pub NoReservedName : Book → Type 0

@@ -5,7 +5,7 @@
 -- e an error, p and q parses. What was made is m too, of an empty chain e, of a list l.
 use Rattle.std.specs.Prelude.{Bool, true, false, cond, ◌&&◌, List, [], ◌∷◌, ◌++◌, ℕ, zero, suc, ◌+◌, ◌-◌, ◌/◌, ◌%◌, leb}
 use Rattle.std.specs.Prelude.{ltb, eqb, length, get_or}
-use Rattle.std.proofs.Math.Option.{Option, none, some}
+use Rattle.std.specs.Prelude.{Option, None, Some}
 use Rattle.characters.specs.Classes.{between}
 use Rattle.characters.specs.Skipping.{skip_from}
 use Rattle.book.specs.Book.{Entry, Book, nth_nonterminal, nth_variant, associativity_number, step_number}
@@ -173,35 +173,35 @@ declared_names (binder ∷ scope) = length binder + declared_names scope
 
 -- "when a body's scope opens, .. and a 65th declared name would be open"; without an opening no scope opens
 unfoldable pub open_scope : Option (List Entry) → Scope → State → Result State
-open_scope none scope s = ok s
-open_scope (some names) scope s =
+open_scope None scope s = ok s
+open_scope (Some names) scope s =
     when (leb (declared_names (names ∷ scope)) most_declared) (λ _. ok s) (λ _. met too_many_names s.units)
 
 -- ---- Errors
 -- "With none, a call gives 11 at its start"
 unfoldable pub failed_call : Call → Option Error → Error
-failed_call c none = error c.start nonterminal_wanted c.nonterminal
-failed_call c (some e) = e
+failed_call c None = error c.start nonterminal_wanted c.nonterminal
+failed_call c (Some e) = e
 
 -- "A call, choice or step that yields a parse hands on no error"
 unfoldable pub either : Option Error → Option Error → Option Error
-either none b = none
-either (some a) none = none
-either (some a) (some b) = some (join a b)
+either None b = None
+either (Some a) None = None
+either (Some a) (Some b) = Some (join a b)
 
 -- both sides of a choice at a place
 unfoldable pub chosen : Call → ℕ → Option Error → Parsed → Parsed
-chosen c at none b = parsed b.set none b.state
-chosen c at (some a) b =
+chosen c at None b = parsed b.set None b.state
+chosen c at (Some a) b =
     elim b.failure [
-      | none ↦ b
-      | some e ↦ parsed b.set (some (choice_error at c.nonterminal a e)) b.state
+      | None ↦ b
+      | Some e ↦ parsed b.set (Some (choice_error at c.nonterminal a e)) b.state
     ]
 
 -- the closing that is missing; a list without one is never asked for it
 unfoldable pub closing_code : Option ℕ → ℕ
-closing_code none = 0
-closing_code (some c) = c
+closing_code None = 0
+closing_code (Some c) = c
 
 module _ (book : Book) (text : List ℕ) where
   -- ---- A variant's cells
@@ -215,8 +215,8 @@ module _ (book : Book) (text : List ℕ) where
       when (nth_variant book j).passing (λ _. ok (made item s)) (λ _. make text (Cell.chain items item) s)
 
   unfoldable pub with_token : ℕ → ℕ → Option Item → State → Result Made
-  with_token j items none s = ok (made items s)
-  with_token j items (some item) s = make text (item_cell item) s >>= (λ m. with_cell j items m.cell m.state)
+  with_token j items None s = ok (made items s)
+  with_token j items (Some item) s = make text (item_cell item) s >>= (λ m. with_cell j items m.cell m.state)
 
   -- "the parse is (rest, level, associativity, value)"
   abbrev pub parse_by : ℕ → ℕ → ℕ → Parse ℕ
@@ -229,13 +229,13 @@ module _ (book : Book) (text : List ℕ) where
   complete j x items set s = do
     m ← when (nth_variant book j).passing (λ _. ok (made items s)) (λ _. make text (Cell.variant j items) s)
     more ← add m.state set (parse_by j x m.cell)
-    ok (parsed more none m.state)
+    ok (parsed more None m.state)
 
   -- ---- "A call runs its variants"
   -- "A variant's errors count only if it is committed and more than skipped text lies between"
   unfoldable pub counted : Call → ℕ → Option Error → Option Error
-  counted c j none = none
-  counted c j (some e) = cond (nth_variant book j).committed (beyond c.start e) none
+  counted c j None = None
+  counted c j (Some e) = cond (nth_variant book j).committed (beyond c.start e) None
 
   -- n variants from j on, whose level reaches the minimum
   unfoldable pub variants : Runner → Call → ℕ → ℕ → ℕ → List (Parse ℕ) → Option Error → State → Result Parsed
@@ -250,7 +250,7 @@ module _ (book : Book) (text : List ℕ) where
 
   -- one run of a call: its own set is empty at first
   unfoldable pub one_run : Runner → Call → ℕ → State → Result Parsed
-  one_run run c m s = let nt = nth_nonterminal book c.nonterminal in variants run c m nt.count nt.first [] none s
+  one_run run c m s = let nt = nth_nonterminal book c.nonterminal in variants run c m nt.count nt.first [] None s
 
   -- "they are set to all found, and it is run again until a run fails or adds nothing"; a run that fails has no parse
   -- to add. Each run but the last adds one, and a 65th is a limit, so that 65 runs are always enough (RoundLaws);
@@ -259,7 +259,7 @@ module _ (book : Book) (text : List ℕ) where
   rounds zero run c m s = met too_many_parses s.units
   rounds (suc n) run c m s = do
     r ← one_run run c m s
-    when (all_in c.mine r.set) (λ _. ok (parsed c.mine none r.state))
+    when (all_in c.mine r.set) (λ _. ok (parsed c.mine None r.state))
         (λ _. do
           all ← add_all r.state c.mine r.set
           rounds n run (with_mine c all) m r.state)
@@ -268,10 +268,10 @@ module _ (book : Book) (text : List ℕ) where
   run_call run c m s = do
     r ← one_run run c m s
     elim r.set [
-      | [] ↦ ok (parsed [] (some (failed_call c r.failure)) r.state)
+      | [] ↦ ok (parsed [] (Some (failed_call c r.failure)) r.state)
       | p ∷ ps ↦ when (newest r.state.asked)
           (λ _. rounds most_rounds run (with_mine c r.set) m r.state)
-          (λ _. ok (parsed r.set none r.state))
+          (λ _. ok (parsed r.set None r.state))
     ]
 
   -- "`identifier_nonterminal`", of "level 255 Both"
@@ -280,14 +280,14 @@ module _ (book : Book) (text : List ℕ) where
       record { rest = end; level = default_level; associativity = Associativity.Both; value = cell }
 
   unfoldable pub named : Call → State → Option ℕ → Result Parsed
-  named c s none = ok (parsed [] (some (failed_call c none)) s)
-  named c s (some end) = do
+  named c s None = ok (parsed [] (Some (failed_call c None)) s)
+  named c s (Some end) = do
     m ← make text (Cell.name c.start (end - c.start)) s
-    ok (parsed (identifier_parse end m.cell ∷ []) none m.state)
+    ok (parsed (identifier_parse end m.cell ∷ []) None m.state)
 
   unfoldable pub run_identifier : Call → State → Result Parsed
   run_identifier c s =
-      named c s (when (claimed book text c.path c.start) (λ _. none) (λ _. free_end book text c.start))
+      named c s (when (claimed book text c.path c.start) (λ _. None) (λ _. free_end book text c.start))
 
   -- ---- What follows a parse
   -- the item is added, and the steps go on
@@ -309,19 +309,19 @@ module _ (book : Book) (text : List ℕ) where
   stops j values close go x items set s = do
     l ← make text (Cell.list values) s
     elim (closed text close x) [
-      | none ↦ ok (parsed set (some (error (skip_from text x) character_wanted (closing_code close))) l.state)
-      | some y ↦ with_cell j items l.cell l.state >>= (λ m. go y m.cell set m.state)
+      | None ↦ ok (parsed set (Some (error (skip_from text x) character_wanted (closing_code close))) l.state)
+      | Some y ↦ with_cell j items l.cell l.state >>= (λ m. go y m.cell set m.state)
     ]
 
 -- ---- One level of nesting. `inner` runs a variant one level further in; none is a limit, "nesting beyond 200"
 module _ (book : Book) (text : List ℕ) (inner : Option Runner) where
   unfoldable pub nested : State → (Runner → Result Parsed) → Result Parsed
-  nested s f = elim inner [ some run ↦ f run | none ↦ met too_deep s.units ]
+  nested s f = elim inner [ Some run ↦ f run | None ↦ met too_deep s.units ]
 
   -- "Re-entry at its start gives its stored parses, filtered; none is a failure"
   unfoldable pub reentry : List (Parse ℕ) → Error → State → Parsed
-  reentry [] e s = parsed [] (some e) s
-  reentry (p ∷ ps) e s = parsed (p ∷ ps) none s
+  reentry [] e s = parsed [] (Some e) s
+  reentry (p ∷ ps) e s = parsed (p ∷ ps) None s
 
   -- "`enter`": one unit; the governor; then one level of nesting
   unfoldable pub enter : Path → List (List (Parse ℕ)) → ℕ → ℕ → State → Result Parsed
@@ -355,14 +355,14 @@ module _ (book : Book) (text : List ℕ) (inner : Option Runner) where
 
   -- a call without a parse fails, so that the list is never empty here
   unfoldable pub follow : Next → List (Parse ℕ) → List (Parse ℕ) → State → Result Parsed
-  follow next [] set s = ok (parsed set none s)
+  follow next [] set s = ok (parsed set None s)
   follow next (q ∷ qs) set s =
       nested s (λ run. next q s run set) >>= (λ a. follow_more next qs a.set a.failure a.state)
 
   -- the parses of a child are followed, if there are any
   unfoldable pub followed : Next → List (Parse ℕ) → Parsed → Result Parsed
   followed next set r =
-      elim r.failure [ some e ↦ ok (parsed set (some e) r.state) | none ↦ follow next r.set set r.state ]
+      elim r.failure [ Some e ↦ ok (parsed set (Some e) r.state) | None ↦ follow next r.set set r.state ]
 
   -- "one per step"; "for 10 and 11 the choices replace the step's unit"; a binder's has its own, "the step as kind 12"
   unfoldable pub step_unit : Step → State → Result State
@@ -374,7 +374,7 @@ module _ (book : Book) (text : List ℕ) (inner : Option Runner) where
     absent ← make text Cell.absent s
     m ← with_cell book text j items absent.cell absent.state
     a ← go x m.cell set m.state
-    r ← enter_child none c j M x a.state
+    r ← enter_child None c j M x a.state
     b ← followed (plain_next book text c j rest items) a.set r
     ok (chosen c (skip_from text x) a.failure b)
 
@@ -383,7 +383,7 @@ module _ (book : Book) (text : List ℕ) (inner : Option Runner) where
   choice c j comma M values close rest go x items set s₀ = do
     s ← spend s₀
     a ← stops book text j values close go x items set s
-    r ← enter_child none c j M x a.state
+    r ← enter_child None c j M x a.state
     b ← followed (list_next book text c j comma M values close rest items) a.set r
     ok (chosen c (skip_from text x) a.failure b)
 
@@ -407,8 +407,8 @@ module _ (book : Book) (text : List ℕ) (inner : Option Runner) where
   opens c j names kinds close M rest x items set s = do
     l ← make text (Cell.list kinds) s
     elim (character_end text close x) [
-      | none ↦ ok (parsed set (some (error (skip_from text x) character_wanted close)) l.state)
-      | some y ↦ body_after (some names) c j M l.cell rest y items set l.state
+      | None ↦ ok (parsed set (Some (error (skip_from text x) character_wanted close)) l.state)
+      | Some y ↦ body_after (Some names) c j M l.cell rest y items set l.state
     ]
 
   -- a declared name and what follows it, both one level further in: "Reading one counts as a call of a committed
@@ -417,8 +417,8 @@ module _ (book : Book) (text : List ℕ) (inner : Option Runner) where
   declares c j names kinds close M rest x items set s₀ = do
     s ← spend s₀
     nested s (λ run. elim (declaration_at book text (skip_from text x)) [
-      | none ↦ ok (parsed set (some (declaration_error book text (skip_from text x))) s)
-      | some d ↦ do
+      | None ↦ ok (parsed set (Some (declaration_error book text (skip_from text x))) s)
+      | Some d ↦ do
         k ← make text (Cell.number 0 d.value.label) s
         m ← make text (Cell.chain kinds k.cell) k.state
         elim (after_element text true d.end) [
@@ -446,24 +446,24 @@ module _ (book : Book) (text : List ℕ) (inner : Option Runner) where
   steps c j (taking step ∷ rest) x items set s₀ = do
     s ← step_unit step s₀
     elim (step_at book text (scope_of c.path) step x) [
-      | Taken.nothing ↦ ok (parsed set (some (step_error book text (scope_of c.path) step (skip_from text x))) s)
+      | Taken.nothing ↦ ok (parsed set (Some (step_error book text (scope_of c.path) step (skip_from text x))) s)
       | Taken.token t ↦
           with_token book text j items t.item s >>= (λ m. steps c j rest t.next m.cell set m.state)
-      | Taken.child M ↦ enter_child none c j M x s >>= (λ r. followed (plain_next book text c j rest items) set r)
+      | Taken.child M ↦ enter_child None c j M x s >>= (λ r. followed (plain_next book text c j rest items) set r)
       | Taken.optional M ↦ or_absent c j M rest (steps c j rest) x items set s
       | Taken.list comma M close y ↦ listing c j comma M close rest (steps c j rest) y items set s
       | Taken.unopened y ↦
-          make text Cell.empty s >>= (λ e. stops book text j e.cell none (steps c j rest) y items set e.state)
+          make text Cell.empty s >>= (λ e. stops book text j e.cell None (steps c j rest) y items set e.state)
       | Taken.names close M y ↦
           make text Cell.empty s >>= (λ e. name_choice c j [] e.cell close M rest y items set e.state)
-      | Taken.body M ↦ make text Cell.absent s >>= (λ a. body_after none c j M a.cell rest x items set a.state)
+      | Taken.body M ↦ make text Cell.absent s >>= (λ a. body_after None c j M a.cell rest x items set a.state)
     ]
 
 module _ (book : Book) (text : List ℕ) where
   -- a runner with so many levels of nesting left
   unfoldable pub runner : ℕ → Option Runner
-  runner zero = none
-  runner (suc n) = some (steps book text (runner n))
+  runner zero = None
+  runner (suc n) = Some (steps book text (runner n))
 
   -- the run of a text with so many units
   unfoldable pub run : ℕ → ℕ → Result Parsed

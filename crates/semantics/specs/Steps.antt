@@ -1,7 +1,7 @@
 -- Document 01, "The book" and "Derivations": the steps of a variant, what each takes at a place, and what is left to
 -- do of them; with those of document 02 d's binders.
 use Rattle.std.specs.Prelude.{Bool, true, false, List, map, ℕ, ◌-◌, eqb, take, drop}
-use Rattle.std.proofs.Math.Option.{Option, none, some}
+use Rattle.std.specs.Prelude.{Option, None, Some}
 use Rattle.characters.specs.Skipping.{skip_from}
 use Rattle.characters.specs.Spelling.{same}
 use Rattle.characters.specs.Lexemes.{number_at}
@@ -39,54 +39,54 @@ abbrev pub read : ℕ → Option Item → Taken
 read next item = token (record { next = next; item = item })
 
 abbrev pub read_variable : Read Variable → Taken
-read_variable v = read v.end (some v.value.item)
+read_variable v = read v.end (Some v.value.item)
 
 -- "Every token skips first; what follows it is unskipped"; "Kinds 2 to 5 .. add one item, others none; 6 and 7 don't
 -- move the place"
 unfoldable pub step_at : Book → List ℕ → Scope → Step → ℕ → Taken
 step_at book text scope (Step.Character a) x = elim (character_end text a x)
-    [ some end ↦ read end none | none ↦ nothing ]
+    [ Some end ↦ read end None | None ↦ nothing ]
 step_at book text scope (Step.Word a) x =
     let at = skip_from text x in
     elim (identifier_end text at) [
-      | some end ↦ when (same (spelled text at end) (nth_entry book.words a).spelling)
-          (λ _. read end none) (λ _. nothing)
-      | none ↦ nothing
+      | Some end ↦ when (same (spelled text at end) (nth_entry book.words a).spelling)
+          (λ _. read end None) (λ _. nothing)
+      | None ↦ nothing
     ]
 step_at book text scope Step.Identifier x =
     let at = skip_from text x in
-    elim (free_end book text at) [ some end ↦ read end (some (name at (end - at))) | none ↦ nothing ]
+    elim (free_end book text at) [ Some end ↦ read end (Some (name at (end - at))) | None ↦ nothing ]
 step_at book text scope Step.Number x =
     elim (number_at text (skip_from text x)) [
-      | Number.Value value end ↦ read end (some (number value))
+      | Number.Value value end ↦ read end (Some (number value))
       | Number.TooLarge ↦ nothing
       | Number.Nothing ↦ nothing
     ]
 step_at book text scope Step.Variable x =
-    elim (variable_at book text scope (skip_from text x)) [ some v ↦ read_variable v | none ↦ nothing ]
+    elim (variable_at book text scope (skip_from text x)) [ Some v ↦ read_variable v | None ↦ nothing ]
 step_at book text scope (Step.VariableOfKind a) x =
     elim (variable_at book text scope (skip_from text x)) [
-      | some v ↦ when (eqb v.value.kind a) (λ _. read_variable v) (λ _. nothing)
-      | none ↦ nothing
+      | Some v ↦ when (eqb v.value.kind a) (λ _. read_variable v) (λ _. nothing)
+      | None ↦ nothing
     ]
 step_at book text scope Step.RejectVariable x =
-    elim (variable_at book text scope (skip_from text x)) [ some v ↦ nothing | none ↦ read x none ]
+    elim (variable_at book text scope (skip_from text x)) [ Some v ↦ nothing | None ↦ read x None ]
 step_at book text scope Step.RejectReserved x =
-    when (reserved_at book text (skip_from text x)) (λ _. nothing) (λ _. read x none)
+    when (reserved_at book text (skip_from text x)) (λ _. nothing) (λ _. read x None)
 step_at book text scope (Step.Nonterminal M) x = child M
 step_at book text scope (Step.Optional M) x = optional M
-step_at book text scope (Step.Many M) x = list false M none x
-step_at book text scope (Step.CommaList M) x = list true M none x
+step_at book text scope (Step.Many M) x = list false M None x
+step_at book text scope (Step.CommaList M) x = list true M None x
 step_at book text scope (Step.Delimited M b c) x =
-    elim (character_end text b x) [ some y ↦ list true M (some c) y | none ↦ nothing ]
+    elim (character_end text b x) [ Some y ↦ list true M (Some c) y | None ↦ nothing ]
 -- "If .. an optional opening is there it must be taken; without its opening kind 13 is the empty list"; "an optional
 -- opening in vain, still leaves the place skipped"
 step_at book text scope (Step.OptionalDelimited M b c) x =
-    elim (character_end text b x) [ some y ↦ list true M (some c) y | none ↦ unopened (skip_from text x) ]
+    elim (character_end text b x) [ Some y ↦ list true M (Some c) y | None ↦ unopened (skip_from text x) ]
 -- document 02 d, "an opening character, a comma list of names, a closing character, and a body; without the opening,
 -- the body alone"
 step_at book text scope (Step.Binder M b c) x =
-    elim (character_end text b x) [ some y ↦ names c M y | none ↦ body M ]
+    elim (character_end text b x) [ Some y ↦ names c M y | None ↦ body M ]
 
 -- ---- Lists
 -- after an element the list goes on at a place, or halts there
@@ -99,12 +99,12 @@ module _ (text : List ℕ) where
   unfoldable pub after_element : Bool → ℕ → After
   after_element false place = goes place
   after_element true place =
-      elim (character_end text 44 place) [ some end ↦ goes end | none ↦ halts (skip_from text place) ]
+      elim (character_end text 44 place) [ Some end ↦ goes end | None ↦ halts (skip_from text place) ]
 
   -- behind a list: the closing of a delimited one, or nothing
   unfoldable pub closed : Option ℕ → ℕ → Option ℕ
-  closed none place = some place
-  closed (some c) place = character_end text c place
+  closed None place = Some place
+  closed (Some c) place = character_end text c place
 
 -- ---- What is left to do
 -- a step; the elements of a list, with or without commas, of a nonterminal, after those already read, up to a

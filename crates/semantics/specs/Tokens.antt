@@ -1,14 +1,12 @@
 -- Document 01, "The book" and "Derivations": characters, identifiers and variables at a place of the text, and the
 -- claim of a mark-1 use; with document 02 d, variables in a scope and declared names.
 use Rattle.std.specs.Prelude.{Bool, true, false, ◌&&◌, ◌||◌, List, [], ◌∷◌, ℕ, suc, ◌+◌, ◌-◌, ltb, eqb, length, get_or}
-use Rattle.std.proofs.Math.Option.{Option, none, some}
+use Rattle.std.specs.Prelude.{Option, None, Some}
 use Rattle.characters.specs.Skipping.{skip_from}
 use Rattle.characters.specs.Spelling.{part_of}
 use Rattle.characters.specs.Lexemes.{identifier_at}
-use Rattle.characters.specs.declared.lexemes.Identifier.{Identifier}
 use Rattle.book.specs.Book.{Entry, Book, is_reserved, lookup_name, kind_word}
-use Rattle.book.specs.declared.names.Found.{Found}
-use Rattle.book.specs.declared.names.KindWord.{KindWord}
+use Rattle.book.specs.declared.names.StartingName.{StartingName}
 use Rattle.semantics.specs.Uses.{within, behind, Path, Scope, scope_of, has_mark}
 
 -- a branch waits for its test
@@ -17,8 +15,8 @@ when true f g = f tt
 when false f g = g tt
 
 unfoldable pub is_some : {A : Type 0} → Option A → Bool
-is_some none = false
-is_some (some a) = true
+is_some None = false
+is_some (Some a) = true
 
 -- what a token adds: an identifier by the place and length of its spelling; a number; a variable that is a starting
 -- name by its number and kind; one that is declared by its binder's depth outwards and its index within that binder
@@ -43,13 +41,13 @@ pub record Read (A : Type 0) : Type 0 where
 unfoldable pub variable_in : List Entry → ℕ → Scope → List ℕ → Option Variable
 variable_in names d [] spelling =
     elim (lookup_name names spelling) [
-      | Found.Name i kind ↦ some (record { kind = kind; item = variable i kind })
-      | Found.Nothing ↦ none
+      | Some n ↦ Some (record { kind = n.kind; item = variable n.number n.kind })
+      | None ↦ None
     ]
 variable_in names d (binder ∷ scope) spelling =
     elim (lookup_name binder spelling) [
-      | Found.Name i kind ↦ some (record { kind = kind; item = declared d i })
-      | Found.Nothing ↦ variable_in names (suc d) scope spelling
+      | Some n ↦ Some (record { kind = n.kind; item = declared d n.number })
+      | None ↦ variable_in names (suc d) scope spelling
     ]
 
 module _ (text : List ℕ) where
@@ -57,11 +55,11 @@ module _ (text : List ℕ) where
   unfoldable pub character_end : ℕ → ℕ → Option ℕ
   character_end a place =
       let at = skip_from text place in
-      when (ltb at (length text) && eqb (get_or text at 0) a) (λ _. some (at + 1)) (λ _. none)
+      when (ltb at (length text) && eqb (get_or text at 0) a) (λ _. Some (at + 1)) (λ _. None)
 
   -- an identifier at a place: its end
   unfoldable pub identifier_end : ℕ → Option ℕ
-  identifier_end at = elim (identifier_at text at) [ Identifier.Ends end ↦ some end | Identifier.Nothing ↦ none ]
+  identifier_end at = identifier_at text at
 
   abbrev pub spelled : ℕ → ℕ → List ℕ
   spelled at end = part_of text at (end - at)
@@ -70,23 +68,23 @@ module _ (book : Book) (text : List ℕ) where
   -- whether a reserved word stands at a place
   unfoldable pub reserved_at : ℕ → Bool
   reserved_at at =
-      elim (identifier_end text at) [ some end ↦ is_reserved book.words (spelled text at end) | none ↦ false ]
+      elim (identifier_end text at) [ Some end ↦ is_reserved book.words (spelled text at end) | None ↦ false ]
 
   -- an identifier that is not reserved, of kind 2, of a mark-2 use and of a declared name: "2, 4, 5 and a mark-2 use
   -- refuse a reserved word", and by document 02 f "Identifiers still refuse reserved words"
   unfoldable pub free_end : ℕ → Option ℕ
-  free_end at = when (reserved_at at) (λ _. none) (λ _. identifier_end text at)
+  free_end at = when (reserved_at at) (λ _. None) (λ _. identifier_end text at)
 
   -- a variable at a place of a scope: a name, reserved or not. Document 02 f: "The starting name shall win in steps of
   -- kinds 4 and 5, in kind 6 and in the claim of mark 1"
   unfoldable pub variable_at : Scope → ℕ → Option (Read Variable)
   variable_at scope at =
       elim (identifier_end text at) [
-        | some end ↦ elim (variable_in book.names 0 scope (spelled text at end)) [
-          | some v ↦ some (record { end = end; value = v })
-          | none ↦ none
+        | Some end ↦ elim (variable_in book.names 0 scope (spelled text at end)) [
+          | Some v ↦ Some (record { end = end; value = v })
+          | None ↦ None
         ]
-        | none ↦ none
+        | None ↦ None
       ]
 
   -- whether an enclosing mark-1 use of the same scope begins at a place
@@ -105,21 +103,21 @@ module _ (book : Book) (text : List ℕ) where
   unfoldable pub kind_at : ℕ → Option (Read ℕ)
   kind_at at =
       elim (identifier_end text at) [
-        | some end ↦ elim (kind_word book.words (spelled text at end)) [
-          | KindWord.Kind kind ↦ some (record { end = end; value = kind })
-          | KindWord.Nothing ↦ none
+        | Some end ↦ elim (kind_word book.words (spelled text at end)) [
+          | Some kind ↦ Some (record { end = end; value = kind })
+          | None ↦ None
         ]
-        | none ↦ none
+        | None ↦ None
       ]
 
   -- a name of a kind, at a place
   unfoldable pub name_of_kind : ℕ → ℕ → Option (Read Entry)
   name_of_kind kind at =
       elim (free_end at) [
-        | some end ↦ some (record { end = end; value = record { label = kind; spelling = spelled text at end } })
-        | none ↦ none
+        | Some end ↦ Some (record { end = end; value = record { label = kind; spelling = spelled text at end } })
+        | None ↦ None
       ]
 
   -- a declared name at a place, with its kind for its label
   unfoldable pub declaration_at : ℕ → Option (Read Entry)
-  declaration_at at = elim (kind_at at) [ some k ↦ name_of_kind k.value (skip_from text k.end) | none ↦ none ]
+  declaration_at at = elim (kind_at at) [ Some k ↦ name_of_kind k.value (skip_from text k.end) | None ↦ None ]

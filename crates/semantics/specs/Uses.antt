@@ -1,6 +1,6 @@
 -- Document 01, "Derivations": uses, paths and governors; with document 02 d, scopes.
 use Rattle.std.specs.Prelude.{Bool, true, false, ◌&&◌, List, [], ◌∷◌, ℕ, zero, suc, leb, ltb, eqb}
-use Rattle.std.proofs.Math.Option.{Option, none, some}
+use Rattle.std.specs.Prelude.{Option, None, Some}
 use Rattle.book.specs.Book.{Entry, Book, nth_nonterminal, nth_variant, mark_number}
 use Rattle.book.specs.declared.records.Associativity.{Associativity}
 use Rattle.semantics.specs.Values.{Parse}
@@ -37,8 +37,8 @@ Path = List Enclosing
 
 -- the path of a body: behind its opening, or, without one, as it is
 abbrev pub behind_any : Option (List Entry) → Path → Path
-behind_any none path = path
-behind_any (some names) path = behind names ∷ path
+behind_any None path = path
+behind_any (Some names) path = behind names ∷ path
 
 -- document 02 d, "Derivations are now taken over a scope as well as a place": the scope of a use is the names declared
 -- in the openings around it, the innermost binder first

@@ -5,7 +5,7 @@
 -- - what lies elsewhere stays: parse_apart, list_moved, list_apart
 -- - lists of parses: list_length, list_snoc, list_item
 -- - counts: count_le, count_suc
--- - sets: set_length, set_list, set_le, size_le, set_apart, set_none, set_item
+-- - sets: set_length, set_list, list_whole, set_le, size_le, set_apart, set_none, set_item
 -- - a parse that is put, number by number: put_length, put_only, put_parse_at
 use Rattle.std.specs.Prelude.{◌≡◌, refl, Bool, true, false, cond, List, [], ◌∷◌, ◌++◌, ◌⊎◌, ℕ, zero, suc, ◌+◌, ◌*◌, ◌<◌}
 use Rattle.std.specs.Prelude.{◌≤◌, ltb, get_or, set, length}
@@ -115,6 +115,11 @@ set_length f b = list_length f (b + 1) (count_of (get_or f b 0))
 pub set_list : (f : List ℕ) (b n : ℕ) → n ≡ length (set_at f b) → set_at f b ≡ list_at f (b + 1) n
 unfolding set_at
 set_list f b n e = let q : n ≡ count_of (get_or f b 0) = e ∙ list_length f (b + 1) (count_of (get_or f b 0)) in rw q
+
+-- its parses, from the place of the first one on
+pub list_whole : (f : List ℕ) (b at k n : ℕ) → n ≡ length (set_at f b) → at ≡ b + 1 → k ≡ n →
+    list_at f at k ≡ set_at f b
+list_whole f b at k n e place all = rw (place, all) (sym (set_list f b n e))
 
 pub set_le : (f : List ℕ) (b : ℕ) → length (set_at f b) ≤ 64
 set_le f b = rw (set_length f b) (count_le (get_or f b 0))

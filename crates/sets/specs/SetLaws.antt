@@ -7,12 +7,11 @@
 -- - add: add_had, add_new
 -- - all_in: q is the parse that the loop has read: all_on, all_not, all_end
 -- - add_all: Joining, joining_start, joining_again, joining_full, joining_end
--- - copy: Copying, copying_start, copying_again, copying_end
+-- - copy: copied
 -- - kept: keep_yes, keep_no, Keeping, keeping_start, keeping_again, keeping_end
 use Rattle.std.specs.Prelude.{◌≡◌, refl, Bool, true, false, cond, List, [], ◌∷◌, ◌++◌, ltb, get_or, set, length}
 use Rattle.std.proofs.Math.Path.{sym}
 use Rattle.std.proofs.Common.{◌∙◌, append_assoc, append-nil, inl, inr, arith, sub-one, length-append, get_or-set_same}
-use Rattle.std.proofs.Common.{get_or-set_other, below_more}
 use Prim.Native.Nat.{ℕ, zero, suc, ◌+◌, ◌-◌, ◌*◌, ◌<◌, ◌≤◌}
 use borrow.Author.Tests.{lt-ltb, le-ltb}
 use Rattle.book.specs.declared.records.Associativity.{Associativity}
@@ -67,10 +66,9 @@ module _ (p q : Parse ℕ) (f : List ℕ) (b : ℕ) (t : Bool) (e : q ≡ parse_
   has_hit zero h y = absurd (omega arith)
   has_hit (suc k) h y = rw (← e, sym m ∙ y, has)
 
-  pub has_miss : (k : ℕ) → 0 < k → t ≡ false → has (list_at f b k) p ≡ has (list_at f (b + 4) (k - 1)) p
+  pub has_miss : (k b' k' : ℕ) → b' ≡ b + 4 → k ≡ suc k' → t ≡ false → has (list_at f b k) p ≡ has (list_at f b' k') p
   unfolding has list_at
-  has_miss zero h n = absurd (omega arith)
-  has_miss (suc k) h n = rw (sub-one, ← e, sym m ∙ n, has)
+  has_miss k b' k' next less n = rw (less, next, ← e, sym m ∙ n, has)
 
 pub has_none : (p : Parse ℕ) (f : List ℕ) (b k : ℕ) → k ≤ 0 → has (list_at f b k) p ≡ false
 unfolding has list_at
@@ -146,10 +144,10 @@ add_new f g b p t r h k a =
 -- ---- all_in: q is the parse that the loop has read
 module _ (set : List (Parse ℕ)) (q : Parse ℕ) (f : List ℕ) (b : ℕ) (t : Bool) (e : q ≡ parse_at f b)
     (m : t ≡ has set q) where
-  pub all_on : (k : ℕ) → 0 < k → t ≡ true → all_in set (list_at f b k) ≡ all_in set (list_at f (b + 4) (k - 1))
+  pub all_on : (k b' k' : ℕ) → b' ≡ b + 4 → k ≡ suc k' → t ≡ true →
+      all_in set (list_at f b k) ≡ all_in set (list_at f b' k')
   unfolding all_in list_at
-  all_on zero h y = absurd (omega arith)
-  all_on (suc k) h y = rw (sub-one, ← e, sym m ∙ y, all_in)
+  all_on k b' k' next less y = rw (less, next, ← e, sym m ∙ y, all_in)
 
   pub all_not : (k : ℕ) → 0 < k → t ≡ false → all_in set (list_at f b k) ≡ false
   unfolding all_in list_at
@@ -187,10 +185,11 @@ parse_of_lem : {f g : List ℕ} (into from at : ℕ) → Apart into from → Onl
 parse_of_lem into from at (inl a) o l h = parse_apart at o (inr (omega arith))
 parse_of_lem into from at (inr a) o l h = parse_apart at o (inl (omega arith))
 
-pub joining_start : (f : List ℕ) (into from n : ℕ) → n ≡ length (set_at f from) → Joining f f into from (from + 1) n
-joining_start f into from n e =
+pub joining_start : (f : List ℕ) (into from at n : ℕ) → n ≡ length (set_at f from) → at ≡ from + 1 →
+    Joining f f into from at n
+joining_start f into from at n e place =
     record {
-      now = λ s. rw (set_list f from n e);
+      now = λ s. rw (set_list f from n e, place);
       only = only_refl;
       low = omega arith;
       high = omega (arith, set_le f from);
@@ -201,10 +200,11 @@ module _ (f g g' : List ℕ) (into from at left : ℕ) (far : Apart into from) (
   joined : (s : State) → add s (set_at g into) (parse_at f at) ≡ result r (set_at g' into) s
   joined s = rw (← parse_of_lem into from at far J.only (omega (arith, J.low)) (omega (arith, J.high)), ← e) (A.now s)
 
-  pub joining_again : r ≡ true → Joining f g' into from (at + 4) (left - 1)
-  joining_again y =
+  pub joining_again : (at' left' : ℕ) → at' ≡ at + 4 → left' ≡ left - 1 → r ≡ true → Joining f g' into from at' left'
+  joining_again at' left' next less y =
       record {
-        now = λ s. sym (add_on s (set_at g into) (set_at g' into) f at left h (rw y at (joined s))) ∙ J.now s;
+        now = λ s. rw (next, less)
+            (sym (add_on s (set_at g into) (set_at g' into) f at left h (rw y at (joined s))) ∙ J.now s);
         only = only_trans J.only A.only;
         low = omega (arith, J.low);
         high = omega (arith, J.high);
@@ -225,32 +225,13 @@ joining_end f g into from at left J h =
     record { now = λ s. sym (rw z at (J.now s)); only = J.only }
 
 -- ---- copy
--- the first k numbers of the set at `into` are those of the set at `from`
-pub record Copying (f g : List ℕ) (into from k : ℕ) : Type 0 where
-  pub same : (i : ℕ) → i < k → get_or g (into + i) 0 ≡ get_or f (from + i) 0
-  pub only : Only f g into 257
-
-pub copying_start : (f : List ℕ) (into from : ℕ) → Copying f f into from 0
-copying_start f into from = record { same = λ i h. absurd (omega arith); only = only_refl }
-
-number_of : {f g : List ℕ} (into from i : ℕ) → Apart into from → Only f g into 257 → i < 257 →
-    get_or g (from + i) 0 ≡ get_or f (from + i) 0
-number_of into from i (inl a) o h = o.high (from + i) (omega arith)
-number_of into from i (inr a) o h = o.low (from + i) (omega arith)
-
-pub copying_again : (f g : List ℕ) (into from k : ℕ) → Apart into from → Copying f g into from k → k < 257 →
-    into + k < length g → Copying f (set g (into + k) (get_or g (from + k) 0)) into from (k + 1)
-copying_again f g into from k far C h len =
-    record {
-      same = below_more (λ i. get_or (set g (into + k) (get_or g (from + k) 0)) (into + i) 0 ≡ get_or f (from + i) 0) k
-          (λ i l. get_or-set_other g (into + k) (into + i) (get_or g (from + k) 0) 0 (λ e. omega arith) ∙ C.same i l)
-          (get_or-set_same g (into + k) (get_or g (from + k) 0) 0 len ∙ number_of into from k far C.only h);
-      only = only_trans C.only (only_set g (into + k) (get_or g (from + k) 0) into 257 (omega arith) (omega arith));
-    }
-
-pub copying_end : (f g : List ℕ) (into from k n : ℕ) → n ≡ length (set_at f from) → 1 + 4 * n ≤ k →
-    Copying f g into from k → Becomes f g into (set_at f from)
-copying_end f g into from k n e h C =
+-- the numbers of the set at `from` were written over those of the set at `into`, k of them
+pub copied : (f g : List ℕ) (into from k n : ℕ) → n ≡ length (set_at f from) → k ≡ 1 + 4 * n →
+    ((i : ℕ) → i < k → get_or g (into + i) 0 ≡ get_or f (from + i) 0) →
+    ((i : ℕ) → i < into → get_or g i 0 ≡ get_or f i 0) →
+    ((i : ℕ) → into + k ≤ i → get_or g i 0 ≡ get_or f i 0) →
+    Becomes f g into (set_at f from)
+copied f g into from k n e size same low high =
     record {
       now =
           set_list g into n (e ∙ set_length f from
@@ -258,11 +239,11 @@ copying_end f g into from k n e h C =
           ∙ list_moved f g (from + 1) (into + 1) n
           (λ i j l m q. at j i (i - from) (omega arith) (omega arith) (omega arith))
           ∙ sym (set_list f from n e);
-      only = C.only;
+      only = record { low = low; high = λ i l. high i (omega (arith, set_le f from)) };
     }
   where
     at : (j i x : ℕ) → j ≡ into + x → i ≡ from + x → x < k → get_or g j 0 ≡ get_or f i 0
-    at j i x u v l = rw (u, v) (C.same x l)
+    at j i x u v l = rw (u, v) (same x l)
 
 -- ---- kept
 pub keep_yes : (f g : List ℕ) (b : ℕ) (p : Parse ℕ) (t u r : Bool) → t ≡ u → t ≡ true → Appended r f g b p →
@@ -307,27 +288,29 @@ pub record Keeping (f g : List ℕ) (into from : ℕ) (associativity : Associati
   pub low : from + 1 ≤ at
   pub high : at + 4 * left ≤ from + 257
 
-pub keeping_start : (f : List ℕ) (into from : ℕ) (a : Associativity) (l n : ℕ) → set_at f into ≡ [] →
-    n ≡ length (set_at f from) → Keeping f f into from a l (from + 1) n
-keeping_start f into from a l n z e =
+pub keeping_start : (f : List ℕ) (into from : ℕ) (a : Associativity) (l at n : ℕ) → set_at f into ≡ [] →
+    n ≡ length (set_at f from) → at ≡ from + 1 → Keeping f f into from a l at n
+keeping_start f into from a l at n z e place =
     record {
-      now = λ u v w. rw (z, set_list f from n e);
+      now = λ u v w. rw (z, set_list f from n e, place);
       only = only_refl;
       room = rw z (omega (arith, set_le f from));
       low = omega arith;
       high = omega (arith, set_le f from);
     }
 
-pub keeping_again : (f g g' : List ℕ) (into from : ℕ) (a : Associativity) (l at left : ℕ) (q : Parse ℕ) →
-    Apart into from → Keeping f g into from a l at left →
+pub keeping_again : (f g g' : List ℕ) (into from : ℕ) (a : Associativity) (l at left at' left' : ℕ) (q : Parse ℕ) →
+    at' ≡ at + 4 → left' ≡ left - 1 → Apart into from → Keeping f g into from a l at left →
     0 < left → q ≡ parse_at g at → Becomes g g' into (keep_end (keeps_level a l q.level) (set_at g into) q) →
-    Keeping f g' into from a l (at + 4) (left - 1)
-keeping_again f g g' into from a l at left q far K h e B =
+    Keeping f g' into from a l at' left'
+keeping_again f g g' into from a l at left at' left' q next less far K h e B =
     let p : q ≡ parse_at f at =
     e ∙ parse_of_lem into from at far K.only (omega (arith, K.low)) (omega (arith, K.high)) in
     record {
       now = λ u v w.
           rw (
+            next,
+            less,
             B.now,
             keep_turn (keeps_level a l q.level) (set_at g into) (kept u (list_at f (at + 4) (left - 1))) q
                 (omega (arith, K.room)),

@@ -12,10 +12,10 @@
 // laws.
 #![tactic(auto)]
 
-ghost use Rattle.std.specs.Prelude.{◌≡◌, [], ◌+◌, ◌≤◌, get_or, length};
+ghost use Rattle.std.specs.Prelude.{◌≡◌, [], ◌+◌, ◌*◌, ◌<◌, ◌≤◌, get_or, length};
 ghost use Rattle.book.specs.Book.{associativity_number};
 ghost use Rattle.book.specs.Check.{associativity_of};
-ghost use Rattle.semantics.specs.Numbers.{parse_size};
+ghost use Rattle.semantics.specs.Numbers.{most_parses, parse_size};
 ghost use Rattle.semantics.specs.Values.{absent_parse};
 ghost use Rattle.semantics.specs.Uses.{keeps_level};
 ghost use Rattle.semantics.specs.Run as run;
@@ -24,7 +24,7 @@ ghost use Rattle.sets.specs.Sets.{Apart, Becomes, Appended, Added, AllAdded, Kep
 
 use book::Associativity;
 
-#[derive(Clone, Copy)]
+#[derive(Clone, Copy, PartialEq, Eq, Debug)]
 pub struct Parse {
     pub rest: u32,
     pub level: u32,
@@ -45,7 +45,8 @@ pub const PARSES_SIZE: usize = PARSE_SIZE * MOST_PARSES;
 pub const SET_SIZE: usize = 1 + PARSES_SIZE;
 
 // ---- One parse
-// The associativity that a number says, any number above 2 being Both.
+// The associativity that a number says, any number above 2 being Both. No `From`, here and below: neither type is this
+// crate's.
 pub fn associativity_of(number: u32) -> Associativity
     ensures { result ≡ associativity_of number }
 {
@@ -61,31 +62,18 @@ pub fn associativity_of(number: u32) -> Associativity
 pub fn associativity_number(associativity: Associativity) -> u32
     ensures { result ≡ associativity_number associativity }
 {
-    match associativity {
-        Associativity::Left => 0,
-        Associativity::Right => 1,
-        Associativity::None => 2,
-        Associativity::Both => 3,
-    }
+    associativity as u32
 }
 
+// `==`, in the run's words.
+#[tactic(auto, unfolding(semantics::specs::Run::same_parse))]
 fn same_parse(p: Parse, q: Parse) -> bool
     ensures { result ≡ run.same_parse (parse_of p) (parse_of q) }
 {
-    if p.rest != q.rest {
-        return false;
-    }
-    if p.level != q.level {
-        return false;
-    }
-    let a = p.associativity;
-    let b = q.associativity;
-    if associativity_number(a) != associativity_number(b) {
-        return false;
-    }
-    p.value == q.value
+    p == q
 }
 
+// The slice is lent, by C too: a parse goes by the places of its numbers.
 fn parse_at(numbers: &[u32], at: usize) -> Parse
     requires { at + parse_size ≤ length numbers.now }
     ensures { parse_of result ≡ parse_at numbers.now at }
@@ -103,39 +91,46 @@ pub fn put_parse(numbers: &mut [u32], at: usize, p: Parse)
     requires { at + parse_size ≤ length numbers.old }
     ensures { numbers.new ≡ put_parse numbers.old at (parse_of p) }
 {
-    let associativity = p.associativity;
     numbers[at] = p.rest;
     numbers[at + 1] = p.level;
-    numbers[at + 2] = associativity_number(associativity);
+    numbers[at + 2] = associativity_number(p.associativity);
     numbers[at + 3] = p.value;
 }
 
 // ---- A set
+#[tactic(auto, using(crate::specs::PlaceLaws::set_length))]
 pub fn size(numbers: &[u32], place: usize) -> usize
     requires { HasSet place numbers.now }
     ensures { result ≡ length (set_at numbers.now place) }
 {
     let count = numbers[place] as usize;
-    if count < MOST_PARSES {
-        count
-    } else {
-        MOST_PARSES
-    }
+    count.min(MOST_PARSES)
+}
+
+// The i-th parse of a set that has more than i.
+fn item(numbers: &[u32], place: usize, i: usize) -> Parse
+    requires set { HasSet place numbers.now }
+    requires inside { i < most_parses }
+    ensures { parse_of result ≡ parse_at numbers.now (place + 1 + parse_size * i) }
+{
+    parse_at(numbers, place + 1 + PARSE_SIZE * i)
 }
 
 // The i-th parse of a set, and a parse of zeros past its end.
+#[tactic(auto, using(crate::specs::PlaceLaws::size_le, crate::specs::PlaceLaws::set_item))]
 pub fn nth_parse(numbers: &[u32], place: usize, i: usize) -> Parse
     requires { HasSet place numbers.now }
     ensures { parse_of result ≡ get_or (set_at numbers.now place) i absent_parse }
 {
     if i < size(numbers, place) {
-        return parse_at(numbers, place + 1 + PARSE_SIZE * i);
-    }
-    Parse {
-        rest: 0,
-        level: 0,
-        associativity: Associativity::Left,
-        value: 0,
+        item(numbers, place, i)
+    } else {
+        Parse {
+            rest: 0,
+            level: 0,
+            associativity: Associativity::Left,
+            value: 0,
+        }
     }
 }
 
@@ -146,23 +141,22 @@ pub fn clear(numbers: &mut [u32], place: usize)
     numbers[place] = 0;
 }
 
+#[tactic(auto, using(crate::specs::PlaceLaws::size_le))]
 fn has(numbers: &[u32], place: usize, p: Parse) -> bool
     requires { HasSet place numbers.now }
     ensures { result ≡ run.has (set_at numbers.now place) (parse_of p) }
 {
-    let mut at = place + 1;
-    let mut left = size(numbers, place);
-    while 0 < left {
-        if same_parse(p, parse_at(numbers, at)) {
+    for i in 0..size(numbers, place) {
+        if same_parse(p, item(numbers, place, i)) {
             return true;
         }
-        at += PARSE_SIZE;
-        left -= 1;
     }
     false
 }
 
-// One parse more at the end of a set, unless it has 64; false if it has.
+// One parse more at the end of a set, unless it has 64; false if it has. This and the next two answer a truth value and
+// no Result: `Appended`, `Added` and `AllAdded`, which the contracts of the callers cite, are about one.
+#[tactic(auto, using(crate::specs::SetLaws::append_full))]
 pub fn append(numbers: &mut [u32], place: usize, p: Parse) -> bool
     requires { HasSet place numbers.old }
     ensures { Appended result numbers.old numbers.new place (parse_of p) }
@@ -178,63 +172,52 @@ pub fn append(numbers: &mut [u32], place: usize, p: Parse) -> bool
 }
 
 // A parse joins a set; false for a 65th.
+#[tactic(auto, using(crate::specs::SetLaws::add_had))]
 pub fn add(numbers: &mut [u32], place: usize, p: Parse) -> bool
     requires { HasSet place numbers.old }
     ensures { Added result numbers.old numbers.new place (parse_of p) }
 {
-    if has(numbers, place, p) {
-        return true;
-    }
-    append(numbers, place, p)
+    has(numbers, place, p) || append(numbers, place, p)
 }
 
 // ---- Two sets
 // The parses of the set at `from` are all in the set at `into`.
+#[tactic(auto, using(crate::specs::PlaceLaws::size_le))]
 pub fn all_in(numbers: &[u32], into: usize, from: usize) -> bool
     requires { HasSet into numbers.now × HasSet from numbers.now }
     ensures { result ≡ run.all_in (set_at numbers.now into) (set_at numbers.now from) }
 {
-    let mut at = from + 1;
-    let mut left = size(numbers, from);
-    while 0 < left {
-        if !has(numbers, into, parse_at(numbers, at)) {
+    for i in 0..size(numbers, from) {
+        if !has(numbers, into, item(numbers, from, i)) {
             return false;
         }
-        at += PARSE_SIZE;
-        left -= 1;
     }
     true
 }
 
 // The set at `from` joins the set at `into`; false for a 65th.
+#[tactic(auto, using(crate::specs::PlaceLaws::size_le))]
 pub fn add_all(numbers: &mut [u32], into: usize, from: usize) -> bool
     requires { HasSet into numbers.old × HasSet from numbers.old × Apart into from }
     ensures { AllAdded result numbers.old numbers.new into from }
 {
-    let mut at = from + 1;
-    let mut left = size(numbers, from);
-    while 0 < left {
-        let p = parse_at(numbers, at);
+    for i in 0..size(numbers, from) {
+        let p = item(numbers, from, i);
         if !add(numbers, into, p) {
             return false;
         }
-        at += PARSE_SIZE;
-        left -= 1;
     }
     true
 }
 
 // The set at `into` becomes the set at `from`.
+#[tactic(auto, using(crate::specs::PlaceLaws::size_le))]
 pub fn copy(numbers: &mut [u32], into: usize, from: usize)
     requires { HasSet into numbers.old × HasSet from numbers.old × Apart into from }
     ensures { Becomes numbers.old numbers.new into (set_at numbers.old from) }
 {
     let most = 1 + PARSE_SIZE * size(numbers, from);
-    let mut i = 0;
-    while i < most {
-        numbers[into + i] = numbers[from + i];
-        i += 1;
-    }
+    numbers.copy_within(from..from + most, into);
 }
 
 // ---- What a use keeps
@@ -244,13 +227,13 @@ fn keeps_level(associativity: Associativity, level: u32, found: u32) -> bool
 {
     match associativity {
         Associativity::Left => level <= found,
-        Associativity::Right => level < found,
-        Associativity::None => level < found,
+        Associativity::Right | Associativity::None => level < found,
         Associativity::Both => true,
     }
 }
 
 // A parse goes to the end of a set, if it is kept.
+#[tactic(auto, using(crate::specs::SetLaws::keep_no))]
 fn keep(numbers: &mut [u32], place: usize, associativity: Associativity, level: u32, p: Parse)
     requires { HasSet place numbers.old }
     ensures { Becomes numbers.old numbers.new place
@@ -262,6 +245,7 @@ fn keep(numbers: &mut [u32], place: usize, associativity: Associativity, level: 
 }
 
 // The set at `into` becomes what a use of this associativity and level keeps of the set at `from`.
+#[tactic(auto, using(crate::specs::PlaceLaws::size_le))]
 pub fn put_kept(
     numbers: &mut [u32],
     into: usize,
@@ -273,12 +257,8 @@ pub fn put_kept(
     ensures { Kept numbers.old numbers.new into from associativity level }
 {
     clear(numbers, into);
-    let mut at = from + 1;
-    let mut left = size(numbers, from);
-    while 0 < left {
-        let p = parse_at(numbers, at);
+    for i in 0..size(numbers, from) {
+        let p = item(numbers, from, i);
         keep(numbers, into, associativity, level, p);
-        at += PARSE_SIZE;
-        left -= 1;
     }
 }

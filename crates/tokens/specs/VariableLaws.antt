@@ -8,11 +8,11 @@ use Rattle.std.specs.Prelude.{◌≡◌, Bool, true, false, ℕ, suc}
 use Rattle.std.proofs.Math.Path.{refl, sym}
 use Rattle.std.proofs.Common.{◌∙◌}
 use mathlib.Core.List.{List, [], ◌∷◌}
-use Rattle.std.proofs.Math.Option.{Option, none, some}
+use Rattle.std.specs.Prelude.{Option, None, Some}
 use Rattle.characters.specs.Cases.{clash}
 use Rattle.characters.specs.Skipping.{skip_from}
 use Rattle.book.specs.Book.{Book, Entry, lookup_from, lookup_name}
-use Rattle.book.specs.declared.names.Found.{Found}
+use Rattle.book.specs.declared.names.StartingName.{StartingName}
 use Rattle.book.specs.declared.records.Step.{Step}
 use Rattle.semantics.specs.Uses.{Scope}
 use Rattle.semantics.specs.Tokens.{Variable, Read, identifier_end, spelled, variable_in, variable_at, is_some}
@@ -20,7 +20,7 @@ use Rattle.semantics.specs.Steps.{nothing, read, step_at}
 use Rattle.semantics.specs.Errors.{error, step_error}
 use Rattle.semantics.specs.Numbers.{wrong_kind}
 use Rattle.calls.specs.NamesLaws.{or_else}
-use Rattle.tokens.specs.Maps.{starting_as, starting_name, variable_taken, has_kind}
+use Rattle.tokens.specs.Maps.{starting_name, variable_taken, has_kind}
 
 -- ---- Declared names, then starting names
 names_behind : (names : List Entry) (d : ℕ) (scope : Scope) (spelling : List ℕ) →
@@ -30,80 +30,80 @@ names_behind names d [] spelling = refl
 names_behind names d (binder ∷ scope) spelling =
     by (lookup_name binder spelling) refl (names_behind names (suc d) scope spelling)
   where
-    by : (f : Found) → f ≡ lookup_name binder spelling →
+    by : (f : Option StartingName) → f ≡ lookup_name binder spelling →
         variable_in names (suc d) scope spelling
         ≡ or_else (variable_in [] (suc d) scope spelling) (variable_in names 0 [] spelling) →
         variable_in names d (binder ∷ scope) spelling
         ≡ or_else (variable_in [] d (binder ∷ scope) spelling) (variable_in names 0 [] spelling)
-    by (Found.Name i kind) e h = rw (← e, variable_in)
-    by Found.Nothing e h = rw (← e, variable_in) h
+    by (Some n) e h = rw (← e, variable_in)
+    by None e h = rw (← e, variable_in) h
 
 module _ (book : Book) (text : List ℕ) (scope : Scope) (at : ℕ) where
-  pub variable_none : identifier_end text at ≡ none → none ≡ variable_at book text scope at
+  pub variable_none : identifier_end text at ≡ None → None ≡ variable_at book text scope at
   unfolding variable_at
   variable_none e = rw (e, variable_at)
 
-  module _ (end : ℕ) (e : identifier_end text at ≡ some end) where
-    named : (v : Variable) → variable_in book.names 0 scope (spelled text at end) ≡ some v →
-        some (record { end = end; value = v }) ≡ variable_at book text scope at
+  module _ (end : ℕ) (e : identifier_end text at ≡ Some end) where
+    named : (v : Variable) → variable_in book.names 0 scope (spelled text at end) ≡ Some v →
+        Some (record { end = end; value = v }) ≡ variable_at book text scope at
     unfolding variable_at
     named v f = rw (e, variable_at, f)
 
-    unnamed : variable_in book.names 0 scope (spelled text at end) ≡ none → none ≡ variable_at book text scope at
+    unnamed : variable_in book.names 0 scope (spelled text at end) ≡ None → None ≡ variable_at book text scope at
     unfolding variable_at
     unnamed f = rw (e, variable_at, f)
 
-    pub variable_declared : (v : Variable) → some v ≡ variable_in [] 0 scope (spelled text at end) →
-        some (record { end = end; value = v }) ≡ variable_at book text scope at
+    pub variable_declared : (v : Variable) → Some v ≡ variable_in [] 0 scope (spelled text at end) →
+        Some (record { end = end; value = v }) ≡ variable_at book text scope at
     unfolding or_else
     variable_declared v f = named v (names_behind book.names 0 scope (spelled text at end) ∙ rw (← f))
 
-    pub variable_starting : none ≡ variable_in [] 0 scope (spelled text at end) →
+    pub variable_starting : None ≡ variable_in [] 0 scope (spelled text at end) →
         starting_name book text at end ≡ variable_at book text scope at
-    unfolding starting_as variable_in or_else
+    unfolding variable_in or_else
     variable_starting f =
         by (lookup_name book.names (spelled text at end)) refl
         (names_behind book.names 0 scope (spelled text at end) ∙ rw (← f))
       where
-        by : (g : Found) → g ≡ lookup_name book.names (spelled text at end) →
+        by : (g : Option StartingName) → g ≡ lookup_name book.names (spelled text at end) →
             variable_in book.names 0 scope (spelled text at end)
             ≡ variable_in book.names 0 [] (spelled text at end) →
             starting_name book text at end ≡ variable_at book text scope at
-        by (Found.Name i kind) g h = rw (← g) (named _ (h ∙ rw (← g, variable_in)))
-        by Found.Nothing g h = rw (← g) (unnamed (h ∙ rw (← g, variable_in)))
+        by (Some n) g h = rw (← g) (named _ (h ∙ rw (← g, variable_in)))
+        by None g h = rw (← g) (unnamed (h ∙ rw (← g, variable_in)))
 
 -- ---- Steps
 module _ (book : Book) (text : List ℕ) (scope : Scope) (x : ℕ) where
   pub reads : (o : Option (Read Variable)) → o ≡ variable_at book text scope (skip_from text x) →
       variable_taken o ≡ step_at book text scope Step.Variable x
-  unfolding step_at variable_taken
-  reads none e = rw (← e, step_at)
-  reads (some v) e = rw (← e, step_at)
+  unfolding step_at
+  reads None e = rw (← e, step_at)
+  reads (Some v) e = rw (← e, step_at)
 
   pub of_kind : (o : Option (Read Variable)) → o ≡ variable_at book text scope (skip_from text x) →
       (a : ℕ) (t : Bool) → t ≡ has_kind o a → t ≡ true →
       variable_taken o ≡ step_at book text scope (Step.VariableOfKind a) x
-  unfolding step_at variable_taken has_kind
-  of_kind none e a t f h = rw (← e, step_at)
-  of_kind (some v) e a t f h = rw (← e, step_at, sym f ∙ h)
+  unfolding step_at
+  of_kind None e a t f h = rw (← e, step_at)
+  of_kind (Some v) e a t f h = rw (← e, step_at, sym f ∙ h)
 
   pub of_other_kind : (o : Option (Read Variable)) → o ≡ variable_at book text scope (skip_from text x) →
       (a : ℕ) (t : Bool) → t ≡ has_kind o a → t ≡ false → nothing ≡ step_at book text scope (Step.VariableOfKind a) x
-  unfolding step_at has_kind
-  of_other_kind none e a t f h = rw (← e, step_at)
-  of_other_kind (some v) e a t f h = rw (← e, step_at, sym f ∙ h)
+  unfolding step_at
+  of_other_kind None e a t f h = rw (← e, step_at)
+  of_other_kind (Some v) e a t f h = rw (← e, step_at, sym f ∙ h)
 
   pub rejects : (o : Option (Read Variable)) → o ≡ variable_at book text scope (skip_from text x) →
       (t : Bool) → t ≡ is_some o → t ≡ true → nothing ≡ step_at book text scope Step.RejectVariable x
   unfolding step_at is_some
-  rejects none e t f h = clash (sym f ∙ h) refl
-  rejects (some v) e t f h = rw (← e, step_at)
+  rejects None e t f h = clash (sym f ∙ h) refl
+  rejects (Some v) e t f h = rw (← e, step_at)
 
   pub passes : (o : Option (Read Variable)) → o ≡ variable_at book text scope (skip_from text x) →
-      (t : Bool) → t ≡ is_some o → t ≡ false → read x none ≡ step_at book text scope Step.RejectVariable x
+      (t : Bool) → t ≡ is_some o → t ≡ false → read x None ≡ step_at book text scope Step.RejectVariable x
   unfolding step_at is_some
-  passes none e t f h = rw (← e, step_at)
-  passes (some v) e t f h = clash refl (sym f ∙ h)
+  passes None e t f h = rw (← e, step_at)
+  passes (Some v) e t f h = clash refl (sym f ∙ h)
 
 -- ---- Errors
 module _ (book : Book) (text : List ℕ) (scope : Scope) (kind at : ℕ) (o : Option (Read Variable))

@@ -8,7 +8,7 @@
 use Rattle.std.specs.Prelude.{◌≡◌, true, false, List, ℕ, eqb}
 use Rattle.std.proofs.Math.Path.{sym, ap}
 use Rattle.std.proofs.Common.{subst, ◌∙◌, arith}
-use Rattle.std.proofs.Math.Option.{Option, some}
+use Rattle.std.specs.Prelude.{Option, None, Some}
 use borrow.Author.Tests.{eqb-true, eqb-false}
 use Rattle.characters.specs.Cases.{by_test}
 use Rattle.book.specs.Book.{Book, nth_variant, associativity_number}
@@ -20,18 +20,16 @@ use Rattle.semantics.specs.Run.{Result, ok, ◌>>=◌}
 use Rattle.run_model.specs.Rows.{Row, row_of, on_row, with_variant}
 use Rattle.run_model.specs.Model.{RowState, row_state, Outcome, outcome, bare_call, settle_first}
 use Rattle.calls.specs.Table.{SettledFirst, SettledNext}
-use Rattle.calls.specs.declared.Settled.{Settled}
+use Rattle.calls.specs.declared.settling.Settled.{Settled}
 use Rattle.errors.specs.Failures as failures
 use Rattle.errors.specs.Failures.{counted_run, failed_call_run}
 use Rattle.errors.specs.Maps.{error_of, failure_of}
 use Rattle.errors.specs.declared.Error as code
-use Rattle.errors.specs.declared.Failure.{Failure}
-use Rattle.transitions.specs.declared.outcomes.Outcome as outcomes
+use Rattle.errors.specs.Maps.{Failure}
+use Rattle.transitions.specs.Results.{CellOutcome, Reached, RunEnd, done_with, without_failure}
+use Rattle.transitions.specs.Results as outcomes
 use Rattle.transitions.specs.declared.outcomes.State.{State}
-use Rattle.transitions.specs.declared.items.CellOutcome.{CellOutcome}
-use Rattle.transitions.specs.declared.runs.RunEnd.{RunEnd}
-use Rattle.transitions.specs.declared.stages.Reached.{Reached}
-use Rattle.transitions.specs.Outcomes.{cells_of, given, MadeBy, without_failure, done_with, failure_at}
+use Rattle.transitions.specs.Outcomes.{cells_of, given, MadeBy, failure_at}
 use Rattle.transitions.specs.Steps.{reached_with, goes_with, resumes, does_rows}
 use Rattle.transitions.specs.Entering.{goes_again, SettledAs, FirstEnded, RoundEnded, Begins, VariantEnded}
 use Rattle.transitions.specs.OutcomeLaws.{given_ok, given_met, cell_ok, cell_met}
@@ -46,25 +44,25 @@ module _ (T : List Row) (n : ℕ) (failure : Failure) (s : State) (o : outcomes.
   pub ended_failed : (how : Settled) (start N : ℕ) (x : code.Error) → how ≡ Settled.Failed → start ≡ (row_of T n).start
       →
       N ≡ (row_of T n).nonterminal → error_of x ≡ failures.failed_call start N (failure_of failure) →
-      o ≡ done_with (Failure.At x) s → e ≡ stops o → SettledAs T n how failure s e
+      o ≡ done_with (Some x) s → e ≡ stops o → SettledAs T n how failure s e
   unfolding goes_again
   ended_failed how start N x h eu en ex eo ee =
       record {
         is = λ again cells.
             rw (h, ee)
-            (given_done o (Failure.At x) s cells T eo
-            ∙ ap (λ (y : Error). ok (outcome (some y) (row_state s.units cells T)))
+            (given_done o (Some x) s cells T eo
+            ∙ ap (λ (y : Error). ok (outcome (Some y) (row_state s.units cells T)))
             (ex ∙ rw (eu, en)
             (sym (failed_call_run (bare_call (row_of T n).nonterminal (row_of T n).start) (failure_of failure)))));
         cells = ap (λ e. e.outcome.state.cells) ee ∙ ap (λ o. o.state.cells) eo;
       }
 
-  pub ended_over : (how : Settled) → how ≡ Settled.Over → o ≡ done_with Failure.None s → e ≡ stops o →
+  pub ended_over : (how : Settled) → how ≡ Settled.Over → o ≡ done_with None s → e ≡ stops o →
       SettledAs T n how failure s e
   unfolding goes_again
   ended_over how h eo ee =
       record {
-        is = λ again cells. rw (h, ee) (given_done o Failure.None s cells T eo);
+        is = λ again cells. rw (h, ee) (given_done o None s cells T eo);
         cells = ap (λ e. e.outcome.state.cells) ee ∙ ap (λ o. o.state.cells) eo;
       }
 
@@ -77,7 +75,7 @@ module _ (T : List Row) (n : ℕ) (failure : Failure) (s : State) (o : outcomes.
         cells = ap (λ e. e.outcome.state.cells) ee ∙ ap (λ o. o.state.cells) eo;
       }
 
-  pub ended_again : (how : Settled) → how ≡ Settled.Again → o ≡ done_with Failure.None s →
+  pub ended_again : (how : Settled) → how ≡ Settled.Again → o ≡ done_with None s →
       e ≡ record { again = true; outcome = o } → SettledAs T n how failure s e
   unfolding goes_again
   ended_again how h eo ee =

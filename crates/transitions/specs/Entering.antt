@@ -3,7 +3,7 @@
 --
 -- The letters are the model's; n is the row of the use or call, T and U are the tables before and after.
 use Rattle.std.specs.Prelude.{◌≡◌, true, List, ℕ, ◌-◌, ◌<◌}
-use Rattle.std.proofs.Math.Option.{Option}
+use Rattle.std.specs.Prelude.{Option}
 use Rattle.book.specs.Book.{Book}
 use Rattle.semantics.specs.Tokens.{when}
 use Rattle.semantics.specs.Steps.{Todo}
@@ -18,15 +18,13 @@ use Rattle.run_model.specs.Model.{settle, settle_first}
 use Rattle.run_model.specs.Model.{run_call_rows, run_identifier_rows, nested_rows, stored_rows, enter_rows, steps_rows}
 use Rattle.run_model.specs.Model.{runner_rows}
 use Rattle.calls.specs.Table.{after_run}
-use Rattle.calls.specs.declared.Settled.{Settled}
+use Rattle.calls.specs.declared.settling.Settled.{Settled}
 use Rattle.errors.specs.Maps.{failure_of}
-use Rattle.errors.specs.declared.Failure.{Failure}
-use Rattle.transitions.specs.declared.outcomes.Outcome as code
+use Rattle.errors.specs.Maps.{Failure}
+use Rattle.transitions.specs.Results.{Entered, Reached, RunEnd}
+use Rattle.transitions.specs.Results as code
 use Rattle.transitions.specs.declared.outcomes.State.{State}
-use Rattle.transitions.specs.declared.entering.Entered.{Entered}
-use Rattle.transitions.specs.declared.runs.RunEnd.{RunEnd}
 use Rattle.transitions.specs.declared.stages.Doing.{Doing}
-use Rattle.transitions.specs.declared.stages.Reached.{Reached}
 use Rattle.transitions.specs.Outcomes.{cells_of, Held, given, failure_at}
 use Rattle.transitions.specs.Steps.{resumes}
 

@@ -7,10 +7,14 @@
 -- - a use of mark 2: identifier_claimed, identifier_nothing, identifier_full, identifier_named, is_marked
 -- - one level of nesting: ends, opens_deep, opens_identifier, opens_runs
 -- - a use of a nonterminal: enters_spent, enters_stored, enters_open
-use Rattle.std.specs.Prelude.{◌≡◌, refl, Bool, true, false, List, [], ◌∷◌, ℕ, zero, suc, ◌-◌, ◌<◌, eqb, length}
+use Rattle.std.specs.Prelude.{◌≡◌, refl, Bool, true, false, List, [], ◌∷◌, ℕ, zero, suc, ◌-◌, ◌<◌, eqb, ltb, length}
 use Rattle.std.proofs.Math.Path.{sym, ap, subst}
 use Rattle.std.proofs.Common.{◌∙◌, true≢false, arith}
-use Rattle.std.proofs.Math.Option.{Option, none, some}
+use Rattle.std.proofs.lemmas.List.{set_past}
+use borrow.Author.Tests.{ltb-true, ltb-false}
+use Rattle.characters.specs.Cases.{by_test}
+use Rattle.std.specs.Prelude.{Option, None, Some}
+use Rattle.std.specs.Option as option
 use Rattle.book.specs.Book.{Book, nth_nonterminal, mark_number}
 use Rattle.book.specs.declared.records.Associativity.{Associativity}
 use Rattle.book.specs.declared.records.Mark.{Mark}
@@ -30,32 +34,29 @@ use Rattle.run_model.specs.Model.{stored_rows}
 use Rattle.run_model.specs.Model.{enter_rows, runner_rows}
 use Rattle.calls.specs.CallLaws.{then_row}
 use Rattle.calls.specs.Table.{governor_in, with_stored_in}
-use Rattle.calls.specs.declared.Governor.{Governor}
+use Rattle.calls.specs.declared.governors.Governor.{Governor}
 use Rattle.cells.specs.Store.{listed}
 use Rattle.cells.specs.declared.numbers.CellNumbers.{CellNumbers}
 use Rattle.errors.specs.Maps.{failure_of}
-use Rattle.tokens.specs.Maps.{end_of, variable_of}
-use Rattle.errors.specs.declared.Failure.{Failure}
-use Rattle.tokens.specs.declared.tokens.End.{End}
+use Rattle.tokens.specs.Maps.{variable_of}
+use Rattle.errors.specs.Maps.{Failure}
 use Rattle.tokens.specs.declared.tokens.Variable.{Variable}
-use Rattle.transitions.specs.declared.outcomes.Outcome as outcomes
+use Rattle.transitions.specs.Results.{CellOutcome, Entered, done_with, without_failure}
+use Rattle.transitions.specs.Results as outcomes
 use Rattle.transitions.specs.declared.outcomes.State.{State}
-use Rattle.transitions.specs.declared.items.CellOutcome.{CellOutcome}
-use Rattle.transitions.specs.declared.entering.Entered.{Entered}
-use Rattle.transitions.specs.Outcomes.{cells_of, Held, bare, given, Ran, Runs, Spent, MadeBy, without_failure}
-use Rattle.transitions.specs.Outcomes.{done_with}
+use Rattle.transitions.specs.Outcomes.{cells_of, Held, bare, given, Ran, Runs, Spent, MadeBy}
 use Rattle.transitions.specs.Entering.{Stores, inner_runner, goes_in, Entering, Opens, BeginsUse}
 use Rattle.transitions.specs.OutcomeLaws.{given_ok, given_met, cell_ok, cell_met}
 use Rattle.transitions.specs.ResumeLaws.{bind_met, bind_ok, unit_met, unit_ok}
 use Rattle.transitions.specs.GivenLaws.{given_done, ran_with, makes_met, makes_ok}
 
 -- ---- Stored parses
-none_fails : (l : List (Parse ℕ)) (x : Error) → length l ≡ 0 → fails_empty l x ≡ some x
+none_fails : (l : List (Parse ℕ)) (x : Error) → length l ≡ 0 → fails_empty l x ≡ Some x
 unfolding fails_empty
 none_fails [] x h = refl
 none_fails (p ∷ ps) x h = absurd (omega (arith, h))
 
-some_passes : (l : List (Parse ℕ)) (x : Error) → (length l ≡ 0 → ⊥) → fails_empty l x ≡ none
+some_passes : (l : List (Parse ℕ)) (x : Error) → (length l ≡ 0 → ⊥) → fails_empty l x ≡ None
 unfolding fails_empty
 some_passes [] x h = absurd (h refl)
 some_passes (p ∷ ps) x h = refl
@@ -74,46 +75,55 @@ module _ (T U : List Row) (g n N u : ℕ) (s : State) (k : ℕ) (e : U ≡ with_
         cells = ap (λ o. o.state.cells) eo;
       }
 
-  pub stored_none : (f : Failure) (o : outcomes.Outcome) → k ≡ 0 → failure_of f ≡ some (error u 11 N) →
+  pub stored_none : (f : Failure) (o : outcomes.Outcome) → k ≡ 0 → failure_of f ≡ Some (error u 11 N) →
       o ≡ done_with f s → Stores T U g n N u s o
   stored_none f o h ef eo = answered_with f o eo (ef ∙ sym (none_fails (row_of U n).set (error u 11 N) (sym ek ∙ h)))
 
-  pub stored_some : (o : outcomes.Outcome) → (k ≡ 0 → ⊥) → o ≡ done_with Failure.None s → Stores T U g n N u s o
+  pub stored_some : (o : outcomes.Outcome) → (k ≡ 0 → ⊥) → o ≡ done_with None s → Stores T U g n N u s o
   stored_some o h eo =
-      answered_with Failure.None o eo (sym (some_passes (row_of U n).set (error u 11 N) (λ z. h (ek ∙ z))))
+      answered_with None o eo (sym (some_passes (row_of U n).set (error u 11 N) (λ z. h (ek ∙ z))))
 
 -- ---- Claims
-module _ (book : Book) (text : List ℕ) (T : List Row) (n b u : ℕ) (v : Variable)
-    (e : variable_of v ≡ variable_at book text (scope_at text T n b) u) (w : Bool) (f : w ≡ is_some (variable_of v))
-  where
-    pub claimed_named : (t : Bool) → w ≡ true → t ≡ claims_use book T n b u → t ≡ claimed_rows book text T n b u
-    claimed_named t h et = et ∙ rw (← e, sym f ∙ h)
+found_as : (v : Option Variable) → option.is_some v ≡ is_some (variable_of v)
+unfolding is_some
+found_as None = refl
+found_as (Some (Variable.Starting end number kind)) = refl
+found_as (Some (Variable.Declared end depth index kind)) = refl
 
-    pub claimed_nothing : w ≡ false → false ≡ claimed_rows book text T n b u
-    claimed_nothing h = rw (← e, sym f ∙ h)
+module _ (book : Book) (text : List ℕ) (T : List Row) (n b u : ℕ) (v : Option Variable)
+    (e : variable_of v ≡ variable_at book text (scope_at text T n b) u) (w : Bool) (f : w ≡ option.is_some v) where
+  pub claimed_named : (t : Bool) → w ≡ true → t ≡ claims_use book T n b u → t ≡ claimed_rows book text T n b u
+  claimed_named t h et = et ∙ rw (← e, sym (found_as v) ∙ sym f ∙ h)
+
+  pub claimed_nothing : w ≡ false → w ≡ claimed_rows book text T n b u
+  claimed_nothing h = h ∙ rw (← e, sym (found_as v) ∙ sym f ∙ h)
 
 -- ---- A use of mark 2
 module _ (book : Book) (text store : List ℕ) (T T1 T2 : List Row) (n b N u : ℕ) (s : State) (t : Bool)
-    (l : n < length T) (e1 : T1 ≡ on_row T n (with_set [])) (e2 : T2 ≡ on_row T1 n ended)
-    (et : t ≡ claimed_rows book text T2 n b u) where
+    (e1 : T1 ≡ on_row T n (with_set [])) (e2 : T2 ≡ on_row T1 n ended) (et : t ≡ claimed_rows book text T2 n b u) where
+  -- nothing is stored in a row that is none of the table
   cleared : T2 ≡ on_row T n (λ r. ended (with_set [] r))
-  cleared = then_row T T1 T2 n (with_set [] (row_of T n)) ended l e1 e2
+  cleared =
+      by_test (ltb n (length T))
+      (λ t. then_row T T1 T2 n (with_set [] (row_of T n)) ended (ltb-true n (length T) t) e1 e2)
+      (λ t. let past = ltb-false n (length T) t in
+      e2 ∙ ap (λ q. on_row q n ended) (e1 ∙ set_past T n _ past) ∙ set_past T n _ past ∙ sym (set_past T n _ past))
 
   -- what is run, on the row that was cleared
-  identifier_from : (cells : List Cell) (end : Option ℕ) → end ≡ when t (λ _. none) (λ _. free_end book text u) →
+  identifier_from : (cells : List Cell) (end : Option ℕ) → end ≡ when t (λ _. None) (λ _. free_end book text u) →
       named_rows book text n N u (row_state s.units cells T2) end
       ≡ run_identifier_rows book text n b N u (row_state s.units cells T)
   unfolding run_identifier_rows
   identifier_from cells end h =
       ap (λ x. named_rows book text n N u (row_state s.units cells T2) x) h
       ∙ ap
-      (λ t. named_rows book text n N u (row_state s.units cells T2) (when t (λ _. none) (λ _. free_end book text u))) et
+      (λ t. named_rows book text n N u (row_state s.units cells T2) (when t (λ _. None) (λ _. free_end book text u))) et
       ∙ ap
       (λ q. named_rows book text n N u (row_state s.units cells q)
-      (when (claimed_rows book text q n b u) (λ _. none) (λ _. free_end book text u))) cleared
+      (when (claimed_rows book text q n b u) (λ _. None) (λ _. free_end book text u))) cleared
 
-  unnamed : (f : Failure) (o : outcomes.Outcome) → none ≡ when t (λ _. none) (λ _. free_end book text u) →
-      failure_of f ≡ some (error u 11 N) → o ≡ done_with f s →
+  unnamed : (f : Failure) (o : outcomes.Outcome) → None ≡ when t (λ _. None) (λ _. free_end book text u) →
+      failure_of f ≡ Some (error u 11 N) → o ≡ done_with f s →
       Runs text store s.cells store T2 o (λ cells. run_identifier_rows book text n b N u (row_state s.units cells T))
   unfolding named_rows run.failed_call
   unnamed f o h ef eo =
@@ -121,28 +131,28 @@ module _ (book : Book) (text store : List ℕ) (T T1 T2 : List Row) (n b N u : �
       ran_with text store T2 o s _ (ap (λ o. o.state.cells) eo)
       (given_done o f s (cells_of store s.cells) T2 eo
       ∙ ap (λ z. ok (outcome z (row_state s.units (cells_of store s.cells) T2))) ef
-      ∙ identifier_from (cells_of store s.cells) none h)
+      ∙ identifier_from (cells_of store s.cells) None h)
       held
 
   pub identifier_claimed : (f : Failure) (o : outcomes.Outcome) → t ≡ true →
-      failure_of f ≡ some (error u 11 N) → o ≡ done_with f s →
+      failure_of f ≡ Some (error u 11 N) → o ≡ done_with f s →
       Runs text store s.cells store T2 o (λ cells. run_identifier_rows book text n b N u (row_state s.units cells T))
   identifier_claimed f o h ef eo = unnamed f o (rw h) ef eo
 
-  pub identifier_nothing : (x : End) (f : Failure) (o : outcomes.Outcome) → t ≡ false → end_of x ≡ free_end book text u
+  pub identifier_nothing : (x : Option ℕ) (f : Failure) (o : outcomes.Outcome) → t ≡ false → x ≡ free_end book text u
       →
-      x ≡ End.Nothing → failure_of f ≡ some (error u 11 N) → o ≡ done_with f s →
+      x ≡ None → failure_of f ≡ Some (error u 11 N) → o ≡ done_with f s →
       Runs text store s.cells store T2 o (λ cells. run_identifier_rows book text n b N u (row_state s.units cells T))
-  identifier_nothing x f o h ex en ef eo = unnamed f o (rw h (sym (ap end_of en) ∙ ex)) ef eo
+  identifier_nothing x f o h ex en ef eo = unnamed f o (rw h (sym en ∙ ex)) ef eo
 
-  module _ (x : End) (end size : ℕ) (c : CellNumbers) (after : List ℕ) (m : CellOutcome) (h : t ≡ false)
-      (ex : end_of x ≡ free_end book text u) (en : x ≡ End.At end)
+  module _ (x : Option ℕ) (end size : ℕ) (c : CellNumbers) (after : List ℕ) (m : CellOutcome) (h : t ≡ false)
+      (ex : x ≡ free_end book text u) (en : x ≡ Some end)
       (es : size ≡ end - u) (ec : listed c ≡ numbers_of (Cell.name u size))
       (em : (cell : Cell) → listed c ≡ numbers_of cell → MadeBy text store after s m (run.make text cell)) where
     named_from : (cells : List Cell) →
-        named_rows book text n N u (row_state s.units cells T2) (some end)
+        named_rows book text n N u (row_state s.units cells T2) (Some end)
         ≡ run_identifier_rows book text n b N u (row_state s.units cells T)
-    named_from cells = identifier_from cells (some end) (rw h (sym (ap end_of en) ∙ ex))
+    named_from cells = identifier_from cells (Some end) (rw h (sym en ∙ ex))
 
     pub identifier_full : (o : outcomes.Outcome) → (m.limit ≡ 0 → ⊥) → o ≡ without_failure m.limit m.state →
         Runs text store s.cells after T2 o
@@ -165,7 +175,7 @@ module _ (book : Book) (text store : List ℕ) (T T1 T2 : List Row) (n b N u : �
     pub identifier_named : (U : List Row) (o : outcomes.Outcome) → m.limit ≡ 0 →
         U ≡ on_row T2 n
         (with_set (record { rest = end; level = 255; associativity = Associativity.Both; value = m.cell } ∷ [])) →
-        o ≡ done_with Failure.None m.state →
+        o ≡ done_with None m.state →
         Runs text store s.cells after U o
         (λ cells. run_identifier_rows book text n b N u (row_state s.units cells T))
     unfolding named_rows
@@ -179,8 +189,8 @@ module _ (book : Book) (text store : List ℕ) (T T1 T2 : List Row) (n b N u : �
         ≡ ok (run.made m.cell (bare m.state.units new))
         = ap (λ i. run.make text (Cell.name u i) (bare s.units cells)) (sym es) ∙ sym q.is ∙ cell_ok m new k in
         ran_with text after U o m.state _ (ap (λ o. o.state.cells) eo)
-        (given_done o Failure.None m.state new U eo
-        ∙ ap (λ r. ok (outcome none (row_state m.state.units new r))) eu
+        (given_done o None m.state new U eo
+        ∙ ap (λ r. ok (outcome None (row_state m.state.units new r))) eu
         ∙ sym (bind_ok _ (makes_ok _ (row_state s.units cells T2) _ made))
         ∙ named_from cells)
         q.held
@@ -191,7 +201,7 @@ is_marked book N x mark e h = ap (λ m. eqb (mark_number m) 2) (sym h ∙ ap (λ
 
 -- ---- One level of nesting
 runner_above : (book : Book) (text : List ℕ) (n : ℕ) → (n ≡ 0 → ⊥) →
-    runner_rows book text n ≡ some (inner_runner book text n)
+    runner_rows book text n ≡ Some (inner_runner book text n)
 unfolding runner_rows
 runner_above book text zero h = absurd (h refl)
 runner_above book text (suc n) h = let q : suc n - 1 ≡ n = omega arith in rw q
@@ -219,7 +229,7 @@ module _ (book : Book) (text : List ℕ) (n b N u m : ℕ) (s : State) (e : Ente
       (λ _. run_call_rows book text run n b N u m t))
 
   opening_within : (store : List ℕ) (T : List Row) → (n ≡ 0 → ⊥) →
-      opening store T (some (inner_runner book text n)) ≡ opening store T (runner_rows book text n)
+      opening store T (Some (inner_runner book text n)) ≡ opening store T (runner_rows book text n)
   opening_within store T h = ap (opening store T) (sym (runner_above book text n h))
 
   pub opens_deep : (store : List ℕ) (T : List Row) (o : outcomes.Outcome) → n ≡ 0 → o ≡ without_failure 21 s →
@@ -227,7 +237,7 @@ module _ (book : Book) (text : List ℕ) (n b N u m : ℕ) (s : State) (e : Ente
   unfolding runner_rows nested_rows
   opens_deep store T o h eo ee =
       let cells = cells_of store s.cells in
-      let nest : opening store T none ≡ opening store T (runner_rows book text n) =
+      let nest : opening store T None ≡ opening store T (runner_rows book text n) =
       ap (λ k. opening store T (runner_rows book text k)) (sym h) in
       let limit : given o cells T ≡ met 21 s.units
       = ap (λ o. given o cells T) eo ∙ given_met (without_failure 21 s) cells T (λ z. omega (arith, z)) in
@@ -257,7 +267,7 @@ module _ (book : Book) (text : List ℕ) (n b N u m : ℕ) (s : State) (e : Ente
       }
 
   pub opens_runs : (store : List ℕ) (T : List Row) (t : Bool) (o : outcomes.Outcome) → (n ≡ 0 → ⊥) →
-      t ≡ has_mark book 2 N → t ≡ false → o ≡ done_with Failure.None s →
+      t ≡ has_mark book 2 N → t ≡ false → o ≡ done_with None s →
       e ≡ record { runs = true; minimum = m; outcome = o } → Opens book text store store T T n b N u m s e
   unfolding nested_rows goes_in
   opens_runs store T t o h eb y eo ee =

@@ -1,5 +1,6 @@
 -- Numbers of a book and of a text that fit into 32 bits. An accepted book's do (FitLaws).
 use Rattle.std.specs.Prelude.{List, ℕ, ◌+◌, ◌≤◌, ◌<◌, length}
+use Rattle.std.specs.Prelude.{Option, None, Some}
 use Rattle.semantics.specs.Numbers.{longest_text}
 use Rattle.book.specs.Numbers.{largest_byte}
 use Rattle.book.specs.Book.{Book, nth_entry, nth_nonterminal, nth_variant}
@@ -24,19 +25,19 @@ pub record Fit (book : Book) (text : List ℕ) : Type 0 where
   pub all : Fits (length book.steps)
 
 -- ---- What a step takes
-abbrev pub ItemFits : Item → Type 0
-ItemFits Item.Nothing = Unit {0}
-ItemFits (Item.Name place size) = Fits place × Fits size
-ItemFits (Item.Number value) = Unit {0}
-ItemFits (Item.Variable number kind) = Fits number × Fits kind
+abbrev pub ItemFits : Option Item → Type 0
+ItemFits None = Unit {0}
+ItemFits (Some (Item.Name place size)) = Fits place × Fits size
+ItemFits (Some (Item.Number value)) = Unit {0}
+ItemFits (Some (Item.Variable number kind)) = Fits number × Fits kind
 -- two numbers of the code, of 32 bits
-ItemFits (Item.Declared depth index) = Unit {0}
+ItemFits (Some (Item.Declared depth index)) = Unit {0}
 
-abbrev pub TakenFits : Taken → Type 0
-TakenFits Taken.Nothing = Unit {0}
-TakenFits (Taken.Token next item) = Fits next × ItemFits item
-TakenFits (Taken.Child N) = Unit {0}
-TakenFits (Taken.Optional N) = Unit {0}
-TakenFits (Taken.List comma names N closing place) = Fits place
-TakenFits (Taken.Unopened place) = Fits place
-TakenFits (Taken.Body N) = Unit {0}
+abbrev pub TakenFits : Option Taken → Type 0
+TakenFits None = Unit {0}
+TakenFits (Some (Taken.Token next item)) = Fits next × ItemFits item
+TakenFits (Some (Taken.Child N)) = Unit {0}
+TakenFits (Some (Taken.Optional N)) = Unit {0}
+TakenFits (Some (Taken.List comma names N closing place)) = Fits place
+TakenFits (Some (Taken.Unopened place)) = Fits place
+TakenFits (Some (Taken.Body N)) = Unit {0}

@@ -11,10 +11,11 @@ use Rattle.semantics.specs.Run.{Result, met, ok}
 use Rattle.run_model.specs.Rows.{Row}
 use Rattle.run_model.specs.Model.{RowState, row_state, Outcome, outcome, row_made, makes, unmarked}
 use Rattle.errors.specs.Maps.{failure_of}
-use Rattle.errors.specs.declared.Failure.{Failure}
-use Rattle.transitions.specs.declared.outcomes.Outcome as outcomes
+use Rattle.errors.specs.Maps.{Failure}
+use Rattle.transitions.specs.Results.{done_with}
+use Rattle.transitions.specs.Results as outcomes
 use Rattle.transitions.specs.declared.outcomes.State.{State}
-use Rattle.transitions.specs.Outcomes.{cells_of, Held, given, Ran, done_with}
+use Rattle.transitions.specs.Outcomes.{cells_of, Held, given, Ran}
 use Rattle.transitions.specs.OutcomeLaws.{failure_done, given_ok}
 use Rattle.transitions.specs.ResumeLaws.{bind_met, bind_ok}
 

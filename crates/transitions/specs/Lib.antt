@@ -1,4 +1,5 @@
 -- What the parts of a run promise, by the model of the crate run_model.
+pub mod Results
 pub mod Outcomes
 pub mod Fit
 pub mod TakenLaws
@@ -6,6 +7,7 @@ pub mod OutcomeLaws
 pub mod Steps
 pub mod Names
 pub mod ResumeLaws
+pub mod LimitLaws
 pub mod StopLaws
 pub mod StepsLaws
 pub mod NextLaws

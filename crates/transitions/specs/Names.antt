@@ -3,7 +3,7 @@
 --
 -- The code hands on how many names were read. The names themselves are those of so many rows above the first free one.
 use Rattle.std.specs.Prelude.{◌≡◌, Bool, true, false, List, [], ◌∷◌, ◌++◌, ℕ, ◌+◌, ◌-◌, length}
-use Rattle.std.proofs.Math.Option.{Option, none, some}
+use Rattle.std.specs.Prelude.{Option, None, Some}
 use Rattle.characters.specs.Skipping.{skip_from}
 use Rattle.book.specs.Book.{Book, Entry}
 use Rattle.semantics.specs.Tokens.{declaration_at}
@@ -13,17 +13,14 @@ use Rattle.semantics.specs.Cells.{Cell}
 use Rattle.semantics.specs.Run.{Result, ok, ◌>>=◌, make, closing_code}
 use Rattle.run_model.specs.Rows.{Row, names_above}
 use Rattle.run_model.specs.Model.{RowState, row_state, Outcome, outcome, RowRunner, makes, with_declared, opens_rows}
-use Rattle.errors.specs.declared.Failure.{Failure}
-use Rattle.transitions.specs.declared.outcomes.Outcome as code
+use Rattle.transitions.specs.Results.{Named, Reached, done_with}
+use Rattle.transitions.specs.Results as code
 use Rattle.transitions.specs.declared.outcomes.State.{State}
-use Rattle.tokens.specs.Maps.{closing_in}
 use Rattle.transitions.specs.declared.stages.List as list
 use Rattle.transitions.specs.declared.stages.Names.{Names}
 use Rattle.transitions.specs.declared.stages.Next.{Next}
 use Rattle.transitions.specs.declared.stages.Progress.{Progress}
-use Rattle.transitions.specs.declared.stages.Reached.{Reached}
-use Rattle.transitions.specs.declared.names.Named.{Named}
-use Rattle.transitions.specs.Outcomes.{cells_of, Held, given, done_with}
+use Rattle.transitions.specs.Outcomes.{cells_of, Held, given}
 use Rattle.transitions.specs.Steps.{goes_with, descends_rows}
 
 -- the names read so far, where row n is the first free one
@@ -37,7 +34,7 @@ no_names l =
       body = l.nonterminal;
       kinds = l.values;
       count = 0;
-      closing = closing_code (closing_in l.closing);
+      closing = closing_code (l.closing);
     }
 
 -- ---- The body's scope opens
@@ -45,7 +42,7 @@ no_names l =
 pub record Opened (book : Book) (text store : List ℕ) (T : List Row) (here : Progress) (names : Names) (r : Reached)
     (before : RowState) : Type 0 where
   pub is : (inner : Option RowRunner) (n : ℕ) (rest : List (Todo ℕ)) (l : List Entry) → length l ≡ names.count →
-      goes_with (λ s. descends_rows book text inner n here.call here.variant rest (some l) Next.Steps names.body
+      goes_with (λ s. descends_rows book text inner n here.call here.variant rest (Some l) Next.Steps names.body
       r.place r.items s) (given r.outcome (cells_of store r.outcome.state.cells) T)
       ≡ opens_rows book text inner n here.call here.variant l names.kinds names.closing names.body rest
       here.place here.items before
@@ -66,7 +63,7 @@ after_name true y = goes y
 after_name false y = halts y
 
 pub record IsNamed (text : List ℕ) (end chain : ℕ) (s : State) (r : Named) : Type 0 where
-  pub outcome : r.outcome ≡ done_with Failure.None s
+  pub outcome : r.outcome ≡ done_with None s
   pub kinds : r.kinds ≡ chain
   pub after : after_name r.comma r.place ≡ after_element text true end
 
@@ -80,8 +77,8 @@ unfoldable pub declaring_rows : Book → List ℕ → Option RowRunner → ℕ �
     ℕ → ℕ → ℕ → ℕ → ℕ → RowState → Result Outcome
 declaring_rows book text inner n c j rest run names kinds close M x items s =
     elim (declaration_at book text (skip_from text x)) [
-      | none ↦ ok (outcome (some (declaration_error book text (skip_from text x))) s)
-      | some d ↦
+      | None ↦ ok (outcome (Some (declaration_error book text (skip_from text x))) s)
+      | Some d ↦
           makes (make text (Cell.number 0 d.value.label)) s >>= (λ k.
           makes (make text (Cell.chain kinds k.cell)) k.state >>= (λ m.
           elim (after_element text true d.end) [

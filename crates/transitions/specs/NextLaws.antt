@@ -1,13 +1,14 @@
 -- Laws of what follows a parse and of choices: one for each way through their functions of steps.rt and choices.rt.
 --
 -- Contents:
--- - what follows a parse: plain_next_lem, list_next_lem, element_limit, element_on, element_last, joined_limit, joined_first,
+-- - what follows a parse: plain_next_lem, list_next_lem, element_limit, element_on, element_last, joined_limit,
+--   joined_first,
 --   joined_both
 -- - choices: spend_stops, spend_goes, side_absent, side_limit, side_stops, first_next, both_limit, both_chosen
 use Rattle.std.specs.Prelude.{◌≡◌, false, List, ℕ, zero, suc}
 use Rattle.std.proofs.Math.Path.{refl, sym, ap}
 use Rattle.std.proofs.Common.{◌∙◌}
-use Rattle.std.proofs.Math.Option.{Option}
+use Rattle.std.specs.Prelude.{Option, None}
 use Rattle.characters.specs.Skipping.{skip_from}
 use Rattle.book.specs.Book.{Book}
 use Rattle.semantics.specs.Values.{Parse}
@@ -21,18 +22,15 @@ use Rattle.run_model.specs.Model.{RowState, row_state, outcome, RowRunner, RowMa
 use Rattle.run_model.specs.Model.{together}
 use Rattle.run_model.specs.Model.{plain_next_rows, list_next_rows, stops_rows, choice_rows, steps_rows}
 use Rattle.errors.specs.Maps.{failure_of}
-use Rattle.tokens.specs.Maps.{closing_in, after_of}
-use Rattle.errors.specs.declared.Failure.{Failure}
+use Rattle.tokens.specs.Maps.{after_of}
+use Rattle.errors.specs.Maps.{Failure}
 use Rattle.tokens.specs.declared.steps.After.{After}
+use Rattle.transitions.specs.Results.{CellOutcome, Outcome, Reached, Stage, done_with, without_failure}
 use Rattle.transitions.specs.declared.outcomes.State.{State}
-use Rattle.transitions.specs.declared.outcomes.Outcome.{Outcome}
-use Rattle.transitions.specs.declared.items.CellOutcome.{CellOutcome}
 use Rattle.transitions.specs.declared.stages.Doing.{Doing}
 use Rattle.transitions.specs.declared.stages.List as lists
 use Rattle.transitions.specs.declared.stages.Next.{Next}
-use Rattle.transitions.specs.declared.stages.Reached.{Reached}
-use Rattle.transitions.specs.declared.stages.Stage.{Stage}
-use Rattle.transitions.specs.Outcomes.{cells_of, Spent, MadeBy, without_failure, done_with, failure_at}
+use Rattle.transitions.specs.Outcomes.{cells_of, Spent, MadeBy, failure_at}
 use Rattle.transitions.specs.OutcomeLaws.{given_ok, given_met, failure_done}
 use Rattle.transitions.specs.Steps.{next_rows, chooses_rows, does_rows, first_side_rows, ModelPart, StagedFrom}
 use Rattle.transitions.specs.Steps.{ReachedFrom, GoneFrom, Chosen}
@@ -86,14 +84,14 @@ module _ (book : Book) (text : List ℕ) (inner : Option RowRunner) (n c j : ℕ
     (e : makes (run.make text (Cell.chain l.values q.value)) s ≡ ok m) where
   element_goes : (y : ℕ) → after_element text l.comma q.rest ≡ goes y →
       next_part book text j (Next.Elements l) items q inner n c rest s
-      ≡ choice_rows book text inner n c j l.comma l.nonterminal m.cell (closing_in l.closing) rest
+      ≡ choice_rows book text inner n c j l.comma l.nonterminal m.cell (l.closing) rest
       (steps_rows book text inner n c j rest) y items m.state
   unfolding next_rows list_next_rows steps_rows ◌>>=◌
   element_goes y d = rw (e, list_next_rows, ◌>>=◌) (rw d)
 
   element_halts : (y : ℕ) → after_element text l.comma q.rest ≡ halts y →
       next_part book text j (Next.Elements l) items q inner n c rest s
-      ≡ stops_rows book text j m.cell (closing_in l.closing)
+      ≡ stops_rows book text j m.cell (l.closing)
       (steps_rows book text inner n c j rest) y items m.state
   unfolding next_rows list_next_rows steps_rows ◌>>=◌
   element_halts y d = rw (e, list_next_rows, ◌>>=◌) (rw d)
@@ -115,7 +113,7 @@ module _ (book : Book) (text before middle : List ℕ) (j items : ℕ) (l : list
       })
 
   module _ (b : m.limit ≡ 0) (a : After) (ea : after_of a ≡ after_element text l.comma q.rest) where
-    pub element_on : (y : ℕ) (o : Outcome) → a ≡ After.Goes y → o ≡ done_with Failure.None m.state →
+    pub element_on : (y : ℕ) (o : Outcome) → a ≡ After.Goes y → o ≡ done_with None m.state →
         StagedFrom book text before s middle j
         (record {
           outcome = o;
@@ -233,7 +231,7 @@ module _ (book : Book) (text before : List ℕ) (j at items : ℕ) (l : lists.Li
       record {
         is = λ inner n c rest T.
             u.is inner n c rest T
-            ∙ ap (λ k. stops_rows book text j l.values (closing_in l.closing) (steps_rows book text inner n c j rest)
+            ∙ ap (λ k. stops_rows book text j l.values (l.closing) (steps_rows book text inner n c j rest)
             at items (row_state spent.state.units k T)) (ap (λ k. cells_of before k) p.cells)
             ∙ sym (bind_ok _ (spend_goes s spent p (cells_of before s.cells) T b));
         held = u.held;

@@ -6,12 +6,13 @@
 -- - units: spend_one, spend_none, unit_spent, no_unit_lem
 -- - cells: cell_ok, cell_met, cells_held, now_held, got_in, makes_at, makes_full
 -- - the cells of a variant: begin_passing, begin_made, with_passing, with_made, value_passing, value_made
+-- - the code's results: number_there, cell_there, spent_there, outcome_there
 -- - what a token adds: name_fit, variable_fit, item_nothing, item_cell_lem, item_name, item_number, item_variable,
 --   item_declared, token_nothing, token_limit, token_made
 use Rattle.std.specs.Prelude.{◌≡◌, refl, Bool, true, false, List, ℕ, ◌-◌, ◌/◌, ◌%◌, ◌^◌, eqb, length}
 use Rattle.std.proofs.Math.Path.{sym}
-use Rattle.std.proofs.Common.{ap, ◌∙◌, true≢false, arith, eq-eqb, ne_eqb, lt-ltb}
-use Rattle.std.proofs.Math.Option.{Option, none, some}
+use Rattle.std.proofs.Common.{ap, ◌∙◌, arith, eq-eqb, ne_eqb, lt-ltb}
+use Rattle.std.specs.Prelude.{Option, None, Some}
 use Rattle.book.specs.Book.{Book, nth_variant}
 use Rattle.semantics.specs.Tokens as tokens
 use Rattle.semantics.specs.Tokens.{is_some}
@@ -29,13 +30,15 @@ use Rattle.cells.specs.declared.store.Made as cells
 use Rattle.errors.specs.Maps.{failure_of}
 use Rattle.tokens.specs.Maps.{item_of}
 use Rattle.errors.specs.declared.Error as code
-use Rattle.errors.specs.declared.Failure.{Failure}
+use Rattle.errors.specs.Maps.{Failure}
 use Rattle.tokens.specs.declared.steps.Item.{Item}
+use Rattle.std.specs.Prelude as std
+use Rattle.transitions.specs.declared.outcomes.Limit.{Limit}
+use Rattle.transitions.specs.Results.{limit_number, outcome_of, cell_of, spent_of}
+use Rattle.transitions.specs.Results.{CellOutcome, Outcome, done_with, without_failure}
 use Rattle.transitions.specs.declared.outcomes.State.{State}
-use Rattle.transitions.specs.declared.outcomes.Outcome.{Outcome}
-use Rattle.transitions.specs.declared.items.CellOutcome.{CellOutcome}
 use Rattle.transitions.specs.Fit.{Fits, ItemFits}
-use Rattle.transitions.specs.Outcomes.{cells_of, Held, bare, without_failure, done_with, failure_at, given, goes_on}
+use Rattle.transitions.specs.Outcomes.{cells_of, Held, bare, failure_at, given, goes_on}
 use Rattle.transitions.specs.Outcomes.{Spent, given_cell, MadeIn, MadeBy}
 
 -- ---- Outcomes
@@ -55,24 +58,24 @@ limit_stops o h = rw (ne_eqb o.limit 0 h, goes_on)
 
 -- the failure is the one that it is done with
 pub failure_done : (f : Failure) (s : State) → failure_at (done_with f s) ≡ f
-failure_done Failure.None s = refl
-failure_done (Failure.At e) s = refl
+failure_done None s = refl
+failure_done (Some e) s = refl
 
 pub goes_as : (o : Outcome) → o.limit ≡ 0 → eqb o.failed 0 ≡ goes_on o
 unfolding goes_on
 goes_as o h = rw (eq-eqb o.limit 0 h, goes_on)
 
-pub failure_none : (o : Outcome) → o.failed ≡ 0 → Failure.None ≡ failure_at o
+pub failure_none : (o : Outcome) → o.failed ≡ 0 → None ≡ failure_at o
 failure_none o e = rw (eq-eqb o.failed 0 e)
 
-pub failure_some : (o : Outcome) → (o.failed ≡ 0 → ⊥) → Failure.At o.error ≡ failure_at o
+pub failure_some : (o : Outcome) → (o.failed ≡ 0 → ⊥) → Some o.error ≡ failure_at o
 failure_some o h = rw (ne_eqb o.failed 0 h)
 
-pub done_nothing : (f : Failure) (s : State) (r : Outcome) → f ≡ Failure.None →
+pub done_nothing : (f : Failure) (s : State) (r : Outcome) → f ≡ None →
     r ≡ without_failure 0 s → r ≡ done_with f s
 done_nothing f s r e q = rw e q
 
-pub done_at : (f : Failure) (s : State) (x : code.Error) → f ≡ Failure.At x →
+pub done_at : (f : Failure) (s : State) (x : code.Error) → f ≡ Some x →
     record { limit = 0; failed = 1; state = s; error = x } ≡ done_with f s
 done_at f s x e = rw e
 
@@ -88,7 +91,7 @@ unfolding spend_rows run.spend ◌>>=◌
 spend_none units cells T h = rw (h, spend_rows, run.spend, ◌>>=◌)
 
 pub unit_spent : (s : State) (r : Outcome) (units : ℕ) → (s.units ≡ 0 → ⊥) → units ≡ s.units - 1 →
-    r ≡ done_with Failure.None (record { units = units; cells = s.cells }) → Spent r s
+    r ≡ done_with None (record { units = units; cells = s.cells }) → Spent r s
 unfolding given ◌>>=◌
 unit_spent s r units h u e =
     record {
@@ -136,45 +139,43 @@ got_in text store s m cell z e q h = record { is = rw (e, q); held = rw e h }
 
 module _ (text before after : List ℕ) (s : State) (c : CellNumbers) where
   module _ (cell : Cell) (e : listed c ≡ numbers_of cell) (h : Held text before s.cells) where
-    making : (r : cells.Made) → Makes text before after s.cells c r →
+    making : (r : Option cells.Made) → Makes text before after s.cells c r →
         Making text after (cells_of before s.cells) cell r
     making r w = w.does (cells_of before s.cells) cell h.holds h.counted e
 
-    cell_made : (r : cells.Made) (n count : ℕ) (m : CellOutcome) → Makes text before after s.cells c r →
-        r ≡ cells.Made.At n count →
-        m ≡ record { limit = 0; cell = n; state = record { units = s.units; cells = count } } →
+    cell_made : (r : Option cells.Made) (k : cells.Made) (m : CellOutcome) → Makes text before after s.cells c r →
+        r ≡ Some k →
+        m ≡ record { limit = 0; cell = k.cell; state = record { units = s.units; cells = k.count } } →
         MadeIn text after m (run.make text cell (bare s.units (cells_of before s.cells)))
     unfolding given_cell
-    cell_made r n count m w q d =
-        let p = making (cells.Made.At n count) (rw q at w) in
+    cell_made r k m w q d =
+        let p = making (Some k) (rw q at w) in
         record {
           is = rw (
             d,
-            cells_held text after (cells_after (cells.Made.At n count) (cells_of before s.cells) cell)
-                count p.holds p.count,
+            cells_held text after (cells_after (Some k) (cells_of before s.cells) cell) k.count p.holds p.count,
           ) (sym (p.is (bare s.units (cells_of before s.cells)) refl));
-          held = rw d (now_held text after (cells_after (cells.Made.At n count) (cells_of before s.cells) cell)
-              count p.holds p.count);
+          held = rw d (now_held text after (cells_after (Some k) (cells_of before s.cells) cell) k.count p.holds
+              p.count);
         }
 
-    no_cell : (r : cells.Made) (m : CellOutcome) → Makes text before after s.cells c r → r ≡ cells.Made.Full →
+    no_cell : (r : Option cells.Made) (m : CellOutcome) → Makes text before after s.cells c r → r ≡ None →
         m ≡ record { limit = 23; cell = 0; state = s } →
         MadeIn text after m (run.make text cell (bare s.units (cells_of before s.cells)))
     unfolding given_cell
     no_cell r m w q d =
-        let p = making cells.Made.Full (rw q at w) in
+        let p = making None (rw q at w) in
         record {
           is = rw d (sym (p.is (bare s.units (cells_of before s.cells)) refl));
           held = rw d (now_held text after (cells_of before s.cells) s.cells p.holds (sym h.counted));
         }
 
-  pub makes_at : (r : cells.Made) (n count : ℕ) (m : CellOutcome) → Makes text before after s.cells c r →
-      r ≡ cells.Made.At n count →
-      m ≡ record { limit = 0; cell = n; state = record { units = s.units; cells = count } } →
+  pub makes_at : (r : Option cells.Made) (k : cells.Made) (m : CellOutcome) → Makes text before after s.cells c r →
+      r ≡ Some k → m ≡ record { limit = 0; cell = k.cell; state = record { units = s.units; cells = k.count } } →
       (cell : Cell) → listed c ≡ numbers_of cell → MadeBy text before after s m (run.make text cell)
-  makes_at r n count m w q d cell e h = cell_made cell e h r n count m w q d
+  makes_at r k m w q d cell e h = cell_made cell e h r k m w q d
 
-  pub makes_full : (r : cells.Made) (m : CellOutcome) → Makes text before after s.cells c r → r ≡ cells.Made.Full →
+  pub makes_full : (r : Option cells.Made) (m : CellOutcome) → Makes text before after s.cells c r → r ≡ None →
       m ≡ record { limit = 23; cell = 0; state = s } → (cell : Cell) → listed c ≡ numbers_of cell →
       MadeBy text before after s m (run.make text cell)
   makes_full r m w q d cell e h = no_cell cell e h r m w q d
@@ -217,19 +218,16 @@ module _ (book : Book) (text : List ℕ) (j : ℕ) (p : Bool) (ep : p ≡ (nth_v
   value_made before after items c y w e h = rw (sym ep ∙ y, cell_of_value) (w (Cell.variant j items) e h)
 
 -- ---- What a token adds
-pub name_fit : (item : Item) (place size : ℕ) → item ≡ Item.Name place size → ItemFits item → Fits place × Fits size
-name_fit item place size e f = rw e at f
+module _ (item : Item) (f : ItemFits (Some item)) where
+  pub name_fit : (place size : ℕ) → item ≡ Item.Name place size → Fits place × Fits size
+  name_fit place size e = rw e at f
 
-pub variable_fit : (item : Item) (number kind : ℕ) → item ≡ Item.Variable number kind →
-    ItemFits item → Fits number × Fits kind
-variable_fit item number kind e f = rw e at f
+  pub variable_fit : (number kind : ℕ) → item ≡ Item.Variable number kind → Fits number × Fits kind
+  variable_fit number kind e = rw e at f
 
 -- the numbers of its cell
-module _ (item : Item) (l : List ℕ) (i : tokens.Item) (e : item_of item ≡ some i) where
-  pub item_nothing : item ≡ Item.Nothing → l ≡ numbers_of (run.item_cell i)
-  item_nothing q = let p : none ≡ some i = rw q at e in let z : ◌≡◌ {A = ℕ} 0 1 = cc in absurd (omega arith)
-
-  pub item_cell_lem : (k : tokens.Item) → item_of item ≡ some k → l ≡ numbers_of (run.item_cell k) →
+module _ (item : Item) (l : List ℕ) (i : tokens.Item) (e : item_of (Some item) ≡ Some i) where
+  pub item_cell_lem : (k : tokens.Item) → item_of (Some item) ≡ Some k → l ≡ numbers_of (run.item_cell k) →
       l ≡ numbers_of (run.item_cell i)
   item_cell_lem k q h = let p : k ≡ i = cc in rw p at h
 
@@ -254,48 +252,66 @@ module _ (item : Item) (l : List ℕ) (i : tokens.Item) (e : item_of item ≡ so
   unfolding run.item_cell
   item_declared depth index q h = item_cell_lem (tokens.Item.declared depth.0 index.0) (rw q) h
 
-some_item : (o : Option tokens.Item) → true ≡ is_some o → (P : Type 0) → ((i : tokens.Item) → o ≡ some i → P) → P
-unfolding is_some
-some_item none e P f = let z : false ≡ true = sym e in absurd (true≢false (sym z))
-some_item (some i) e P f = f i refl
+-- an item of the code is one of the definition
+some_item : (item : Item) → (P : Type 0) → ((i : tokens.Item) → item_of (Some item) ≡ Some i → P) → P
+some_item (Item.Name place size) P f = f (tokens.Item.name place size) refl
+some_item (Item.Number value) P f = f (tokens.Item.number value) refl
+some_item (Item.Variable number kind) P f = f (tokens.Item.variable number kind) refl
+some_item (Item.Declared depth index) P f = f (tokens.Item.declared depth.0 index.0) refl
 
-no_item : (o : Option tokens.Item) → false ≡ is_some o → o ≡ none
-unfolding is_some
-no_item none e = refl
-no_item (some i) e = absurd (true≢false (sym e))
-
-module _ (book : Book) (text : List ℕ) (j items : ℕ) (o : Option tokens.Item) (s : State) where
-  pub token_nothing : (store : List ℕ) (m : CellOutcome) (t : Bool) → t ≡ is_some o → t ≡ false →
-      m ≡ record { limit = 0; cell = items; state = s } →
-      MadeBy text store store s m (run.with_token book text j items o)
+module _ (book : Book) (text : List ℕ) (j items : ℕ) (o : Option Item) (s : State) where
+  pub token_nothing : (store : List ℕ) (m : CellOutcome) → o ≡ None → m ≡ record {
+    limit = 0;
+    cell = items;
+    state = s;
+  } →
+      MadeBy text store store s m (run.with_token book text j items (item_of o))
   unfolding run.with_token
-  token_nothing store m t et y e h =
-      let n = no_item o (sym y ∙ et) in got_in text store s m items _ e (rw (n, run.with_token)) h
+  token_nothing store m n e h = got_in text store s m items _ e (rw (n, run.with_token)) h
 
-  module _ (before middle : List ℕ) (m : CellOutcome) (c : CellNumbers) (t : Bool) (et : t ≡ is_some o) (y : t ≡ true)
+  module _ (before middle : List ℕ) (m : CellOutcome) (c : CellNumbers) (item : Item) (is : o ≡ Some item)
       (w : (cell : Cell) → listed c ≡ numbers_of cell → MadeBy text before middle s m (run.make text cell))
-      (e : (i : tokens.Item) → o ≡ some i → listed c ≡ numbers_of (run.item_cell i)) where
-    pub token_limit : (m.limit ≡ 0 → ⊥) → MadeBy text before middle s m (run.with_token book text j items o)
+      (e : (i : tokens.Item) → item_of (Some item) ≡ Some i → listed c ≡ numbers_of (run.item_cell i)) where
+    pub token_limit : (m.limit ≡ 0 → ⊥) → MadeBy text before middle s m (run.with_token book text j items (item_of o))
     unfolding run.with_token ◌>>=◌
     token_limit l h =
-        some_item o (sym y ∙ et) _ (λ i q.
+        some_item item _ (λ i q.
         let p = w (run.item_cell i) (e i q) h in
         let made : run.make text (run.item_cell i) (bare s.units (cells_of before s.cells))
         ≡ met m.limit m.state.units =
         sym p.is ∙ cell_met m (cells_of middle m.state.cells) l in
         record {
-          is = rw (q, made, run.with_token, ◌>>=◌) (cell_met m (cells_of middle m.state.cells) l);
+          is = rw (is, q, made, run.with_token, ◌>>=◌) (cell_met m (cells_of middle m.state.cells) l);
           held = p.held;
         })
 
     pub token_made : (after : List ℕ) (r : CellOutcome) → m.limit ≡ 0 →
         MadeBy text middle after m.state r (run.with_cell book text j items m.cell) →
-        MadeBy text before after s r (run.with_token book text j items o)
+        MadeBy text before after s r (run.with_token book text j items (item_of o))
     unfolding run.with_token ◌>>=◌
     token_made after r l k h =
-        some_item o (sym y ∙ et) _ (λ i q.
+        some_item item _ (λ i q.
         let p = w (run.item_cell i) (e i q) h in
         let made : run.make text (run.item_cell i) (bare s.units (cells_of before s.cells))
         ≡ ok (made m.cell (bare m.state.units (cells_of middle m.state.cells))) =
         sym p.is ∙ cell_ok m (cells_of middle m.state.cells) l in
-        rw (q, made, run.with_token, ◌>>=◌) (k p.held))
+        rw (is, q, made, run.with_token, ◌>>=◌) (k p.held))
+
+-- ---- The code's results
+-- a limit's number is not 0
+pub number_there : (l : Limit) → limit_number l ≡ 0 → ⊥
+number_there Limit.NoUnit e = absurd (omega (arith, e))
+number_there Limit.TooDeep e = absurd (omega (arith, e))
+number_there Limit.TooManyParses e = absurd (omega (arith, e))
+number_there Limit.TooManyCells e = absurd (omega (arith, e))
+number_there Limit.TooManyNames e = absurd (omega (arith, e))
+
+pub cell_there : (r : std.Result ℕ Limit) (l : Limit) (s : State) → r ≡ std.Err l → (cell_of r s).limit ≡ 0 → ⊥
+cell_there r l s e = rw e (number_there l)
+
+pub spent_there : (r : std.Result Unit Limit) (l : Limit) (s : State) → r ≡ std.Err l → (spent_of r s).limit ≡ 0 → ⊥
+spent_there r l s e = rw e (number_there l)
+
+pub outcome_there : (r : std.Result Failure Limit) (l : Limit) (s : State) → r ≡ std.Err l →
+    (outcome_of r s).limit ≡ 0 → ⊥
+outcome_there r l s e = rw e (number_there l)

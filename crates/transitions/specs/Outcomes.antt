@@ -1,7 +1,7 @@
 -- What the parts of a run give, as the model of the crate run_model has it, and the cells that the store holds.
 -- Scaffolding between that model and the code: no definition of document 01.
 use Rattle.std.specs.Prelude.{◌≡◌, Bool, cond, ◌&&◌, List, [], ℕ, eqb, length}
-use Rattle.std.proofs.Math.Option.{none}
+use Rattle.std.specs.Prelude.{None, Some}
 use Rattle.semantics.specs.Tokens.{when}
 use Rattle.semantics.specs.Cells.{Cell}
 use Rattle.semantics.specs.Run as run
@@ -11,11 +11,9 @@ use Rattle.run_model.specs.Model as model
 use Rattle.run_model.specs.Model.{row_state, outcome, spend_rows}
 use Rattle.cells.specs.Store.{Holds, stored_cells}
 use Rattle.errors.specs.Maps.{failure_of}
-use Rattle.errors.specs.declared.Error.{Error}
-use Rattle.errors.specs.declared.Failure.{Failure}
+use Rattle.errors.specs.Maps.{Failure}
+use Rattle.transitions.specs.Results.{CellOutcome, Outcome}
 use Rattle.transitions.specs.declared.outcomes.State.{State}
-use Rattle.transitions.specs.declared.outcomes.Outcome.{Outcome}
-use Rattle.transitions.specs.declared.items.CellOutcome.{CellOutcome}
 
 -- ---- Cells
 -- the first `count` cells of a store
@@ -32,28 +30,9 @@ abbrev pub bare : ℕ → List Cell → run.State
 bare units cells = record { units = units; cells = cells; asked = [] }
 
 -- ---- Outcomes
--- what stands for an error where there is none
-abbrev no_error : Error
-no_error = record { place = 0; kind = 0; argument = 0 }
-
-abbrev failed_by : Failure → ℕ
-failed_by Failure.None = 0
-failed_by (Failure.At e) = 1
-
-abbrev error_by : Failure → Error
-error_by Failure.None = no_error
-error_by (Failure.At e) = e
-
--- the code's outcome without a failure, of the limit that was met or 0; and the one of a failure or none
-abbrev pub without_failure : ℕ → State → Outcome
-without_failure limit s = record { limit = limit; failed = 0; state = s; error = no_error }
-
-abbrev pub done_with : Failure → State → Outcome
-done_with failure s = record { limit = 0; failed = failed_by failure; state = s; error = error_by failure }
-
 -- its failure
 abbrev pub failure_at : Outcome → Failure
-failure_at o = cond (eqb o.failed 0) Failure.None (Failure.At o.error)
+failure_at o = cond (eqb o.failed 0) None (Some o.error)
 
 -- an outcome of the code, with the cells and rows that it leaves; a limit forgets them
 unfoldable pub given : Outcome → List Cell → List Row → Result model.Outcome
@@ -77,7 +56,7 @@ Runs text before count after T o z = Held text before count → Ran text after T
 -- a unit was spent
 pub record Spent (r : Outcome) (s : State) : Type 0 where
   pub is : (cells : List Cell) (T : List Row) →
-      given r cells T ≡ (spend_rows (row_state s.units cells T) >>= (λ t. ok (outcome none t)))
+      given r cells T ≡ (spend_rows (row_state s.units cells T) >>= (λ t. ok (outcome None t)))
   pub cells : r.state.cells ≡ s.cells
 
 -- ---- Cells that were asked for

@@ -12,7 +12,7 @@ use Rattle.std.specs.Prelude.{◌≡◌, refl, Bool, true, ◌&&◌, List, ℕ, 
 use Rattle.std.proofs.Math.Path.{sym, ap}
 use Rattle.std.proofs.Common.{◌∙◌, arith}
 use Rattle.std.proofs.Math.Bool.{false}
-use Rattle.std.proofs.Math.Option.{Option, none, some}
+use Rattle.std.specs.Prelude.{Option, None, Some}
 use borrow.Author.Tests.{eqb-true, eqb-false}
 use Rattle.characters.specs.Cases.{by_test}
 use Rattle.book.specs.Book.{Book}
@@ -26,15 +26,12 @@ use Rattle.run_model.specs.Model as model
 use Rattle.run_model.specs.Model.{RowState, row_state, outcome, RowRunner, RowMade, row_made, makes, steps_rows}
 use Rattle.errors.specs.Maps.{error_of, failure_of}
 use Rattle.errors.specs.declared.Error as code
-use Rattle.errors.specs.declared.Failure.{Failure}
+use Rattle.errors.specs.Maps.{Failure}
+use Rattle.transitions.specs.Results.{CellOutcome, Outcome, Reached, Stage, done_with, without_failure}
 use Rattle.transitions.specs.declared.outcomes.State.{State}
-use Rattle.transitions.specs.declared.outcomes.Outcome.{Outcome}
-use Rattle.transitions.specs.declared.items.CellOutcome.{CellOutcome}
 use Rattle.transitions.specs.declared.stages.Doing.{Doing}
 use Rattle.transitions.specs.declared.stages.Next.{Next}
-use Rattle.transitions.specs.declared.stages.Reached.{Reached}
-use Rattle.transitions.specs.declared.stages.Stage.{Stage}
-use Rattle.transitions.specs.Outcomes.{cells_of, bare, without_failure, done_with, given, goes_on, failure_at}
+use Rattle.transitions.specs.Outcomes.{cells_of, bare, given, goes_on, failure_at}
 use Rattle.transitions.specs.Outcomes.{MadeIn}
 use Rattle.transitions.specs.OutcomeLaws.{given_ok, given_met, cell_ok, cell_met}
 use Rattle.transitions.specs.Steps.{then_child, goes_with, descends_rows, does_rows, resumes, StagedFrom}
@@ -57,16 +54,16 @@ bind_ok K e = ap (λ y. y >>= K) e
 
 -- what was bound to an outcome without a failure
 pub unit_met : (x : Result RowState) (number units : ℕ) →
-    met number units ≡ (x >>= (λ t. ok (outcome none t))) → x ≡ met number units
+    met number units ≡ (x >>= (λ t. ok (outcome None t))) → x ≡ met number units
 unfolding ◌>>=◌
 unit_met (met a b) number units e = cc
 unit_met (ok t) number units e = let z : ◌≡◌ {A = ℕ} 0 1 = cc in absurd (omega arith)
 
 pub unit_ok : (x : Result RowState) (f : Option Error) (s : RowState) →
-    ok (outcome f s) ≡ (x >>= (λ t. ok (outcome none t))) → x ≡ ok s
+    ok (outcome f s) ≡ (x >>= (λ t. ok (outcome None t))) → x ≡ ok s
 unfolding ◌>>=◌
 unit_ok (met a b) f s e = let z : ◌≡◌ {A = ℕ} 0 1 = cc in absurd (omega arith)
-unit_ok (ok t) f s e = let q : outcome f s ≡ outcome none t = cc in ap ok (sym (ap (λ (o : model.Outcome). o.state) q))
+unit_ok (ok t) f s e = let q : outcome f s ≡ outcome None t = cc in ap ok (sym (ap (λ (o : model.Outcome). o.state) q))
 
 -- ---- Cells in the model
 module _ (text store : List ℕ) (m : CellOutcome) (f : run.State → Result run.Made) (units : ℕ) (cells : List Cell)
@@ -94,12 +91,12 @@ module _ (o : Outcome) (e : goes_on o ≡ true) where
   unfolding goes_on
   goes_without_limit = eqb-true o.limit 0 (and_left (eqb o.limit 0) (eqb o.failed 0) e)
 
-  pub goes_without_failure : failure_of (failure_at o) ≡ none
+  pub goes_without_failure : failure_of (failure_at o) ≡ None
   unfolding goes_on
   goes_without_failure = rw (and_right (eqb o.limit 0) (eqb o.failed 0) e)
 
 module _ (o : Outcome) (cells : List Cell) (T : List Row) where
-  pub goes_on_lem : goes_on o ≡ true → given o cells T ≡ ok (outcome none (row_state o.state.units cells T))
+  pub goes_on_lem : goes_on o ≡ true → given o cells T ≡ ok (outcome None (row_state o.state.units cells T))
   goes_on_lem e = given_ok o cells T (goes_without_limit o e) ∙ rw (goes_without_failure o e)
 
   -- a limit ends all that would follow
@@ -110,13 +107,13 @@ module _ (o : Outcome) (cells : List Cell) (T : List Row) where
 
   -- what a failure ends
   pub ended : (K : model.Outcome → Result model.Outcome) →
-      ((e : Error) (s : RowState) → K (outcome (some e) s) ≡ ok (outcome (some e) s)) →
+      ((e : Error) (s : RowState) → K (outcome (Some e) s) ≡ ok (outcome (Some e) s)) →
       goes_on o ≡ false → given o cells T ≡ (given o cells T >>= K)
   unfolding goes_on ◌>>=◌
   ended K k h =
       by_test (eqb o.limit 0)
       (λ t.
-      let f : failure_at o ≡ Failure.At o.error = rw (and-false (eqb o.failed 0) (rw t at h)) in
+      let f : failure_at o ≡ Some o.error = rw (and-false (eqb o.failed 0) (rw t at h)) in
       rw (given_ok o cells T (eqb-true o.limit 0 t)
       ∙ ap (λ (x : Failure). ok (outcome (failure_of x) (row_state o.state.units cells T))) f) (sym (k _ _)))
       (λ t. limit_ends K (eqb-false o.limit 0 t))
@@ -137,10 +134,10 @@ module _ (go : RowState → Result model.Outcome) where
   goes_further limit s cells T l = ap (goes_with go) (given_ok (without_failure limit s) cells T l)
 
   pub goes_failed : (e : code.Error) (s : State) (cells : List Cell) (T : List Row) →
-      goes_with go (given (done_with (Failure.At e) s) cells T)
-      ≡ ok (outcome (some (error_of e)) (row_state s.units cells T))
+      goes_with go (given (done_with (Some e) s) cells T)
+      ≡ ok (outcome (Some (error_of e)) (row_state s.units cells T))
   unfolding goes_with ◌>>=◌
-  goes_failed e s cells T = ap (goes_with go) (given_ok (done_with (Failure.At e) s) cells T refl)
+  goes_failed e s cells T = ap (goes_with go) (given_ok (done_with (Some e) s) cells T refl)
 
   -- a path that has ended stays ended, and one that hasn't goes on
   pub goes_nowhere : (o : Outcome) (cells : List Cell) (T : List Row) → goes_on o ≡ false →
@@ -187,8 +184,8 @@ module _ (book : Book) (text : List ℕ) (inner : Option RowRunner) (n c j : ℕ
   resumes_on limit s cells T l = goes_further go limit s cells T l
 
   pub resumes_failed : (e : code.Error) (s : State) (cells : List Cell) (T : List Row) →
-      resumes book text inner n c j rest doing at items (given (done_with (Failure.At e) s) cells T)
-      ≡ ok (outcome (some (error_of e)) (row_state s.units cells T))
+      resumes book text inner n c j rest doing at items (given (done_with (Some e) s) cells T)
+      ≡ ok (outcome (Some (error_of e)) (row_state s.units cells T))
   unfolding resumes
   resumes_failed e s cells T = goes_failed go e s cells T
 
@@ -214,12 +211,12 @@ module _ (book : Book) (text before after : List ℕ) (j : ℕ) (s : State) (r :
       record { is = λ inner n c rest T. u.is (steps_rows book text inner n c j rest) T; held = u.held }
 
   pub gone_child : (M : ℕ) (g : Stage) → g ≡ then_child r M → StagedFrom book text before s after j g
-      (λ inner n c rest s. z (λ x items s. descends_rows book text inner n c j rest none Next.Steps M x items s) s)
+      (λ inner n c rest s. z (λ x items s. descends_rows book text inner n c j rest None Next.Steps M x items s) s)
   unfolding resumes does_rows
   gone_child M g e h =
       let u = w h in
       rw e (record {
         is = λ inner n c rest T.
-            u.is (λ x items s. descends_rows book text inner n c j rest none Next.Steps M x items s) T;
+            u.is (λ x items s. descends_rows book text inner n c j rest None Next.Steps M x items s) T;
         held = u.held;
       })

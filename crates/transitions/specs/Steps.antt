@@ -4,7 +4,7 @@
 -- A part that calls nothing gives how it ended, a place, the items so far and what the path does next. Its promise is
 -- that whatever does that next (`resumes`) gives what the model gives for the whole.
 use Rattle.std.specs.Prelude.{◌≡◌, Bool, true, false, cond, List, [], map, ℕ, take, drop}
-use Rattle.std.proofs.Math.Option.{Option, none, some}
+use Rattle.std.specs.Prelude.{Option, None, Some}
 use Rattle.characters.specs.Skipping.{skip_from}
 use Rattle.book.specs.Book.{Book, Entry}
 use Rattle.book.specs.declared.records.Step.{Step}
@@ -19,16 +19,12 @@ use Rattle.run_model.specs.Model.{followed_rows}
 use Rattle.run_model.specs.Model.{chosen_rows, or_absent_rows, choice_rows, listing_rows, body_rows, name_choice_rows}
 use Rattle.run_model.specs.Model.{step_unit_rows, steps_rows}
 use Rattle.errors.specs.Maps.{failure_of}
-use Rattle.tokens.specs.Maps.{closing_in}
-use Rattle.tokens.specs.declared.steps.Closing.{Closing}
-use Rattle.transitions.specs.declared.outcomes.Outcome as code
+use Rattle.transitions.specs.Results.{CellOutcome, Reached, Stage, without_failure}
+use Rattle.transitions.specs.Results as code
 use Rattle.transitions.specs.declared.outcomes.State.{State}
 use Rattle.transitions.specs.declared.stages.Doing.{Doing}
 use Rattle.transitions.specs.declared.stages.Next.{Next}
-use Rattle.transitions.specs.declared.stages.Reached.{Reached}
-use Rattle.transitions.specs.declared.stages.Stage.{Stage}
-use Rattle.transitions.specs.declared.items.CellOutcome.{CellOutcome}
-use Rattle.transitions.specs.Outcomes.{cells_of, Held, without_failure, given, failure_at}
+use Rattle.transitions.specs.Outcomes.{cells_of, Held, given, failure_at}
 
 -- so many steps of a book from one on
 abbrev pub todo_from : Book → ℕ → ℕ → List (Todo ℕ)
@@ -59,11 +55,11 @@ then_does place items doing s = record { outcome = without_failure 0 s; place = 
 unfoldable pub next_rows : Book → List ℕ → ℕ → ℕ → List (Todo ℕ) → Next → ℕ → RowNext
 next_rows book text c j rest Next.Steps items = plain_next_rows book text c j rest items
 next_rows book text c j rest (Next.Elements l) items =
-    list_next_rows book text c j l.comma l.nonterminal l.values (closing_in l.closing) rest items
+    list_next_rows book text c j l.comma l.nonterminal l.values (l.closing) rest items
 
 -- what is done next, if neither a limit nor a failure ended the path
 unfoldable pub goes_with : (RowState → Result Outcome) → Result Outcome → Result Outcome
-goes_with go z = z >>= (λ o. elim o.failure [ some e ↦ ok (outcome (some e) o.state) | none ↦ go o.state ])
+goes_with go z = z >>= (λ o. elim o.failure [ Some e ↦ ok (outcome (Some e) o.state) | None ↦ go o.state ])
 
 -- an item is absent: its cell, then its chain cell
 unfoldable pub omits_rows : Book → List ℕ → ℕ → RowGo → RowGo
@@ -84,17 +80,17 @@ module _ (book : Book) (text : List ℕ) (inner : Option RowRunner) (n c j : ℕ
   chooses_rows Next.Steps M x items s =
       or_absent_rows book text inner n c j M rest (steps_rows book text inner n c j rest) x items s
   chooses_rows (Next.Elements l) M x items s =
-      choice_rows book text inner n c j l.comma M l.values (closing_in l.closing) rest
+      choice_rows book text inner n c j l.comma M l.values (l.closing) rest
       (steps_rows book text inner n c j rest) x items s
 
   -- the names of an opening, none of which is read yet
-  unfoldable pub names_rows : ℕ → Closing → ℕ → ℕ → ℕ → RowState → Result Outcome
+  unfoldable pub names_rows : ℕ → Option ℕ → ℕ → ℕ → ℕ → RowState → Result Outcome
   names_rows kinds closing M x items s =
-      name_choice_rows book text inner n c j [] kinds (closing_code (closing_in closing)) M rest x items s
+      name_choice_rows book text inner n c j [] kinds (closing_code closing) M rest x items s
 
   unfoldable pub does_rows : Doing → ℕ → ℕ → RowState → Result Outcome
   does_rows Doing.Steps x items s = steps_rows book text inner n c j rest x items s
-  does_rows (Doing.Child M) x items s = descends_rows none Next.Steps M x items s
+  does_rows (Doing.Child M) x items s = descends_rows None Next.Steps M x items s
   does_rows (Doing.Optional M) x items s = chooses_rows Next.Steps M x items s
   does_rows (Doing.Elements l) x items s =
       cond l.names (names_rows l.values l.closing l.nonterminal x items s)
@@ -108,27 +104,27 @@ module _ (book : Book) (text : List ℕ) (inner : Option RowRunner) (n c j : ℕ
   first_side_rows Next.Steps x items s = omits_rows book text j (steps_rows book text inner n c j rest) x items s
   first_side_rows (Next.Elements l) x items s =
       spend_rows s >>= (λ t.
-      stops_rows book text j l.values (closing_in l.closing) (steps_rows book text inner n c j rest) x items t)
+      stops_rows book text j l.values (l.closing) (steps_rows book text inner n c j rest) x items t)
 
   -- kind 13 without its opening: the empty list
   unfoldable pub unopened_rows : ℕ → ℕ → RowState → Result Outcome
   unopened_rows x items s =
       makes (make text Cell.empty) s >>= (λ e.
-      stops_rows book text j e.cell none (steps_rows book text inner n c j rest) x items e.state)
+      stops_rows book text j e.cell None (steps_rows book text inner n c j rest) x items e.state)
 
   -- a list begins, or one of names does
-  unfoldable pub lists_rows : Bool → Bool → ℕ → Closing → ℕ → ℕ → RowState → Result Outcome
+  unfoldable pub lists_rows : Bool → Bool → ℕ → Option ℕ → ℕ → ℕ → RowState → Result Outcome
   lists_rows comma true M closing x items s =
       makes (make text Cell.empty) s >>= (λ e. names_rows e.cell closing M x items e.state)
   lists_rows comma false M closing x items s =
-      listing_rows book text inner n c j comma M (closing_in closing) rest (steps_rows book text inner n c j rest) x
+      listing_rows book text inner n c j comma M closing rest (steps_rows book text inner n c j rest) x
       items
       s
 
   -- kind 14 without its opening: an absent item, then the body
   unfoldable pub body_alone_rows : ℕ → ℕ → ℕ → RowState → Result Outcome
   body_alone_rows M x items s =
-      makes (make text Cell.absent) s >>= (λ a. body_rows book text inner n none c j M a.cell rest x items a.state)
+      makes (make text Cell.absent) s >>= (λ a. body_rows book text inner n None c j M a.cell rest x items a.state)
 
   -- a token that ends at a place
   unfoldable pub token_rows : Option Item → ℕ → ℕ → RowState → Result Outcome
@@ -191,7 +187,7 @@ GoneFrom text before s after g z =
 pub record StepSpent (r : code.Outcome) (step : Step) (s : State) : Type 0 where
   pub is : (book : Book) (text : List ℕ) (inner : Option RowRunner) (n : ℕ) (cells : List Cell) (T : List Row) →
       given r cells T ≡
-      (step_unit_rows book text inner n step (row_state s.units cells T) >>= (λ t. ok (outcome none t)))
+      (step_unit_rows book text inner n step (row_state s.units cells T) >>= (λ t. ok (outcome None t)))
   pub cells : r.state.cells ≡ s.cells
 
 -- both sides of a choice at a place

@@ -10,7 +10,7 @@ use Rattle.std.specs.Prelude.{◌≡◌, refl, Bool, List, ◌∷◌, ℕ, leb}
 use Rattle.std.proofs.Math.Path.{sym, ap}
 use Rattle.std.proofs.Common.{◌∙◌, arith, leb-true}
 use Rattle.std.proofs.Math.Bool.{true, false}
-use Rattle.std.proofs.Math.Option.{Option, none, some}
+use Rattle.std.specs.Prelude.{Option, None, Some}
 use Rattle.characters.specs.Cases.{by_test}
 use Rattle.characters.specs.Classes.{between}
 use Rattle.characters.specs.Skipping.{skip_from}
@@ -27,22 +27,17 @@ use Rattle.run_model.specs.Rows.{Row, scope_in}
 use Rattle.run_model.specs.Model.{RowState, row_state, outcome, RowRunner}
 use Rattle.run_model.specs.Model.{choice_rows, listing_rows, open_rows, body_rows, step_unit_rows, steps_rows}
 use Rattle.errors.specs.Maps.{error_of, failure_of}
-use Rattle.tokens.specs.Maps.{closing_in, item_of, taken_of}
+use Rattle.tokens.specs.Maps.{item_of, taken_of}
 use Rattle.errors.specs.declared.Error as code
-use Rattle.errors.specs.declared.Failure.{Failure}
 use Rattle.tokens.specs.declared.steps.Item.{Item}
 use Rattle.tokens.specs.declared.steps.Taken.{Taken}
-use Rattle.tokens.specs.declared.steps.Closing.{Closing}
+use Rattle.transitions.specs.Results.{CellOutcome, Outcome, Reached, Stage, done_with, without_failure}
 use Rattle.transitions.specs.declared.outcomes.State.{State}
-use Rattle.transitions.specs.declared.outcomes.Outcome.{Outcome}
-use Rattle.transitions.specs.declared.items.CellOutcome.{CellOutcome}
 use Rattle.transitions.specs.declared.stages.Doing.{Doing}
 use Rattle.transitions.specs.declared.stages.List as lists
 use Rattle.transitions.specs.declared.stages.Next.{Next}
-use Rattle.transitions.specs.declared.stages.Reached.{Reached}
-use Rattle.transitions.specs.declared.stages.Stage.{Stage}
-use Rattle.transitions.specs.Outcomes.{cells_of, Held, given, Spent, MadeBy, without_failure}
-use Rattle.transitions.specs.Outcomes.{done_with, failure_at}
+use Rattle.transitions.specs.Outcomes.{cells_of, Held, given, Spent, MadeBy}
+use Rattle.transitions.specs.Outcomes.{failure_at}
 use Rattle.transitions.specs.OutcomeLaws.{given_ok, given_met}
 use Rattle.transitions.specs.Steps.{next_rows, descends_rows, chooses_rows, does_rows, names_rows, lists_rows}
 use Rattle.transitions.specs.Steps.{omits_rows, body_alone_rows, unopened_rows, token_rows}
@@ -55,7 +50,7 @@ use Rattle.transitions.specs.StopLaws.{stops_part, omits_part}
 
 -- ---- A step's unit
 module _ (step : Step) (s : State) (r : Outcome) (kind : ℕ) (ek : kind ≡ step_number step) where
-  free_unit : between 10 11 kind ≡ true → r ≡ done_with Failure.None s → StepSpent r step s
+  free_unit : between 10 11 kind ≡ true → r ≡ done_with None s → StepSpent r step s
   unfolding step_unit_rows given ◌>>=◌
   free_unit b e =
       record {
@@ -63,10 +58,10 @@ module _ (step : Step) (s : State) (r : Outcome) (kind : ℕ) (ek : kind ≡ ste
         cells = ap (λ (o : Outcome). o.state.cells) e;
       }
 
-  pub free_many : kind ≡ 10 → r ≡ done_with Failure.None s → StepSpent r step s
+  pub free_many : kind ≡ 10 → r ≡ done_with None s → StepSpent r step s
   free_many h e = free_unit (rw h) e
 
-  pub free_list : kind ≡ 11 → r ≡ done_with Failure.None s → StepSpent r step s
+  pub free_list : kind ≡ 11 → r ≡ done_with None s → StepSpent r step s
   free_list h e = free_unit (rw h) e
 
   other_kind : (kind ≡ 10 → ⊥) → (kind ≡ 11 → ⊥) → between 10 11 kind ≡ false
@@ -101,13 +96,13 @@ module _ (r : Outcome) (step : Step) (s : State) (p : StepSpent r step s) (book 
       (row_state r.state.units cells T) (sym (given_ok r cells T l) ∙ p.is book text inner n cells T)
 
 -- ---- A list begins, or has no opening
-abbrev list_of : Bool → Bool → ℕ → Closing → ℕ → lists.List
+abbrev list_of : Bool → Bool → ℕ → Option ℕ → ℕ → lists.List
 list_of comma names M closing values =
     record { comma = comma; names = names; nonterminal = M; values = values; closing = closing }
 
 module _ (book : Book) (text before after : List ℕ) (j : ℕ) (s : State) (m : CellOutcome)
     (w : MadeBy text before after s m (run.make text Cell.empty)) (place items : ℕ) where
-  pub list_begun : (comma names : Bool) (M : ℕ) (closing : Closing) (o : Outcome) →
+  pub list_begun : (comma names : Bool) (M : ℕ) (closing : Option ℕ) (o : Outcome) →
       o ≡ without_failure m.limit m.state →
       StagedFrom book text before s after j
       (record {
@@ -133,7 +128,7 @@ module _ (book : Book) (text before after : List ℕ) (j : ℕ) (s : State) (m :
         is = λ inner n c rest T.
             made_resumes book text inner n c j rest (Doing.Elements (list_of comma false M closing m.cell)) place
             items after m (run.make text Cell.empty) s.units (cells_of before s.cells) v T
-            (λ b. choice_rows book text inner n c j comma M b.cell (closing_in closing) rest
+            (λ b. choice_rows book text inner n c j comma M b.cell closing rest
             (steps_rows book text inner n c j rest) place items b.state) refl;
         held = v.held;
       })
@@ -154,7 +149,7 @@ module _ (book : Book) (text before after : List ℕ) (j : ℕ) (s : State) (m :
       })
 
   pub unopened_stops : (last : List ℕ) (g : Reached) → m.limit ≡ 0 →
-      GoneFrom text after m.state last g (stops_part book text j m.cell Closing.Nothing place items) →
+      GoneFrom text after m.state last g (stops_part book text j m.cell None place items) →
       ReachedFrom book text before s last j g
       (λ inner n c rest s. unopened_rows book text inner n c j rest place items s)
   unfolding unopened_rows
@@ -196,7 +191,7 @@ module _ (book : Book) (text : List ℕ) (inner : Option RowRunner) (n c j : ℕ
 
   step_nothing : takes ≡ steps.Taken.nothing →
       step_part book text j step x items inner n c rest s
-      ≡ ok (outcome (some (step_error book text (scope_in text t.rows c) step (skip_from text x))) t)
+      ≡ ok (outcome (Some (step_error book text (scope_in text t.rows c) step (skip_from text x))) t)
   unfolding steps_rows ◌>>=◌
   step_nothing e = rw (u, steps_rows, ◌>>=◌) (rw e)
 
@@ -217,8 +212,8 @@ module _ (book : Book) (text : List ℕ) (inner : Option RowRunner) (n c j : ℕ
   unfolding steps_rows does_rows chooses_rows ◌>>=◌
   step_optional M e = rw (u, steps_rows, ◌>>=◌) (rw e)
 
-  step_list : (comma names : Bool) (M : ℕ) (closing : Closing) (y : ℕ) →
-      takes ≡ taken_of (Taken.List comma names M closing y) → step_part book text j step x items inner n c rest s
+  step_list : (comma names : Bool) (M : ℕ) (closing : Option ℕ) (y : ℕ) →
+      takes ≡ taken_of (Some (Taken.List comma names M closing y)) → step_part book text j step x items inner n c rest s
       ≡ lists_rows book text inner n c j rest comma names M closing y items t
   unfolding steps_rows lists_rows names_rows ◌>>=◌
   step_list comma true M closing y e = rw (u, steps_rows, ◌>>=◌) (rw e)
@@ -237,7 +232,7 @@ module _ (book : Book) (text : List ℕ) (inner : Option RowRunner) (n c j : ℕ
 -- a body behind no opening is a child like any other, behind an absent item
 omits_body : (book : Book) (text : List ℕ) (inner : Option RowRunner) (n c j : ℕ) (rest : List (Todo ℕ)) (M x items : ℕ)
     (s : RowState) →
-    omits_rows book text j (λ x items s. descends_rows book text inner n c j rest none Next.Steps M x items s) x items s
+    omits_rows book text j (λ x items s. descends_rows book text inner n c j rest None Next.Steps M x items s) x items s
     ≡ body_alone_rows book text inner n c j rest M x items s
 unfolding omits_rows body_alone_rows body_rows open_rows descends_rows next_rows ◌>>=◌
 omits_body book text inner n c j rest M x items s = refl
@@ -274,8 +269,8 @@ module _ (book : Book) (text store : List ℕ) (T : List Row) (c j : ℕ) (s : S
         held = spent_held h;
       })
 
-  module _ (l : spent.limit ≡ 0) (t : Taken)
-      (et : taken_of t ≡ step_at book text (scope_in text T c) step x) where
+  module _ (l : spent.limit ≡ 0) (o : Option Taken)
+      (eo : taken_of o ≡ step_at book text (scope_in text T c) step x) where
     -- the state of the model after the unit
     spends : (inner : Option RowRunner) (n : ℕ) →
         step_unit_rows book text inner n step (row_state s.units (cells_of store s.cells) T)
@@ -284,108 +279,113 @@ module _ (book : Book) (text store : List ℕ) (T : List Row) (c j : ℕ) (s : S
         unit_goes spent step s p book text inner n (cells_of store s.cells) T l
         ∙ ap (λ k. ok (row_state spent.state.units k T)) (sym same_cells)
 
-    pub step_fails : (e : code.Error) (o : Outcome) (r : Reached) (g : Stage) → t ≡ Taken.Nothing →
+    pub step_fails : (e : code.Error) (q : Outcome) (r : Reached) (g : Stage) → o ≡ None →
         error_of e ≡ step_error book text (scope_in text T c) step (skip_from text x) →
-        o ≡ done_with (Failure.At e) spent.state → r ≡ ended_by o → g ≡ then_steps r → StagedIn book text store s
+        q ≡ done_with (Some e) spent.state → r ≡ ended_by q → g ≡ then_steps r → StagedIn book text store s
         store T c j g (step_part book text j step x items)
-    step_fails e o r g k d eo er eg h =
-        rw (eg, er, eo) (record {
+    step_fails e q r g k d eq er eg h =
+        rw (eg, er, eq) (record {
           is = λ inner n rest.
               resumes_failed book text inner n c j rest Doing.Steps 0 0 e spent.state
               (cells_of store spent.state.cells) T
-              ∙ ap (λ z. ok (outcome (some z) (state_in spent.state store T))) d
+              ∙ ap (λ z. ok (outcome (Some z) (state_in spent.state store T))) d
               ∙ sym (step_nothing book text inner n c j rest step x items
               (row_state s.units (cells_of store s.cells) T) (state_in spent.state store T)
-              (spends inner n) (sym et ∙ ap taken_of k));
+              (spends inner n) (sym eo ∙ ap taken_of k));
           held = spent_held h;
         })
 
-    pub step_reads : (after : List ℕ) (next : ℕ) (item : Item) (r : Reached) (g : Stage) → t ≡ Taken.Token next item →
-        ReachedFrom book text store spent.state after j r
-        (λ inner n c rest s. token_rows book text inner n c j rest (item_of item) next items s) →
-        g ≡ then_steps r → StagedIn book text store s after T c j g (step_part book text j step x items)
-    step_reads after next item r g k w eg h =
-        let u = w (spent_held h) in
-        rw eg (record {
-          is = λ inner n rest.
-              u.is inner n c rest T
-              ∙ sym (step_token book text inner n c j rest step x items
-              (row_state s.units (cells_of store s.cells) T) (state_in spent.state store T)
-              (spends inner n) next (item_of item) (sym et ∙ ap taken_of k));
-          held = u.held;
-        })
+    -- what the step took, where it took something
+    module _ (t : Taken) (is : o ≡ Some t) where
+      took : (u : Taken) → t ≡ u → step_at book text (scope_in text T c) step x ≡ taken_of (Some u)
+      took u k = sym eo ∙ ap taken_of (is ∙ ap Some k)
 
-    pub step_descends : (M : ℕ) (g : Stage) → t ≡ Taken.Child M → g ≡ then_does x items (Doing.Child M) spent.state →
-        StagedIn book text store s store T c j g (step_part book text j step x items)
-    step_descends M g k eg h =
-        rw eg (record {
-          is = λ inner n rest.
-              resumes_on book text inner n c j rest (Doing.Child M) x items 0 spent.state
-              (cells_of store spent.state.cells) T refl
-              ∙ sym (step_child book text inner n c j rest step x items (row_state s.units (cells_of store s.cells)
-              T) (state_in spent.state store T) (spends inner n) M (sym et ∙ ap taken_of k));
-          held = spent_held h;
-        })
+      pub step_reads : (after : List ℕ) (next : ℕ) (item : Option Item) (g : Stage) → t ≡ Taken.Token next item →
+          StagedFrom book text store spent.state after j g
+          (λ inner n c rest s. token_rows book text inner n c j rest (item_of item) next items s) →
+          StagedIn book text store s after T c j g (step_part book text j step x items)
+      step_reads after next item g k w h =
+          let u = w (spent_held h) in
+          record {
+            is = λ inner n rest.
+                u.is inner n c rest T
+                ∙ sym (step_token book text inner n c j rest step x items
+                (row_state s.units (cells_of store s.cells) T) (state_in spent.state store T)
+                (spends inner n) next (item_of item) (took _ k));
+            held = u.held;
+          }
 
-    pub step_chooses : (M : ℕ) (g : Stage) → t ≡ Taken.Optional M →
-        g ≡ then_does x items (Doing.Optional M) spent.state →
-        StagedIn book text store s store T c j g (step_part book text j step x items)
-    step_chooses M g k eg h =
-        rw eg (record {
-          is = λ inner n rest.
-              resumes_on book text inner n c j rest (Doing.Optional M) x items 0 spent.state
-              (cells_of store spent.state.cells) T refl
-              ∙ sym (step_optional book text inner n c j rest step x items
-              (row_state s.units (cells_of store s.cells) T) (state_in spent.state store T)
-              (spends inner n) M (sym et ∙ ap taken_of k));
-          held = spent_held h;
-        })
+      pub step_descends : (M : ℕ) (g : Stage) → t ≡ Taken.Child M → g ≡ then_does x items (Doing.Child M) spent.state →
+          StagedIn book text store s store T c j g (step_part book text j step x items)
+      step_descends M g k eg h =
+          rw eg (record {
+            is = λ inner n rest.
+                resumes_on book text inner n c j rest (Doing.Child M) x items 0 spent.state
+                (cells_of store spent.state.cells) T refl
+                ∙ sym (step_child book text inner n c j rest step x items (row_state s.units (cells_of store s.cells)
+                T) (state_in spent.state store T) (spends inner n) M (took _ k));
+            held = spent_held h;
+          })
 
-    pub step_lists : (after : List ℕ) (comma names : Bool) (M : ℕ) (closing : Closing) (y : ℕ) (g : Stage) →
-        t ≡ Taken.List comma names M closing y → StagedFrom book text store spent.state after j g
-        (λ inner n c rest s. lists_rows book text inner n c j rest comma names M closing y items s) →
-        StagedIn book text store s after T c j g (step_part book text j step x items)
-    step_lists after comma names M closing y g k w h =
-        let u = w (spent_held h) in
-        record {
-          is = λ inner n rest.
-              u.is inner n c rest T
-              ∙ sym (step_list book text inner n c j rest step x items
-              (row_state s.units (cells_of store s.cells) T) (state_in spent.state store T)
-              (spends inner n) comma names M closing y (sym et ∙ ap taken_of k));
-          held = u.held;
-        }
+      pub step_chooses : (M : ℕ) (g : Stage) → t ≡ Taken.Optional M →
+          g ≡ then_does x items (Doing.Optional M) spent.state →
+          StagedIn book text store s store T c j g (step_part book text j step x items)
+      step_chooses M g k eg h =
+          rw eg (record {
+            is = λ inner n rest.
+                resumes_on book text inner n c j rest (Doing.Optional M) x items 0 spent.state
+                (cells_of store spent.state.cells) T refl
+                ∙ sym (step_optional book text inner n c j rest step x items
+                (row_state s.units (cells_of store s.cells) T) (state_in spent.state store T)
+                (spends inner n) M (took _ k));
+            held = spent_held h;
+          })
 
-    pub step_unopens : (after : List ℕ) (y : ℕ) (r : Reached) (g : Stage) → t ≡ Taken.Unopened y →
-        ReachedFrom book text store spent.state after j r
-        (λ inner n c rest s. unopened_rows book text inner n c j rest y items s) → g ≡ then_steps r →
-        StagedIn book text store s after T c j g (step_part book text j step x items)
-    step_unopens after y r g k w eg h =
-        let u = w (spent_held h) in
-        rw eg (record {
-          is = λ inner n rest.
-              u.is inner n c rest T
-              ∙ sym (step_unopened book text inner n c j rest step x items
-              (row_state s.units (cells_of store s.cells) T) (state_in spent.state store T)
-              (spends inner n) y (sym et ∙ ap taken_of k));
-          held = u.held;
-        })
+      pub step_lists : (after : List ℕ) (comma names : Bool) (M : ℕ) (closing : Option ℕ) (y : ℕ) (g : Stage) →
+          t ≡ Taken.List comma names M closing y → StagedFrom book text store spent.state after j g
+          (λ inner n c rest s. lists_rows book text inner n c j rest comma names M closing y items s) →
+          StagedIn book text store s after T c j g (step_part book text j step x items)
+      step_lists after comma names M closing y g k w h =
+          let u = w (spent_held h) in
+          record {
+            is = λ inner n rest.
+                u.is inner n c rest T
+                ∙ sym (step_list book text inner n c j rest step x items
+                (row_state s.units (cells_of store s.cells) T) (state_in spent.state store T)
+                (spends inner n) comma names M closing y (took _ k));
+            held = u.held;
+          }
 
-    -- kind 14 without its opening
-    pub step_omits : (after : List ℕ) (M : ℕ) (g : Stage) → t ≡ Taken.Body M →
-        StagedFrom book text store spent.state after j g
-        (λ inner n c rest s. body_alone_rows book text inner n c j rest M x items s) →
-        StagedIn book text store s after T c j g (step_part book text j step x items)
-    step_omits after M g k w h =
-        let u = w (spent_held h) in
-        record {
-          is = λ inner n rest.
-              u.is inner n c rest T
-              ∙ sym (step_body book text inner n c j rest step x items
-              (row_state s.units (cells_of store s.cells) T) (state_in spent.state store T)
-              (spends inner n) M (sym et ∙ ap taken_of k));
-          held = u.held;
-        }
+      pub step_unopens : (after : List ℕ) (y : ℕ) (g : Stage) → t ≡ Taken.Unopened y →
+          StagedFrom book text store spent.state after j g
+          (λ inner n c rest s. unopened_rows book text inner n c j rest y items s) →
+          StagedIn book text store s after T c j g (step_part book text j step x items)
+      step_unopens after y g k w h =
+          let u = w (spent_held h) in
+          record {
+            is = λ inner n rest.
+                u.is inner n c rest T
+                ∙ sym (step_unopened book text inner n c j rest step x items
+                (row_state s.units (cells_of store s.cells) T) (state_in spent.state store T)
+                (spends inner n) y (took _ k));
+            held = u.held;
+          }
+
+      -- kind 14 without its opening
+      pub step_omits : (after : List ℕ) (M : ℕ) (g : Stage) → t ≡ Taken.Body M →
+          StagedFrom book text store spent.state after j g
+          (λ inner n c rest s. body_alone_rows book text inner n c j rest M x items s) →
+          StagedIn book text store s after T c j g (step_part book text j step x items)
+      step_omits after M g k w h =
+          let u = w (spent_held h) in
+          record {
+            is = λ inner n rest.
+                u.is inner n c rest T
+                ∙ sym (step_body book text inner n c j rest step x items
+                (row_state s.units (cells_of store s.cells) T) (state_in spent.state store T)
+                (spends inner n) M (took _ k));
+            held = u.held;
+          }
 
 -- the step that the code has read
 pub at_step :

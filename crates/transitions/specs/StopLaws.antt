@@ -8,7 +8,7 @@
 use Rattle.std.specs.Prelude.{◌≡◌, Bool, true, false, cond, List, ℕ, ◌<◌}
 use Rattle.std.proofs.Math.Path.{refl, sym, ap}
 use Rattle.std.proofs.Common.{◌∙◌, arith}
-use Rattle.std.proofs.Math.Option.{Option, none, some}
+use Rattle.std.specs.Prelude.{Option, None, Some}
 use Rattle.characters.specs.Skipping.{skip_from}
 use Rattle.book.specs.Book.{Book, nth_variant}
 use Rattle.book.specs.declared.records.Variant.{Variant}
@@ -27,18 +27,11 @@ use Rattle.sets.specs.Sets.{parse}
 use Rattle.calls.specs.Table.{RunAdded}
 use Rattle.calls.specs.SettlingLaws.{run_added_model}
 use Rattle.errors.specs.Maps.{error_of}
-use Rattle.tokens.specs.Maps.{end_of, closing_in}
 use Rattle.errors.specs.declared.Error as code
-use Rattle.errors.specs.declared.Failure.{Failure}
-use Rattle.tokens.specs.declared.steps.Closing.{Closing}
-use Rattle.tokens.specs.declared.tokens.End.{End}
+use Rattle.transitions.specs.Results.{CellOutcome, Outcome, Reached, done_with, without_failure}
 use Rattle.transitions.specs.declared.outcomes.State.{State}
-use Rattle.transitions.specs.declared.outcomes.Outcome.{Outcome}
-use Rattle.transitions.specs.declared.items.CellOutcome.{CellOutcome}
-use Rattle.transitions.specs.declared.stages.Reached.{Reached}
 use Rattle.transitions.specs.Fit.{Fit}
-use Rattle.transitions.specs.Outcomes.{cells_of, bare, Runs, MadeIn, MadeBy, without_failure}
-use Rattle.transitions.specs.Outcomes.{done_with}
+use Rattle.transitions.specs.Outcomes.{cells_of, bare, Runs, MadeIn, MadeBy}
 use Rattle.transitions.specs.OutcomeLaws.{given_ok, given_met}
 use Rattle.transitions.specs.Steps.{omits_rows}
 use Rattle.transitions.specs.Steps.{GoPart, GoneFrom}
@@ -73,20 +66,20 @@ module _ (book : Book) (text before after : List ℕ) (c j x items : ℕ) (s : S
       (a : RunAdded b T U c p) (l : m.limit ≡ 0) where
     completed : (v : MadeIn text after m (cell_of_value book text j items (bare s.units (cells_of before s.cells)))) →
         complete_rows book text c j x items (row_state s.units (cells_of before s.cells) T)
-        ≡ cond b (ok (outcome none (state_in m.state after U))) (met 22 m.state.units)
+        ≡ cond b (ok (outcome None (state_in m.state after U))) (met 22 m.state.units)
     unfolding complete_rows
     completed v =
         bind_ok _ (makes_ok text after m (cell_of_value book text j items) s.units (cells_of before s.cells) v T l)
         ∙ ap (λ p. add_run book text c p (state_in m.state after T)) (sym q)
         ∙ run_added_model b T U c p a book text m.state.units (cells_of after m.state.cells)
 
-    pub finish_added : (r : Outcome) → b ≡ true → r ≡ done_with Failure.None m.state →
+    pub finish_added : (r : Outcome) → b ≡ true → r ≡ done_with None m.state →
         Runs text before s.cells after U r
         (λ cells. complete_rows book text c j x items (row_state s.units cells T))
     finish_added r y e h =
         let v = w h in
         rw e (record {
-          is = given_ok (done_with Failure.None m.state) (cells_of after m.state.cells) U refl
+          is = given_ok (done_with None m.state) (cells_of after m.state.cells) U refl
               ∙ sym (rw y at (completed v));
           held = v.held;
         })
@@ -105,24 +98,24 @@ module _ (book : Book) (text before after : List ℕ) (c j x items : ℕ) (s : S
 -- ---- A list stops
 module _ (book : Book) (text : List ℕ) (j values : ℕ) (close : Option ℕ) (go : RowGo) (x items : ℕ) (s : RowState)
     (l : RowMade) (e : makes (run.make text (Cell.list values)) s ≡ ok l) where
-  stops_unclosed : closed text close x ≡ none →
+  stops_unclosed : closed text close x ≡ None →
       stops_rows book text j values close go x items s
-      ≡ ok (outcome (some (error (skip_from text x) 1 (closing_code close))) l.state)
+      ≡ ok (outcome (Some (error (skip_from text x) 1 (closing_code close))) l.state)
   unfolding stops_rows ◌>>=◌
   stops_unclosed n = rw (e, stops_rows, ◌>>=◌) (rw n)
 
-  stops_closed : (y : ℕ) → closed text close x ≡ some y →
+  stops_closed : (y : ℕ) → closed text close x ≡ Some y →
       stops_rows book text j values close go x items s
       ≡ (makes (run.with_cell book text j items l.cell) l.state >>= (λ m. go y m.cell m.state))
   unfolding stops_rows ◌>>=◌
   stops_closed y n = rw (e, stops_rows, ◌>>=◌) (rw n)
 
 -- the list's part of the model
-abbrev pub stops_part : Book → List ℕ → ℕ → ℕ → Closing → ℕ → ℕ → GoPart
+abbrev pub stops_part : Book → List ℕ → ℕ → ℕ → Option ℕ → ℕ → ℕ → GoPart
 stops_part book text j values closing at items go s =
-    stops_rows book text j values (closing_in closing) go at items s
+    stops_rows book text j values closing go at items s
 
-module _ (book : Book) (text before middle : List ℕ) (j values : ℕ) (closing : Closing) (at items : ℕ) (s : State)
+module _ (book : Book) (text before middle : List ℕ) (j values : ℕ) (closing : Option ℕ) (at items : ℕ) (s : State)
     (m : CellOutcome) (w : MadeBy text before middle s m (run.make text (Cell.list values))) where
   pub stop_limit : (g : Reached) → (m.limit ≡ 0 → ⊥) → g ≡ reached_with m 0 →
       GoneFrom text before s middle g (stops_part book text j values closing at items)
@@ -138,26 +131,26 @@ module _ (book : Book) (text before middle : List ℕ) (j values : ℕ) (closing
         held = v.held;
       })
 
-  module _ (l : m.limit ≡ 0) (end : End) (ee : end_of end ≡ closed text (closing_in closing) at) where
-    pub stop_unclosed : (g : Reached) (e : code.Error) (o : Outcome) → end ≡ End.Nothing →
-        error_of e ≡ error (skip_from text at) 1 (closing_code (closing_in closing)) →
-        o ≡ done_with (Failure.At e) m.state → g ≡ ended_by o →
+  module _ (l : m.limit ≡ 0) (end : Option ℕ) (ee : end ≡ closed text closing at) where
+    pub stop_unclosed : (g : Reached) (e : code.Error) (o : Outcome) → end ≡ None →
+        error_of e ≡ error (skip_from text at) 1 (closing_code closing) →
+        o ≡ done_with (Some e) m.state → g ≡ ended_by o →
         GoneFrom text before s middle g (stops_part book text j values closing at items)
     stop_unclosed g e o n d eo q h =
         let v = w h in
         rw (q, eo) (record {
           is = λ go T.
               goes_failed (λ s. go 0 0 s) e m.state (cells_of middle m.state.cells) T
-              ∙ ap (λ z. ok (outcome (some z) (state_in m.state middle T))) d
-              ∙ sym (stops_unclosed book text j values (closing_in closing) go
+              ∙ ap (λ z. ok (outcome (Some z) (state_in m.state middle T))) d
+              ∙ sym (stops_unclosed book text j values closing go
               at items (row_state s.units (cells_of before s.cells) T)
               (row_made m.cell (state_in m.state middle T))
               (makes_ok text middle m (run.make text (Cell.list values)) s.units (cells_of before s.cells) v T l)
-              (sym ee ∙ ap end_of n));
+              (sym ee ∙ n));
           held = v.held;
         })
 
-    pub stop_closed : (after : List ℕ) (g : Reached) (r : CellOutcome) (next : ℕ) → end ≡ End.At next →
+    pub stop_closed : (after : List ℕ) (g : Reached) (r : CellOutcome) (next : ℕ) → end ≡ Some next →
         MadeBy text middle after m.state r (run.with_cell book text j items m.cell) →
         g ≡ reached_with r next → GoneFrom text before s after g (stops_part book text j values closing at items)
     stop_closed after g r next n k q h =
@@ -167,11 +160,11 @@ module _ (book : Book) (text before middle : List ℕ) (j values : ℕ) (closing
           is = λ go T.
               made_goes (λ s. go next r.cell s) text after r (run.with_cell book text j items m.cell)
               m.state.units (cells_of middle m.state.cells) u T (λ b. go next b.cell b.state) refl
-              ∙ sym (stops_closed book text j values (closing_in closing) go
+              ∙ sym (stops_closed book text j values closing go
               at items (row_state s.units (cells_of before s.cells) T)
               (row_made m.cell (state_in m.state middle T))
               (makes_ok text middle m (run.make text (Cell.list values)) s.units (cells_of before s.cells) v T l)
-              next (sym ee ∙ ap end_of n));
+              next (sym ee ∙ n));
           held = u.held;
         })
 

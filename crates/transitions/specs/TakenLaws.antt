@@ -11,7 +11,7 @@
 use Rattle.std.proofs.Math.Path.{◌≡◌, refl}
 use Rattle.std.specs.Prelude.{Bool, true, false, cond, ℕ, suc, ◌+◌, ◌≤◌, ◌<◌, ltb, eqb, length, get_or}
 use mathlib.Core.List.{List, [], ◌∷◌}
-use Rattle.std.proofs.Math.Option.{Option, none, some}
+use Rattle.std.specs.Prelude.{Option, None, Some}
 use Rattle.std.proofs.Common.{arith, ltb-true, ltb-false}
 use Rattle.characters.specs.Cases.{by_test}
 use Rattle.characters.specs.Skipping.{skip_from}
@@ -20,8 +20,8 @@ use Rattle.characters.specs.Lexemes.{number_at}
 use Rattle.characters.proofs.LexemeLaws.{number_bounds}
 use Rattle.characters.specs.declared.lexemes.Number.{Number}
 use Rattle.characters.specs.Spelling.{same}
-use Rattle.book.specs.Book.{Book, Entry, nth_entry, lookup_from, lookup_name}
-use Rattle.book.specs.declared.names.Found.{Found}
+use Rattle.book.specs.Book.{Book, Entry, nth_entry, lookup_from, lookup_name, named}
+use Rattle.book.specs.declared.names.StartingName.{StartingName}
 use Rattle.book.specs.declared.records.Step.{Step}
 use Rattle.semantics.specs.Uses.{Scope}
 use Rattle.semantics.specs.Tokens as tokens
@@ -33,12 +33,11 @@ use Rattle.semantics.specs.Steps.{After, goes, halts, after_element, closed, ste
 use Rattle.tokens.specs.Maps.{item_of, taken_of}
 use Rattle.tokens.specs.declared.steps.Item.{Item}
 use Rattle.tokens.specs.declared.steps.Taken.{Taken}
-use Rattle.tokens.specs.declared.steps.Closing.{Closing}
 use Rattle.transitions.specs.Fit.{Fits, Fit, ItemFits, TakenFits}
 
-pub by_option : {A P : Type 0} (o : Option A) → ((a : A) → o ≡ some a → P) → (o ≡ none → P) → P
-by_option none f g = g refl
-by_option (some a) f g = f a refl
+pub by_option : {A P : Type 0} (o : Option A) → ((a : A) → o ≡ Some a → P) → (o ≡ None → P) → P
+by_option None f g = g refl
+by_option (Some a) f g = f a refl
 
 -- ---- Places
 pub skip_fits : (text : List ℕ) (x : ℕ) → length text ≤ 4096 → x < 4294967296 → skip_from text x < 4294967296
@@ -48,31 +47,31 @@ skip_fits text x short h =
     (λ t. omega (arith, skip_out text x (ltb-false x (length text) t)))
 
 pub free_end_fits : (book : Book) (text : List ℕ) (at end : ℕ) → length text ≤ 4096 →
-    free_end book text at ≡ some end → end < 4294967296
+    free_end book text at ≡ Some end → end < 4294967296
 free_end_fits book text at end short q = omega (arith, free_end_within book text at end q)
 
 -- ---- Characters
-pub character_within : (text : List ℕ) (a x end : ℕ) → character_end text a x ≡ some end → end ≤ length text
+pub character_within : (text : List ℕ) (a x end : ℕ) → character_end text a x ≡ Some end → end ≤ length text
 unfolding character_end
 character_within text a x end q =
     by_test (ltb (skip_from text x) (length text))
     (λ t. by_test (eqb (get_or text (skip_from text x) 0) a)
-    (λ u. let p : some (skip_from text x + 1) ≡ some end = rw (t, u, character_end) at q in
+    (λ u. let p : Some (skip_from text x + 1) ≡ Some end = rw (t, u, character_end) at q in
     let s : skip_from text x + 1 ≡ end = cc in
     omega (arith, ltb-true (skip_from text x) (length text) t))
     (λ u.
-    let p : none ≡ some end = rw (t, u, character_end) at q in let z : ◌≡◌ {A = ℕ} 0 1 = cc in absurd (omega arith)))
-    (λ t. let p : none ≡ some end = rw (t, character_end) at q in let z : ◌≡◌ {A = ℕ} 0 1 = cc in absurd (omega arith))
+    let p : None ≡ Some end = rw (t, u, character_end) at q in let z : ◌≡◌ {A = ℕ} 0 1 = cc in absurd (omega arith)))
+    (λ t. let p : None ≡ Some end = rw (t, character_end) at q in let z : ◌≡◌ {A = ℕ} 0 1 = cc in absurd (omega arith))
 
-pub character_fits : (text : List ℕ) (a x end : ℕ) → length text ≤ 4096 → character_end text a x ≡ some end → Fits end
+pub character_fits : (text : List ℕ) (a x end : ℕ) → length text ≤ 4096 → character_end text a x ≡ Some end → Fits end
 character_fits text a x end short q = omega (arith, character_within text a x end q)
 
 -- where a list is closed
 pub closed_fits : (text : List ℕ) (close : Option ℕ) (x y : ℕ) → length text ≤ 4096 → Fits x →
-    closed text close x ≡ some y → Fits y
+    closed text close x ≡ Some y → Fits y
 unfolding closed
-closed_fits text none x y short h q = let s : x ≡ y = cc in omega arith
-closed_fits text (some c) x y short h q = character_fits text c x y short q
+closed_fits text None x y short h q = let s : x ≡ y = cc in omega arith
+closed_fits text (Some c) x y short h q = character_fits text c x y short q
 
 abbrev AfterFits : After → Type 0
 AfterFits (goes y) = Fits y
@@ -97,84 +96,87 @@ pub halts_fits : (text : List ℕ) (comma : Bool) (x y : ℕ) → length text �
 halts_fits text comma x y short h e = rw (← e) at (after_fits text comma x short h)
 
 -- ---- Names
-found_fits : (t : Bool) (bound i label : ℕ) (found : Found) → i < bound → Fits label →
-    ((j k : ℕ) → found ≡ Found.Name j k → (j < bound) × Fits k) →
-    (j k : ℕ) → cond t (Found.Name i label) found ≡ Found.Name j k → (j < bound) × Fits k
-found_fits true bound i label found l f h j k e =
-    let p : i ≡ j = cc in let q : label ≡ k = cc in (omega arith, omega arith)
-found_fits false bound i label found l f h j k e = h j k e
+found_fits : (t : Bool) (bound i label : ℕ) (found : Option StartingName) → i < bound → Fits label →
+    ((n : StartingName) → found ≡ Some n → (n.number < bound) × Fits n.kind) →
+    (n : StartingName) → cond t (Some (named i label)) found ≡ Some n → (n.number < bound) × Fits n.kind
+found_fits true bound i label found l f h n e =
+    let p : named i label ≡ n = cc in
+    let both : (i < bound) × Fits label = (l, f) in
+    rw (← p) both
+found_fits false bound i label found l f h n e = h n e
 
-lookup_fits : (bound i : ℕ) (found : Found) (names : List Entry) (spelling : List ℕ) → i + length names ≤ bound →
-    ((m : ℕ) → Fits (nth_entry names m).label) → ((j k : ℕ) → found ≡ Found.Name j k → (j < bound) × Fits k) →
-    (j k : ℕ) → lookup_from found i names spelling ≡ Found.Name j k → (j < bound) × Fits k
+lookup_fits : (bound i : ℕ) (found : Option StartingName) (names : List Entry) (spelling : List ℕ) →
+    i + length names ≤ bound → ((m : ℕ) → Fits (nth_entry names m).label) →
+    ((n : StartingName) → found ≡ Some n → (n.number < bound) × Fits n.kind) →
+    (n : StartingName) → lookup_from found i names spelling ≡ Some n → (n.number < bound) × Fits n.kind
 unfolding lookup_from
-lookup_fits bound i found [] spelling room kinds h j k e = h j k e
-lookup_fits bound i found (n ∷ names) spelling room kinds h j k e =
-    lookup_fits bound (suc i) (cond (same spelling n.spelling) (Found.Name i n.label) found) names spelling
+lookup_fits bound i found [] spelling room kinds h n e = h n e
+lookup_fits bound i found (x ∷ names) spelling room kinds h n e =
+    lookup_fits bound (suc i) (cond (same spelling x.spelling) (Some (named i x.label)) found) names spelling
     (omega arith) (λ m. kinds (suc m))
-    (found_fits (same spelling n.spelling) bound i n.label found (omega arith) (kinds 0) h) j k e
+    (found_fits (same spelling x.spelling) bound i x.label found (omega arith) (kinds 0) h) n e
 
 -- a name's number is below the number of names, and its kind fits as theirs do
 pub name_fits : (names : List Entry) (spelling : List ℕ) → ((m : ℕ) → Fits (nth_entry names m).label) →
-    (j k : ℕ) → lookup_name names spelling ≡ Found.Name j k → (j < length names) × Fits k
-name_fits names spelling kinds j k e =
-    lookup_fits (length names) 0 Found.Nothing names spelling (omega arith) kinds
-    (λ j k n. let z : ◌≡◌ {A = ℕ} 0 1 = cc in absurd (omega arith)) j k e
+    (n : StartingName) → lookup_name names spelling ≡ Some n → (n.number < length names) × Fits n.kind
+name_fits names spelling kinds n e =
+    lookup_fits (length names) 0 None names spelling (omega arith) kinds
+    (λ n e. let z : ◌≡◌ {A = ℕ} 0 1 = cc in absurd (omega arith)) n e
 
 -- ---- Variables
 abbrev ItemIn : Option tokens.Item → Type 0
-ItemIn none = Unit {0}
-ItemIn (some (tokens.Item.name place size)) = Fits place × Fits size
-ItemIn (some (tokens.Item.number value)) = Unit {0}
-ItemIn (some (tokens.Item.variable number kind)) = Fits number × Fits kind
-ItemIn (some (tokens.Item.declared depth index)) = Unit {0}
+ItemIn None = Unit {0}
+ItemIn (Some (tokens.Item.name place size)) = Fits place × Fits size
+ItemIn (Some (tokens.Item.number value)) = Unit {0}
+ItemIn (Some (tokens.Item.variable number kind)) = Fits number × Fits kind
+ItemIn (Some (tokens.Item.declared depth index)) = Unit {0}
 
 module _ (book : Book) (text : List ℕ) (fit : Fit book text) where
-  starting_fits : (spelling : List ℕ) (v : Variable) (f : Found) → lookup_name book.names spelling ≡ f →
+  starting_fits : (spelling : List ℕ) (v : Variable) (f : Option StartingName) → lookup_name book.names spelling ≡ f →
       elim f [
-        | Found.Name i kind ↦ some (record { kind = kind; item = tokens.Item.variable i kind })
-        | Found.Nothing ↦ none
-      ] ≡ some v → ItemIn (some v.item)
-  starting_fits spelling v (Found.Name i kind) q p =
-      let s : record { kind = kind; item = tokens.Item.variable i kind } ≡ v = cc in
-      let low = name_fits book.names spelling fit.kinds i kind q in
-      let both : Fits i × Fits kind = (omega (arith, fit.names), low.1) in
+        | Some n ↦ Some (record { kind = n.kind; item = tokens.Item.variable n.number n.kind })
+        | None ↦ None
+      ] ≡ Some v → ItemIn (Some v.item)
+  starting_fits spelling v (Some n) q p =
+      let s : record { kind = n.kind; item = tokens.Item.variable n.number n.kind } ≡ v = cc in
+      let low = name_fits book.names spelling fit.kinds n q in
+      let both : Fits n.number × Fits n.kind = (omega (arith, fit.names, low.0), low.1) in
       rw (← s) both
-  starting_fits spelling v Found.Nothing q p = let z : ◌≡◌ {A = ℕ} 0 1 = cc in absurd (omega arith)
+  starting_fits spelling v None q p = let z : ◌≡◌ {A = ℕ} 0 1 = cc in absurd (omega arith)
 
   -- a starting name fits; a declared one is two numbers of the code
   named_fits : (d : ℕ) (scope : Scope) (spelling : List ℕ) (v : Variable) →
-      variable_in book.names d scope spelling ≡ some v → ItemIn (some v.item)
+      variable_in book.names d scope spelling ≡ Some v → ItemIn (Some v.item)
   unfolding variable_in
   named_fits d [] spelling v q = starting_fits spelling v (lookup_name book.names spelling) refl q
   named_fits d (binder ∷ scope) spelling v q =
       by (lookup_name binder spelling) refl (λ e. named_fits (suc d) scope spelling v e)
     where
-      by : (f : Found) → f ≡ lookup_name binder spelling →
-          (variable_in book.names (suc d) scope spelling ≡ some v → ItemIn (some v.item)) →
-          ItemIn (some v.item)
-      by (Found.Name i kind) e h =
-          let p : some (record { kind = kind; item = tokens.Item.declared d i }) ≡ some v = rw (← e, variable_in) at q
-          in
-          let s : record { kind = kind; item = tokens.Item.declared d i } ≡ v = cc in
+      by : (f : Option StartingName) → f ≡ lookup_name binder spelling →
+          (variable_in book.names (suc d) scope spelling ≡ Some v → ItemIn (Some v.item)) →
+          ItemIn (Some v.item)
+      by (Some n) e h =
+          let p : Some (record { kind = n.kind; item = tokens.Item.declared d n.number }) ≡ Some v =
+          rw (← e, variable_in) at q in
+          let s : record { kind = n.kind; item = tokens.Item.declared d n.number } ≡ v = cc in
           rw (← s) tt
-      by Found.Nothing e h = h (rw (← e, variable_in) at q)
+      by None e h = h (rw (← e, variable_in) at q)
 
-  pub variable_fits : (scope : Scope) (at : ℕ) (v : Read Variable) → variable_at book text scope at ≡ some v →
-      Fits v.end × ItemIn (some v.value.item)
+  pub variable_fits : (scope : Scope) (at : ℕ) (v : Read Variable) → variable_at book text scope at ≡ Some v →
+      Fits v.end × ItemIn (Some v.value.item)
   unfolding variable_at
   variable_fits scope at v q =
       by_option (identifier_end text at)
       (λ end e. by_option (variable_in book.names 0 scope (spelled text at end))
       (λ w f.
-      let p : some (record { end = end; value = w }) ≡ some v = rw (e, variable_at, f) at q in
+      let p : Some (record { end = end; value = w }) ≡ Some v = rw (e, variable_at, f) at q in
       let s : record { end = end; value = w } ≡ v = cc in
       let ends : Fits end = omega (arith, identifier_within text at end e, fit.short) in
-      let both : Fits end × ItemIn (some w.item) = (ends, named_fits 0 scope (spelled text at end) w f) in
+      let both : Fits end × ItemIn (Some w.item) = (ends, named_fits 0 scope (spelled text at end) w f) in
       rw (← s) both)
       (λ f.
-      let p : none ≡ some v = rw (e, variable_at, f) at q in let z : ◌≡◌ {A = ℕ} 0 1 = cc in absurd (omega arith)))
-      (λ e. let p : none ≡ some v = rw (e, variable_at) at q in let z : ◌≡◌ {A = ℕ} 0 1 = cc in absurd (omega arith))
+      let p : None ≡ Some v = rw (e, variable_at, f) at q in let z : ◌≡◌ {A = ℕ} 0 1 = cc in absurd (omega arith)))
+      (λ e. let p : None ≡ Some v = rw (e, variable_at) at q in let z : ◌≡◌ {A = ℕ} 0 1 = cc in absurd (omega arith))
 
 -- ---- What a step takes
 abbrev TakenIn : steps.Taken → Type 0
@@ -287,35 +289,35 @@ module _ (book : Book) (text : List ℕ) (scope : Scope) (fit : Fit book text) (
   step_taken (Step.OptionalDelimited M b c) = optional_taken M b c
   step_taken (Step.Binder M b c) = binder_taken M b c
 
-item_in : (i : Item) → ItemIn (item_of i) → ItemFits i
-item_in Item.Nothing f = f
-item_in (Item.Name place size) f = f
-item_in (Item.Number value) f = f
-item_in (Item.Variable number kind) f = f
-item_in (Item.Declared depth index) f = f
+item_in : (i : Option Item) → ItemIn (item_of i) → ItemFits i
+item_in None f = f
+item_in (Some (Item.Name place size)) f = f
+item_in (Some (Item.Number value)) f = f
+item_in (Some (Item.Variable number kind)) f = f
+item_in (Some (Item.Declared depth index)) f = f
 
-taken_in : (t : Taken) → TakenIn (taken_of t) → TakenFits t
-taken_in Taken.Nothing f = f
-taken_in (Taken.Token next item) f = (f.0, item_in item f.1)
-taken_in (Taken.Child N) f = f
-taken_in (Taken.Optional N) f = f
-taken_in (Taken.List comma true N closing place) f = f
-taken_in (Taken.List comma false N closing place) f = f
-taken_in (Taken.Unopened place) f = f
-taken_in (Taken.Body N) f = f
+taken_in : (t : Option Taken) → TakenIn (taken_of t) → TakenFits t
+taken_in None f = f
+taken_in (Some (Taken.Token next item)) f = (f.0, item_in item f.1)
+taken_in (Some (Taken.Child N)) f = f
+taken_in (Some (Taken.Optional N)) f = f
+taken_in (Some (Taken.List comma true N closing place)) f = f
+taken_in (Some (Taken.List comma false N closing place)) f = f
+taken_in (Some (Taken.Unopened place)) f = f
+taken_in (Some (Taken.Body N)) f = f
 
 pub taken_fits : (book : Book) (text : List ℕ) (scope : Scope) → Fit book text → (x : ℕ) → Fits x → (step : Step) →
-    (t : Taken) → taken_of t ≡ step_at book text scope step x → TakenFits t
+    (t : Option Taken) → taken_of t ≡ step_at book text scope step x → TakenFits t
 taken_fits book text scope fit x h step t e = taken_in t (rw e (step_taken book text scope fit x h step))
 
 -- ---- The same by what was taken
-module _ (t : Taken) (f : TakenFits t) where
-  pub token_fits : (next : ℕ) (item : Item) → t ≡ Taken.Token next item → Fits next × ItemFits item
-  token_fits next item e = rw e at f
+module _ (o : Option Taken) (f : TakenFits o) (t : Taken) (is : o ≡ Some t) where
+  pub token_fits : (next : ℕ) (item : Option Item) → t ≡ Taken.Token next item → Fits next × ItemFits item
+  token_fits next item e = rw (is, e) at f
 
-  pub list_fits : (comma names : Bool) (N : ℕ) (closing : Closing) (place : ℕ) →
+  pub list_fits : (comma names : Bool) (N : ℕ) (closing : Option ℕ) (place : ℕ) →
       t ≡ Taken.List comma names N closing place → Fits place
-  list_fits comma names N closing place e = rw e at f
+  list_fits comma names N closing place e = rw (is, e) at f
 
   pub unopened_fits : (place : ℕ) → t ≡ Taken.Unopened place → Fits place
-  unopened_fits place e = rw e at f
+  unopened_fits place e = rw (is, e) at f

@@ -1,77 +1,90 @@
 // The first side of a choice, and both sides together.
-ghost use Rattle.calls.specs.Table.{InTable, table_at};
+ghost use Rattle.std.specs.Prelude.{◌≡◌, ◌≤◌, IfOk};
+ghost use Rattle.semantics.specs.Numbers.{most_nesting};
+ghost use Rattle.transitions.specs.Results.{reached_of, stage_of, done_with};
 ghost use Rattle.transitions.specs.Steps.{Chosen};
-ghost use Rattle.transitions.specs.LayerContracts.{Short, Fitting, Reaches, first_side};
+ghost use Rattle.transitions.specs.declared.outcomes.State as code;
+ghost use Rattle.transitions.specs.LayerContracts.{Short, Fitting, Reaches, Stages, first_side};
 ghost use Rattle.transitions.specs.declared.stages.Next.{Next};
+ghost use Rattle.transitions.specs.declared.stages.Doing.TheVariants.{Steps};
 
-use crate::outcomes::{Outcome, State, done, failure_of, spend};
+use crate::outcomes::{Ended, State, spend};
 use crate::places::skipped;
-use crate::stages::{List, Next, Progress, Reached, ended};
+use crate::stages::{Doing, List, Next, Progress, Reached, Stage, then_steps};
 use crate::steps::{absent, stop};
+use book::Book;
+use calls::Rows;
+use errors::Error;
 
 // "stop comes before one more"; one unit for both.
 fn first_stop(
-    book: &[u8],
-    index: &[usize],
+    book: &Book,
     text: &[u8],
     store: &mut [u32],
     here: Progress,
     list: List,
-    state: State,
-) -> Reached
-    requires { Fitting book.now index.now text.now }
-    ensures { Reaches book.now index.now text.now store.old store.new here state result
+    state: &mut State,
+) -> Result<Reached, Ended>
+    requires { Fitting book.now text.now }
+    ensures { Reaches book.now text.now store.old store.new here state.old (reached_of result state.new)
         (first_side (Next.Elements list) here) }
 {
-    let spent = spend(state);
-    if spent.limit != 0 {
-        return ended(spent);
-    }
-    let s = spent.state;
-    let closing = list.closing;
+    spend(state)?;
     stop(
         book,
-        index,
         text,
         store,
         here,
         list.values,
-        closing,
+        list.closing,
         here.place,
-        s,
+        state,
     )
 }
 
-// The first side of a choice. `next` tells its sort: the steps that are left, of an optional child; or the list.
+// The first side of a choice. `next` tells its sort: the steps that are left, of an optional child; or the list. Behind
+// it the steps that are left come next.
 pub fn first_side(
-    book: &[u8],
-    index: &[usize],
+    book: &Book,
     text: &[u8],
     store: &mut [u32],
     here: Progress,
     next: Next,
-    state: State,
-) -> Reached
-    requires { Fitting book.now index.now text.now }
-    ensures { Reaches book.now index.now text.now store.old store.new here state result (first_side next here) }
+    state: &mut State,
+) -> Result<Stage, Ended>
+    requires { Fitting book.now text.now }
+    ensures does { Stages book.now text.now store.old store.new here state.old (stage_of result state.new)
+        (first_side next here) }
+    ensures steps { IfOk result (λ g. g.doing ≡ Steps) }
 {
     match next {
-        Next::Steps => absent(book, index, text, store, here, state),
-        Next::Elements(list) => first_stop(book, index, text, store, here, list, state),
+        Next::Steps => {
+            let items = absent(book, text, store, here, state)?;
+            Ok(Stage {
+                place: here.place,
+                items,
+                doing: Doing::Steps,
+            })
+        }
+        Next::Elements(list) => {
+            let r = first_stop(book, text, store, here, list, state)?;
+            Ok(then_steps(r))
+        }
     }
 }
 
-// Both sides of a choice.
-pub fn both_sides(text: &[u8], rows: &[u32], here: Progress, a: Outcome, b: Outcome) -> Outcome
-    requires { InTable here.call rows.now × Short text.now }
-    ensures { Chosen text.now (table_at rows.now) here.call here.place a b result }
+// Both sides of a choice: their failures.
+pub fn both_sides(
+    text: &[u8],
+    rows: &Rows,
+    here: Progress,
+    first: Option<Error>,
+    second: Option<Error>,
+) -> Option<Error>
+    requires { (here.call ≤ most_nesting) × Short text.now }
+    ensures { (s t : code.State) → Chosen text.now rows.now here.call here.place (done_with first s)
+        (done_with second t) (done_with result t) }
 {
-    if b.limit != 0 {
-        return b;
-    }
-    let first = failure_of(a);
-    let second = failure_of(b);
     let at = skipped(text, here.place);
-    let nonterminal = calls::nonterminal_of(rows, here.call);
-    done(errors::chosen(at, nonterminal, first, second), b.state)
+    errors::chosen(at, rows.nonterminal_of(here.call), first, second)
 }

@@ -1,16 +1,12 @@
 // How far a path through a variant is, and what it does next.
 //
 //     Progress ── take_step, next_of ──> Stage    where it came to, and what it does next (Doing)
-//     Progress ── first_side ──────────> Reached  the same where the steps left come next
+//     Progress ── stop, open_body ─────> Reached  the same where what comes next is known
 //
 // Doing is what a path does before the steps that are left: nothing, a child, perhaps a child, or a list's elements.
 // Next is what follows each parse of the child that it calls: those steps, or the list.
 ghost use Rattle.std.specs.Prelude.{◌≡◌};
-ghost use Rattle.transitions.specs.Steps.{ended_by, reached_with, then_steps};
-
-use crate::items::CellOutcome;
-use crate::outcomes::{Outcome, without_failure};
-use tokens::Closing;
+ghost use Rattle.transitions.specs.declared.stages.Doing.{Doing};
 
 // How far a path through a variant is: the row of its call, the variant's number, its next step and how many remain,
 // the place reached, and the chain of the items so far (of a passing variant, its value).
@@ -25,13 +21,14 @@ pub struct Progress {
 }
 
 // A list that is being read: of a nonterminal, the chain of the elements already read, the closing, and with commas or
-// not. Or it is one of declared names, with the body's nonterminal and the chain of their kinds. The nonterminal comes
-// first, so that in `Doing` it lies where a child's does.
+// not. Or it is one of declared names, with the body's nonterminal and the chain of their kinds; a flag tells, since
+// both have the same fields and mostly go the same way. The nonterminal comes first, so that in `Doing` it lies where
+// a child's does.
 #[derive(Clone, Copy)]
 pub struct List {
     pub nonterminal: u32,
     pub values: u32,
-    pub closing: Closing,
+    pub closing: Option<u32>,
     pub comma: bool,
     pub names: bool,
 }
@@ -46,7 +43,8 @@ pub struct Names {
     pub closing: u32,
 }
 
-// What a path does next: the steps that are left, a child, perhaps a child, or the elements of a list.
+// What a path does next: the steps that are left, a child, perhaps a child, or the elements of a list. No closures,
+// here and in `Next`: contracts name what comes next, and the reader allocates nothing (docs/DECISIONS.md 86).
 #[derive(Clone, Copy)]
 pub enum Doing {
     Steps,
@@ -55,17 +53,17 @@ pub enum Doing {
     Elements(List),
 }
 
-// What follows each parse of a child: the steps that are left, or the list, whose elements are no names.
+// What follows each parse of a child: the steps that are left, or the list, whose elements are no names. No Option: the
+// steps are something.
 #[derive(Clone, Copy)]
 pub enum Next {
     Steps,
     Elements(List),
 }
 
-// How a part ended and, where neither a limit nor a failure ended it, the place reached and the items so far.
+// Where a path is: the place reached, and the items so far.
 #[derive(Clone, Copy)]
 pub struct Reached {
-    pub outcome: Outcome,
     pub place: u32,
     pub items: u32,
 }
@@ -73,42 +71,16 @@ pub struct Reached {
 // The same, and what the path does next.
 #[derive(Clone, Copy)]
 pub struct Stage {
-    pub outcome: Outcome,
     pub place: u32,
     pub items: u32,
     pub doing: Doing,
 }
 
-// A limit or a failure ends the path.
-pub fn ended(outcome: Outcome) -> Reached
-    ensures { result ≡ ended_by outcome }
-{
-    Reached {
-        outcome,
-        place: 0,
-        items: 0,
-    }
-}
-
-// At a place, with the items that were made; or at a limit.
-pub fn reached_with(m: CellOutcome, place: u32) -> Reached
-    ensures { result ≡ reached_with m place }
-{
-    let outcome = without_failure(m.limit, m.state);
-    Reached {
-        outcome,
-        place,
-        items: m.cell,
-    }
-}
-
 // The steps that are left come next.
 pub fn then_steps(r: Reached) -> Stage
-    ensures { result ≡ then_steps r }
+    ensures { result ≡ record { place = r.place; items = r.items; doing = Doing.Steps } }
 {
-    let outcome = r.outcome;
     Stage {
-        outcome,
         place: r.place,
         items: r.items,
         doing: Doing::Steps,

@@ -3,181 +3,132 @@ ghost use Rattle.std.specs.Prelude.{◌≡◌, ◌<◌};
 ghost use Rattle.sets.specs.Sets.{parse, parse_of};
 ghost use Rattle.tokens.specs.Maps.{item_of};
 ghost use Rattle.transitions.specs.Fit.{Fits, ItemFits};
-ghost use Rattle.transitions.specs.Steps.{then_does, StepSpent};
+ghost use Rattle.transitions.specs.Results.{spent_of, reached_of, reached_at, stage_of, stage_with};
+ghost use Rattle.transitions.specs.Steps.{StepSpent};
 ghost use Rattle.transitions.specs.LayerContracts.{Fitting, Ready, Does, Stages, StagesIn, StagesAll, Reaches};
 ghost use Rattle.transitions.specs.LayerContracts.{GoesOn};
 ghost use Rattle.transitions.specs.LayerContracts.{completes, takes, reads, lists, unopens, stops, omits, stands_alone};
 
 use crate::items::{make, value, with_cell, with_token};
-use crate::outcomes::{Outcome, State, TOO_MANY_PARSES, done, spend, without_failure};
+use crate::outcomes::{Ended, Limit, State, spend};
 use crate::places::skipped;
-use crate::stages::{Doing, List, Progress, Reached, Stage, ended, reached_with, then_steps};
-use book::{Step, Variant};
-use errors::Failure;
+use crate::stages::{Doing, List, Progress, Reached, Stage, then_steps};
+use book::{Book, Step, Variant};
+use calls::Rows;
 use sets::Parse;
-use tokens::{Closing, End, Item, Taken};
+use tokens::{Item, Taken};
 
 // ---- The end of a variant
 fn parse_of(variant: Variant, rest: u32, value: u32) -> Parse
     requires { Fits variant.level }
     ensures { parse_of result ≡ parse rest variant.level variant.associativity value }
 {
-    let associativity = variant.associativity;
     Parse {
         rest,
         level: variant.level as u32,
-        associativity,
+        associativity: variant.associativity,
         value,
     }
 }
 
 // Its value, and its parse joins the run's set.
 pub fn finish(
-    book: &[u8],
-    index: &[usize],
+    book: &Book,
     text: &[u8],
     store: &mut [u32],
-    rows: &mut [u32],
+    rows: &mut Rows,
     here: Progress,
-    state: State,
-) -> Outcome
-    requires { Ready book.now index.now text.now rows.old here.call }
-    ensures { Does book.now index.now text.now store.old store.new rows.old rows.new state result (completes here) }
+    state: &mut State,
+) -> Result<(), Limit>
+    requires { Ready book.now text.now here.call }
+    ensures { Does book.now text.now store.old store.new rows.old rows.new state.old (spent_of result state.new)
+        (completes here) }
 {
-    let m = value(book, index, text, store, here.variant, here.items, state);
-    let s = m.state;
-    if m.limit != 0 {
-        return without_failure(m.limit, s);
+    let cell = value(book, text, store, here.variant, here.items, state)?;
+    let variant = book.variant(here.variant as usize);
+    if !rows.add_run(here.call, parse_of(variant, here.place, cell)) {
+        return Err(Limit::TooManyParses);
     }
-    let variant = book::variant(book, index, here.variant as usize);
-    if calls::add_run(rows, here.call, parse_of(variant, here.place, m.cell)) {
-        done(Failure::None, s)
-    } else {
-        without_failure(TOO_MANY_PARSES, s)
-    }
+    Ok(())
 }
 
 // ---- A list stops
 // Its cell, then its closing, then its chain cell.
 pub fn stop(
-    book: &[u8],
-    index: &[usize],
+    book: &Book,
     text: &[u8],
     store: &mut [u32],
     here: Progress,
     values: u32,
-    closing: Closing,
+    closing: Option<u32>,
     place: u32,
-    state: State,
-) -> Reached
-    requires { Fitting book.now index.now text.now }
-    ensures { GoesOn book.now index.now text.now store.old store.new here state result
+    state: &mut State,
+) -> Result<Reached, Ended>
+    requires { Fitting book.now text.now }
+    ensures { GoesOn book.now text.now store.old store.new here state.old (reached_of result state.new)
         (stops values closing place here) }
 {
-    let m = make(text, store, cells::list(values), state);
-    if m.limit != 0 {
-        return reached_with(m, 0);
-    }
-    let s = m.state;
-    let End::At(next) = tokens::closed(text, closing, place as usize) else {
+    let cell = make(text, store, cells::list(values), state)?;
+    let Some(next) = tokens::closed(text, closing, place as usize) else {
         let unclosed = skipped(text, place);
-        return ended(done(Failure::At(tokens::closing_error(closing, unclosed)), s));
+        return Err(Ended::Failed(tokens::closing_error(closing, unclosed)));
     };
-    reached_with(
-        with_cell(
-            book,
-            index,
-            text,
-            store,
-            here.variant,
-            here.items,
-            m.cell,
-            s,
-        ),
-        next as u32,
-    )
+    let items = with_cell(book, text, store, here.variant, here.items, cell, state)?;
+    Ok(Reached {
+        place: next as u32,
+        items,
+    })
 }
 
 // ---- An item is absent
-// Its cell, then its chain cell.
+// Its cell, then its chain cell: the items with it.
 pub fn absent(
-    book: &[u8],
-    index: &[usize],
+    book: &Book,
     text: &[u8],
     store: &mut [u32],
     here: Progress,
-    state: State,
-) -> Reached
-    ensures { GoesOn book.now index.now text.now store.old store.new here state result (omits here) }
+    state: &mut State,
+) -> Result<u32, Limit>
+    ensures { GoesOn book.now text.now store.old store.new here state.old
+        (reached_at result here.place state.new) (omits here) }
 {
-    let m = make(text, store, cells::absent(), state);
-    if m.limit != 0 {
-        return reached_with(m, 0);
-    }
-    let s = m.state;
-    reached_with(
-        with_cell(
-            book,
-            index,
-            text,
-            store,
-            here.variant,
-            here.items,
-            m.cell,
-            s,
-        ),
-        here.place,
-    )
+    let cell = make(text, store, cells::absent(), state)?;
+    with_cell(book, text, store, here.variant, here.items, cell, state)
 }
 
 // ---- A step
 // "one per step"; "for 10 and 11 the choices replace the step's unit".
-fn step_unit(step: Step, state: State) -> Outcome
-    ensures { StepSpent result step state }
+fn step_unit(step: Step, state: &mut State) -> Result<(), Limit>
+    ensures { StepSpent (spent_of result state.new) step state.old }
 {
     let kind = book::step_number(step);
     if kind == book::MANY {
-        return done(Failure::None, state);
+        return Ok(());
     }
     if kind == book::COMMA_LIST {
-        return done(Failure::None, state);
+        return Ok(());
     }
     spend(state)
 }
 
-// A child, or perhaps one, from where the path is.
-fn then_child(here: Progress, doing: Doing, state: State) -> Stage
-    ensures { result ≡ then_does here.place here.items doing state }
-{
-    let outcome = done(Failure::None, state);
-    Stage {
-        outcome,
-        place: here.place,
-        items: here.items,
-        doing,
-    }
-}
-
 // Kind 14 without its opening: an absent item, then the body. In the code of `take_step` itself it slows other steps.
 fn body_alone(
-    book: &[u8],
-    index: &[usize],
+    book: &Book,
     text: &[u8],
     store: &mut [u32],
     here: Progress,
     body: u32,
-    state: State,
-) -> Stage
-    ensures { Stages book.now index.now text.now store.old store.new here state result (stands_alone body here) }
+    state: &mut State,
+) -> Result<Stage, Limit>
+    ensures { Stages book.now text.now store.old store.new here state.old (stage_with result state.new)
+        (stands_alone body here) }
 {
-    let r = absent(book, index, text, store, here, state);
-    let outcome = r.outcome;
-    Stage {
-        outcome,
-        place: r.place,
-        items: r.items,
+    let items = absent(book, text, store, here, state)?;
+    Ok(Stage {
+        place: here.place,
+        items,
         doing: Doing::Child(body),
-    }
+    })
 }
 
 // A list from its beginning, with the empty chain for its elements, or for the kinds of its names.
@@ -188,136 +139,110 @@ fn begin_list(
     comma: bool,
     names: bool,
     nonterminal: u32,
-    closing: Closing,
+    closing: Option<u32>,
     place: u32,
-    state: State,
-) -> Stage
-    ensures { StagesAll text.now store.old store.new here state result
+    state: &mut State,
+) -> Result<Stage, Limit>
+    ensures { StagesAll text.now store.old store.new here state.old (stage_with result state.new)
         (lists comma names nonterminal closing place here) }
 {
-    let m = make(text, store, cells::empty(), state);
-    let outcome = without_failure(m.limit, m.state);
-    let list = List {
-        comma,
-        names,
-        nonterminal,
-        values: m.cell,
-        closing,
-    };
-    Stage {
-        outcome,
+    let values = make(text, store, cells::empty(), state)?;
+    Ok(Stage {
         place,
         items: here.items,
-        doing: Doing::Elements(list),
-    }
+        doing: Doing::Elements(List {
+            comma,
+            names,
+            nonterminal,
+            values,
+            closing,
+        }),
+    })
 }
 
 // Kind 13 without its opening: the empty list.
 fn unopened(
-    book: &[u8],
-    index: &[usize],
+    book: &Book,
     text: &[u8],
     store: &mut [u32],
     here: Progress,
     place: u32,
-    state: State,
-) -> Reached
-    requires { Fitting book.now index.now text.now }
-    ensures { Reaches book.now index.now text.now store.old store.new here state result (unopens place here) }
+    state: &mut State,
+) -> Result<Reached, Ended>
+    requires { Fitting book.now text.now }
+    ensures { Reaches book.now text.now store.old store.new here state.old (reached_of result state.new)
+        (unopens place here) }
 {
-    let m = make(text, store, cells::empty(), state);
-    if m.limit != 0 {
-        return reached_with(m, 0);
-    }
-    let s = m.state;
-    stop(
-        book,
-        index,
-        text,
-        store,
-        here,
-        m.cell,
-        Closing::Nothing,
-        place,
-        s,
-    )
+    let values = make(text, store, cells::empty(), state)?;
+    stop(book, text, store, here, values, None, place, state)
 }
 
-// A token was read.
+// A token was read: the items with what it adds.
 fn take_token(
-    book: &[u8],
-    index: &[usize],
+    book: &Book,
     text: &[u8],
     store: &mut [u32],
     here: Progress,
-    item: Item,
+    item: Option<Item>,
     next: u32,
-    state: State,
-) -> Reached
+    state: &mut State,
+) -> Result<Stage, Limit>
     requires { ItemFits item }
-    ensures { Reaches book.now index.now text.now store.old store.new here state result
+    ensures { Stages book.now text.now store.old store.new here state.old (stage_with result state.new)
         (reads (item_of item) next here) }
 {
-    reached_with(
-        with_token(
-            book,
-            index,
-            text,
-            store,
-            here.variant,
-            here.items,
-            item,
-            state,
-        ),
-        next,
-    )
+    let items = with_token(book, text, store, here.variant, here.items, item, state)?;
+    Ok(Stage {
+        place: next,
+        items,
+        doing: Doing::Steps,
+    })
+}
+
+// A child, or perhaps one, from where the path is.
+fn then_child(here: Progress, doing: Doing) -> Stage
+    ensures { result ≡ record { place = here.place; items = here.items; doing = doing } }
+{
+    Stage {
+        place: here.place,
+        items: here.items,
+        doing,
+    }
 }
 
 // The next step, up to a child that it calls. "every token skips first".
 pub fn take_step(
-    book: &[u8],
-    index: &[usize],
+    book: &Book,
     text: &[u8],
     store: &mut [u32],
-    rows: &[u32],
+    rows: &Rows,
     here: Progress,
-    state: State,
-) -> Stage
-    requires { Ready book.now index.now text.now rows.now here.call }
-    ensures { StagesIn book.now index.now text.now store.old store.new rows.now here state result (takes here) }
+    state: &mut State,
+) -> Result<Stage, Ended>
+    requires { Ready book.now text.now here.call }
+    ensures { StagesIn book.now text.now store.old store.new rows.now here state.old (stage_of result state.new)
+        (takes here) }
 {
-    let step = book::step(book, index, here.step as usize);
-    let spent = step_unit(step, state);
-    if spent.limit != 0 {
-        return then_steps(ended(spent));
-    }
-    let s = spent.state;
+    let step = book.step(here.step as usize);
+    step_unit(step, state)?;
     let x = here.place as usize;
-    match tokens::step_at(book, index, text, rows, here.call, step, x) {
-        Taken::Nothing => {
-            let at = skipped(text, here.place);
-            let e = tokens::step_error(book, index, text, rows, here.call, step, at);
-            then_steps(ended(done(Failure::At(e), s)))
+    let Some(taken) = tokens::step_at(book, text, rows, here.call, step, x) else {
+        let at = skipped(text, here.place);
+        return Err(Ended::Failed(tokens::step_error(book, text, rows, here.call, step, at)));
+    };
+    match taken {
+        Taken::Token { next, item } => {
+            Ok(take_token(book, text, store, here, item, next as u32, state)?)
         }
-        Taken::Token { next, item } => then_steps(take_token(
-            book,
-            index,
-            text,
-            store,
-            here,
-            item,
-            next as u32,
-            s,
-        )),
-        Taken::Child(nonterminal) => then_child(here, Doing::Child(nonterminal), s),
-        Taken::Optional(nonterminal) => then_child(here, Doing::Optional(nonterminal), s),
+        Taken::Child(nonterminal) => Ok(then_child(here, Doing::Child(nonterminal))),
+        Taken::Optional(nonterminal) => Ok(then_child(here, Doing::Optional(nonterminal))),
         Taken::List {
             comma,
             names,
             nonterminal,
             closing,
             place,
-        } => begin_list(
+        } => Ok(begin_list(
             text,
             store,
             here,
@@ -326,11 +251,16 @@ pub fn take_step(
             nonterminal,
             closing,
             place as u32,
-            s,
-        ),
-        Taken::Unopened(place) => {
-            then_steps(unopened(book, index, text, store, here, place as u32, s))
-        }
-        Taken::Body(body) => body_alone(book, index, text, store, here, body, s),
+            state,
+        )?),
+        Taken::Unopened(place) => Ok(then_steps(unopened(
+            book,
+            text,
+            store,
+            here,
+            place as u32,
+            state,
+        )?)),
+        Taken::Body(body) => Ok(body_alone(book, text, store, here, body, state)?),
     }
 }

@@ -1,68 +1,63 @@
 // What a call does before and after a variant's steps, and where a child of it begins.
-ghost use Rattle.std.specs.Prelude.{◌≡◌};
+ghost use Rattle.std.specs.Prelude.{◌≡◌, ◌≤◌};
 ghost use Rattle.characters.specs.Skipping.{skip_from};
-ghost use Rattle.book.specs.Index.{book_at};
-ghost use Rattle.run_model.specs.Rows.{with_child};
-ghost use Rattle.calls.specs.Table.{InTable, Changes};
+ghost use Rattle.run_model.specs.Rows.{with_child, row_of};
+ghost use Rattle.semantics.specs.Numbers.{most_nesting};
+ghost use Rattle.calls.specs.Table.{Changed};
+ghost use Rattle.transitions.specs.Results.{cell_of, done_with};
+ghost use Rattle.transitions.specs.declared.outcomes.State as code;
+ghost use Rattle.transitions.specs.Steps.{reached_with};
 ghost use Rattle.transitions.specs.Entering.{VariantEnded};
 ghost use Rattle.transitions.specs.LayerContracts.{Short, Ready, Begins};
 
 use crate::items::begin;
-use crate::outcomes::{Outcome, State, done, failure_of};
+use crate::outcomes::{Limit, State};
 use crate::places::skipped;
-use crate::stages::{Progress, Reached, reached_with};
+use crate::stages::Progress;
+use book::Book;
+use calls::Rows;
+use errors::Error;
 
-// The call of a row takes variant j, from its start.
+// The call of a row takes variant j, from its start: the chain of its items, still empty.
 pub fn begin_variant(
-    book: &[u8],
-    index: &[usize],
+    book: &Book,
     text: &[u8],
     store: &mut [u32],
-    rows: &mut [u32],
+    rows: &mut Rows,
     row: usize,
     j: u32,
-    state: State,
-) -> Reached
-    requires { Ready book.now index.now text.now rows.old row }
-    ensures { Begins book.now index.now text.now store.old store.new rows.old rows.new row j state result }
+    state: &mut State,
+) -> Result<u32, Limit>
+    requires { Ready book.now text.now row }
+    ensures { Begins book.now text.now store.old store.new rows.old rows.new row j state.old
+        (reached_with (cell_of result state.new) (row_of rows.old row).start) }
 {
-    let start = calls::start_of(rows, row);
-    let variant = book::variant(book, index, j as usize);
-    let associativity = variant.associativity;
-    let m = begin(book, index, text, store, j, state);
-    calls::take_variant(rows, row, variant.level as u32, associativity);
-    reached_with(m, start)
+    let variant = book.variant(j as usize);
+    rows.take_variant(row, variant.level as u32, variant.associativity);
+    begin(book, text, store, j, state)
 }
 
-// What variant j of a call that begins at `start` gave, after the variants before it.
+// The failure of variant j of a call that begins at `start`, after that of the variants before it.
 pub fn after_variant(
-    book: &[u8],
-    index: &[usize],
+    book: &Book,
     j: u32,
     start: u32,
-    before: Outcome,
-    o: Outcome,
-) -> Outcome
-    ensures { VariantEnded (book_at book.now index.now) j start before o result }
+    before: Option<Error>,
+    failure: Option<Error>,
+) -> Option<Error>
+    ensures { (s t : code.State) → VariantEnded book.now j start (done_with before s) (done_with failure t)
+        (done_with result t) }
 {
-    if o.limit != 0 {
-        return o;
-    }
-    let variant = book::variant(book, index, j as usize);
-    let first = failure_of(before);
-    let second = failure_of(o);
-    done(
-        errors::join_with(first, errors::counted(variant.committed, start, second)),
-        o.state,
-    )
+    let variant = book.variant(j as usize);
+    errors::join_with(before, errors::counted(variant.committed, start, failure))
 }
 
 // The child of the path's call begins where skipping leads.
-pub fn begin_child(text: &[u8], rows: &mut [u32], here: Progress) -> u32
-    requires { InTable here.call rows.old × Short text.now }
-    ensures { (result ≡ skip_from text.now here.place) × Changes rows.old rows.new here.call (with_child result) }
+pub fn begin_child(text: &[u8], rows: &mut Rows, here: Progress) -> u32
+    requires { (here.call ≤ most_nesting) × Short text.now }
+    ensures { (result ≡ skip_from text.now here.place) × Changed rows.old rows.new here.call (with_child result) }
 {
     let at = skipped(text, here.place);
-    calls::put_child(rows, here.call, at);
+    rows.put_child(here.call, at);
     at
 }

@@ -4,9 +4,9 @@
 -- called before it.
 use Rattle.std.proofs.Common.{arith, rules, refl, sym, ◌∙◌}
 use Rattle.std.proofs.Math.Nat.{sub-zero}
-use Rattle.std.proofs.lemmas.Bool.{not-true, not-false}
+use Rattle.std.proofs.lemmas.Result.{err_from_is_err_and}
 use Rattle.parser.specs.PathLaws.{choice_stopped, choice_both, path_ended, path_child, path_optional, path_elements}
-use Rattle.parser.specs.PathLaws.{path_names, path_end, path_step, rank_few}
+use Rattle.parser.specs.PathLaws.{path_names, path_end, path_step, rank_few, resume_ended}
 use Rattle.parser.specs.NameLaws.{names_binder, close_ended, close_body, declare_unpaid, declare_deep, declare_ended}
 use Rattle.parser.specs.NameLaws.{declare_more, declare_last, names_unpaid, names_stopped, names_both}
 use Rattle.parser.specs.ChildLaws.{descended, follow_ended, follow_whole, follow_end, follow_deep, follow_stop}
@@ -15,224 +15,386 @@ use Rattle.parser.specs.VariantLaws.{variants_end, variants_stop, variants_again
 use Rattle.parser.specs.VariantLaws.{variant_ran}
 use Rattle.parser.specs.CallLaws.{enter_over, enter_runs, run_call_over, run_call_rounds, rounds_none, rounds_over}
 use Rattle.parser.specs.CallLaws.{rounds_again}
-use Rattle.transitions.specs.ResumeLaws.{goes_without_limit}
-use Rattle.calls.specs.Table.{table}
-use Rattle.calls.specs.TableLaws.{table_length}
+use Rattle.transitions.specs.Results.{done_with, without_failure, limit_number}
+use Rattle.transitions.specs.OutcomeLaws.{number_there}
+use Rattle.transitions.specs.LimitLaws.{ended_stops, goes_done, limit_stops_path, failure_stops, nothing_goes}
+use Rattle.transitions.specs.LimitLaws.{side_steps}
+use Rattle.transitions.specs.NextLaws.{joined_limit}
+use Rattle.transitions.specs.EndingLaws.{first_limit, round_limit, variant_limit}
+use Rattle.transitions.specs.NextLaws.{both_limit}
 use Rattle.parser.proofs.+descent.Goals as goal
 
-pub left_recursion::call-returns-then-not-e : goal.left_recursion::call-returns-then-not-e
-left_recursion::call-returns-then-not-e t c =
-    run_call_over _ _ _ _ _ _ _ _ _ _ _ _ _ _ _ _ _ c.open_call.ensures c.one_run-o.ensures c.after_first-e.ensures
-    (not-true _ c.if-not-e.true)
+pub left_recursion::call-returns-in_err-failure : goal.left_recursion::call-returns-in_err-failure
+left_recursion::call-returns-in_err-failure t c =
+    let p = err_from_is_err_and c.from_residual.result c.from_residual.ensures.1 in
+    rw (p.1, p.2)
+    (run_call_over _ _ _ _ _ _ _ _ _ _ _ _ _ _ _ _ _ c.open_call.ensures
+    (rw c.in_err-failure.was at c.one_run.ensures) (first_limit _ _ _ _ (number_there _) refl) refl)
 
-pub left_recursion::call-returns : goal.left_recursion::call-returns
-left_recursion::call-returns t c =
-    run_call_rounds _ _ _ _ _ _ _ _ _ _ _ _ _ _ _ _ _ c.open_call.ensures c.one_run-o.ensures c.after_first-e.ensures
-    _ _ _ (not-false _ c.if-not-e.false) c.rounds.ensures
+pub left_recursion::call-returns-in_err-failure-2 : goal.left_recursion::call-returns-in_err-failure-2
+left_recursion::call-returns-in_err-failure-2 t c =
+    let p = err_from_is_err_and c.from_residual-in_err-failure-2.result c.from_residual-in_err-failure-2.ensures.1 in
+    rw (p.1, p.2)
+    (run_call_over _ _ _ _ _ _ _ _ _ _ _ _ _ _ _ _ _ c.open_call.ensures
+    (rw c.in_ok-failure.was at c.one_run.ensures)
+    (rw c.in_err-failure-2.was at (c.after_first.ensures c.one_run.new.state)) refl)
 
-pub left_recursion::enter-returns-then-not-e : goal.left_recursion::enter-returns-then-not-e
-left_recursion::enter-returns-then-not-e t c =
-    enter_over _ _ _ _ _ _ _ _ _ _ _ _ c.begin_use-e.ensures (not-true _ c.if-not-e.true)
+pub left_recursion::call-returns-in-Over : goal.left_recursion::call-returns-in-Over
+left_recursion::call-returns-in-Over t c =
+    run_call_over _ _ _ _ _ _ _ _ _ _ _ _ _ _ _ _ _ c.open_call.ensures
+    (rw c.in_ok-failure.was at c.one_run.ensures)
+    (rw c.in-Over.is at (rw c.in_ok-failure-2.was at (c.after_first.ensures c.one_run.new.state))) refl
 
-pub left_recursion::enter-returns : goal.left_recursion::enter-returns
-left_recursion::enter-returns t c =
-    enter_runs _ _ _ _ _ _ _ _ _ _ _ _ c.begin_use-e.ensures _ _ _ (not-false _ c.if-not-e.false) c.call.ensures
+pub left_recursion::call-returns-in-Again : goal.left_recursion::call-returns-in-Again
+left_recursion::call-returns-in-Again t c =
+    run_call_rounds _ _ _ _ _ _ _ _ _ _ _ _ _ _ _ _ _ c.open_call.ensures
+    (rw c.in_ok-failure.was at c.one_run.ensures)
+    (rw c.in-Again.is at (rw c.in_ok-failure-2.was at (c.after_first.ensures c.one_run.new.state)))
+    _ _ _ refl c.rounds.ensures
 
-pub left_recursion::rounds-returns-then-not-e : goal.left_recursion::rounds-returns-then-not-e
-left_recursion::rounds-returns-then-not-e t c =
+pub left_recursion::enter-returns-in_err-failure : goal.left_recursion::enter-returns-in_err-failure
+left_recursion::enter-returns-in_err-failure t c =
+    let p = err_from_is_err_and c.from_residual.result c.from_residual.ensures.1 in
+    rw (p.1, p.2)
+    (enter_over _ _ _ _ _ _ _ _ _ _ _ _ (rw c.in_err-failure.was at c.begin_use.ensures) refl)
+
+pub left_recursion::enter-returns-in-Over : goal.left_recursion::enter-returns-in-Over
+left_recursion::enter-returns-in-Over t c =
+    enter_over _ _ _ _ _ _ _ _ _ _ _ _ (rw c.in-Over.is at (rw c.in_ok-failure.was at c.begin_use.ensures)) refl
+
+pub left_recursion::enter-returns-in-Runs : goal.left_recursion::enter-returns-in-Runs
+left_recursion::enter-returns-in-Runs t c =
+    enter_runs _ _ _ _ _ _ _ _ _ _ _ _ (rw c.in-Runs.is at (rw c.in_ok-failure.was at c.begin_use.ensures))
+    _ _ _ refl c.call.ensures
+
+pub left_recursion::rounds-returns-in_err-failure : goal.left_recursion::rounds-returns-in_err-failure
+left_recursion::rounds-returns-in_err-failure t c =
+    let p = err_from_is_err_and c.from_residual.result c.from_residual.ensures.1 in
+    rw (p.1, p.2)
+    (rounds_over _ _ _ _ _ _ _ _ _ _ _ _ c.loop-round.invariant.left _ _ _ _ _ c.loop-round-test.true
+    (rw c.in_err-failure.was at c.one_run.ensures) (round_limit _ _ _ _ (number_there _) refl) refl)
+
+pub left_recursion::rounds-returns-in_err-failure-2 : goal.left_recursion::rounds-returns-in_err-failure-2
+left_recursion::rounds-returns-in_err-failure-2 t c =
+    let p = err_from_is_err_and c.from_residual-in_err-failure-2.result c.from_residual-in_err-failure-2.ensures.1 in
+    rw (p.1, p.2)
+    (rounds_over _ _ _ _ _ _ _ _ _ _ _ _ c.loop-round.invariant.left _ _ _ _ _ c.loop-round-test.true
+    (rw c.in_ok-failure.was at c.one_run.ensures)
+    (rw c.in_err-failure-2.was at (c.after_round.ensures c.one_run.new.state)) refl)
+
+pub left_recursion::rounds-returns-in-Over : goal.left_recursion::rounds-returns-in-Over
+left_recursion::rounds-returns-in-Over t c =
     rounds_over _ _ _ _ _ _ _ _ _ _ _ _ c.loop-round.invariant.left _ _ _ _ _ c.loop-round-test.true
-    c.one_run-o.ensures c.after_round-e.ensures (not-true _ c.if-not-e.true)
+    (rw c.in_ok-failure.was at c.one_run.ensures)
+    (rw c.in-Over.is at (rw c.in_ok-failure-2.was at (c.after_round.ensures c.one_run.new.state))) refl
 
 pub left_recursion::rounds-loop-round-preserved : goal.left_recursion::rounds-loop-round-preserved
-left_recursion::rounds-loop-round-preserved t c = record {
-  few = omega (arith, c.loop-round-test.true);
-  left =
-      rounds_again _ _ _ _ _ _ _ _ _ _ _ _ c.loop-round.invariant.left _ _ _ _ _ c.loop-round-test.true
-      c.one_run-o.ensures c.after_round-e.ensures (not-false _ c.if-not-e.false);
-}
+left_recursion::rounds-loop-round-preserved t c =
+    record {
+      few = omega (arith, c.loop-round-test.true);
+      left =
+          rounds_again _ _ _ _ _ _ _ _ _ _ _ _ c.loop-round.invariant.left _ _ _ _ _ c.loop-round-test.true
+          (rw c.in_ok-failure.was at c.one_run.ensures)
+          (rw c.in-Again.is at (rw c.in_ok-failure-2.was at (c.after_round.ensures c.one_run.new.state))) refl;
+    }
 
 pub left_recursion::rounds-returns : goal.left_recursion::rounds-returns
 left_recursion::rounds-returns t c =
-    rounds_none _ _ _ _ _ _ _ _ _ _ _ _ c.loop-round.invariant.left _ c.without_failure.ensures
-    c.loop-round-test.false
+    rounds_none _ _ _ _ _ _ _ _ _ _ _ _ c.loop-round.invariant.left _ refl c.loop-round-test.false
 
-pub names::choose-returns-then-spent-ne0 : goal.names::choose-returns-then-spent-ne0
-names::choose-returns-then-spent-ne0 t c =
-    names_unpaid _ _ _ c.args.here _ _ _ _ _ _ c.spend-spent.ensures c.if-spent-ne0.true
+pub names::choose-returns-in_err-spend : goal.names::choose-returns-in_err-spend
+names::choose-returns-in_err-spend t c =
+    let p = err_from_is_err_and c.from_residual.result c.from_residual.ensures.1 in
+    rw (p.1, p.2)
+    (names_unpaid _ _ _ c.args.here _ _ _ _ _ _ (rw c.in_err-spend.was at c.spend.ensures) (number_there _))
 
-pub names::choose-returns-then-a-ne0 : goal.names::choose-returns-then-a-ne0
-names::choose-returns-then-a-ne0 t c =
-    names_stopped _ _ _ c.args.here _ _ _ _ _ _ c.spend-spent.ensures c.if-spent-ne0.false _ _ _ c.close-a.ensures
-    c.if-a-ne0.true
+pub names::choose-returns-in_err-first : goal.names::choose-returns-in_err-first
+names::choose-returns-in_err-first t c =
+    let p = err_from_is_err_and c.from_residual-in_err-first.result c.from_residual-in_err-first.ensures.1 in
+    rw (p.1, p.2)
+    (names_stopped _ _ _ c.args.here _ _ _ _ _ _ (rw c.in_ok-spend.was at c.spend.ensures) refl _ _ _
+    (rw c.in_err-first.was at c.close.ensures) (number_there _))
+
+pub names::choose-returns-in_err-second : goal.names::choose-returns-in_err-second
+names::choose-returns-in_err-second t c =
+    let p = err_from_is_err_and c.from_residual-in_err-second.result c.from_residual-in_err-second.ensures.1 in
+    rw (p.1, p.2)
+    (names_both _ _ _ c.args.here _ _ _ _ _ _ (rw c.in_ok-spend.was at c.spend.ensures) refl _ _ _
+    (rw c.in_ok-first.was at c.close.ensures) refl c.requires.0.3 c.requires.0.2.0 (sym c.len.ensures.0 ∙
+    c.len.ensures.1)
+    _ _ _ _ (rw c.in_err-second.was at c.declare.ensures) (both_limit _ _ _ _ _ _ (number_there _)))
 
 pub names::choose-returns : goal.names::choose-returns
 names::choose-returns t c =
-    names_both _ _ _ c.args.here _ _ _ _ _ _ c.spend-spent.ensures c.if-spent-ne0.false _ _ _ c.close-a.ensures
-    c.if-a-ne0.false c.requires.0.4 c.requires.0.3.0 (table_length _) _ _ _ _ c.declare-b.ensures c.both_sides.ensures
+    names_both _ _ _ c.args.here _ _ _ _ _ _ (rw c.in_ok-spend.was at c.spend.ensures) refl _ _ _
+    (rw c.in_ok-first.was at c.close.ensures) refl c.requires.0.3 c.requires.0.2.0 (sym c.len.ensures.0 ∙
+    c.len.ensures.1)
+    _ _ _ _ (rw c.in_ok-second.was at c.declare.ensures) (c.both_sides.ensures _ _)
 
-pub names::close-returns-then-not-goes_on : goal.names::close-returns-then-not-goes_on
-names::close-returns-then-not-goes_on t c =
-    close_ended _ _ _ _ _ _ _ _ _ _ _ c.open_body-g.ensures (sym c.goes_on.ensures ∙ c.if-not-goes_on.true)
+pub names::close-returns-in-Err : goal.names::close-returns-in-Err
+names::close-returns-in-Err t c =
+    rw (c.outcome.ensures c.open_body.new.state)
+    (close_ended _ _ _ _ _ _ _ _ _ _ _ (rw c.in-Err.is at c.open_body.ensures) (ended_stops _ _))
+
+pub names::close-returns-in_err-failure : goal.names::close-returns-in_err-failure
+names::close-returns-in_err-failure t c =
+    let p = err_from_is_err_and c.from_residual.result c.from_residual.ensures.1 in
+    rw (p.1, p.2)
+    (close_body _ _ _ _ _ _ _ _ _ _ _ (rw c.in-Ok.is at c.open_body.ensures) (goes_done _) _ _ _
+    (descended _ _ _ _ _ _ _ _ _ _ _ _ _ _ _ _ _ _ _ _ _ _ _ _ (names_binder c.args.text.now c.args.rows.now
+    c.args.free c.args.names.count _ c.args.here.call c.body_binder-binder.ensures) c.begin_child-at.ensures
+    (rw c.in_err-failure.was at c.enter.ensures) (follow_ended _ _ _ _ _ _ _ _ _ _ _ _ (limit_stops_path _ _))))
 
 pub names::close-returns : goal.names::close-returns
 names::close-returns t c =
-    close_body _ _ _ _ _ _ _ _ _ _ _ c.open_body-g.ensures (sym c.goes_on.ensures ∙ c.if-not-goes_on.false) _ _ _
-    (descended _ _ _ _ _ _ _ _ _ _ _ _ _ _ _ _ _ _ _ _ _ _ _ _ (names_binder c.args.text.now (table c.args.rows.now)
+    close_body _ _ _ _ _ _ _ _ _ _ _ (rw c.in-Ok.is at c.open_body.ensures) (goes_done _) _ _ _
+    (descended _ _ _ _ _ _ _ _ _ _ _ _ _ _ _ _ _ _ _ _ _ _ _ _ (names_binder c.args.text.now c.args.rows.now
     c.args.free c.args.names.count _ c.args.here.call c.body_binder-binder.ensures) c.begin_child-at.ensures
-    c.enter-body.ensures c.follow.ensures)
+    (rw c.in_ok-failure.was at c.enter.ensures) c.follow.ensures)
 
-pub names::declare-returns-then-spent-ne0 : goal.names::declare-returns-then-spent-ne0
-names::declare-returns-then-spent-ne0 t c =
-    declare_unpaid _ _ _ c.args.here _ _ _ _ _ _ c.spend-spent.ensures c.if-spent-ne0.true
+pub names::declare-returns-in_err-spend : goal.names::declare-returns-in_err-spend
+names::declare-returns-in_err-spend t c =
+    let p = err_from_is_err_and c.from_residual.result c.from_residual.ensures.1 in
+    rw (p.1, p.2)
+    (declare_unpaid _ _ _ c.args.here _ _ _ _ _ _ (rw c.in_err-spend.was at c.spend.ensures) (number_there _))
 
 pub names::declare-returns-then-free-eq0 : goal.names::declare-returns-then-free-eq0
 names::declare-returns-then-free-eq0 t c =
-    declare_deep _ _ _ c.args.here _ _ _ _ _ _ c.spend-spent.ensures c.if-spent-ne0.false _ c.if-free-eq0.true
-    c.without_failure.ensures
+    declare_deep _ _ _ c.args.here _ _ _ _ _ _ (rw c.in_ok-spend.was at c.spend.ensures) refl _ c.if-free-eq0.true refl
 
-pub names::declare-returns-then-not-goes_on : goal.names::declare-returns-then-not-goes_on
-names::declare-returns-then-not-goes_on t c =
-    declare_ended _ _ _ c.args.here _ _ _ _ _ _ c.spend-spent.ensures c.if-spent-ne0.false c.if-free-eq0.false _ _ _
-    c.declare_name-g.ensures (sym c.goes_on.ensures ∙ c.if-not-goes_on.true)
+pub names::declare-returns-in-Err : goal.names::declare-returns-in-Err
+names::declare-returns-in-Err t c =
+    rw (c.outcome.ensures c.declare_name.new.state)
+    (declare_ended _ _ _ c.args.here _ _ _ _ _ _ (rw c.in_ok-spend.was at c.spend.ensures) refl c.if-free-eq0.false _
+    _ _
+    (rw c.in-Err.is at (c.declare_name.ensures (sym c.len.ensures.0 ∙ c.len.ensures.1))) (ended_stops _ _))
 
-pub names::declare-returns-then-g : goal.names::declare-returns-then-g
-names::declare-returns-then-g t c =
-    declare_more _ _ _ c.args.here _ _ _ _ _ _ c.spend-spent.ensures c.if-spent-ne0.false c.if-free-eq0.false _ _ _
-    c.declare_name-g.ensures (sym c.goes_on.ensures ∙ c.if-not-goes_on.false) _ _ _ c.if-g.true c.choose.ensures
+pub names::declare-returns-then-name : goal.names::declare-returns-then-name
+names::declare-returns-then-name t c =
+    declare_more _ _ _ c.args.here _ _ _ _ _ _ (rw c.in_ok-spend.was at c.spend.ensures) refl c.if-free-eq0.false _ _ _
+    (rw c.in-Ok.is at (c.declare_name.ensures (sym c.len.ensures.0 ∙ c.len.ensures.1))) (goes_done _) _ _ _
+    c.if-name.true c.choose.ensures
 
-pub names::declare-returns-else-g : goal.names::declare-returns-else-g
-names::declare-returns-else-g t c =
-    declare_last _ _ _ c.args.here _ _ _ _ _ _ c.spend-spent.ensures c.if-spent-ne0.false c.if-free-eq0.false _ _ _
-    c.declare_name-g.ensures (sym c.goes_on.ensures ∙ c.if-not-goes_on.false) _ _ _ c.if-g.false c.close.ensures
+pub names::declare-returns-else-name : goal.names::declare-returns-else-name
+names::declare-returns-else-name t c =
+    declare_last _ _ _ c.args.here _ _ _ _ _ _ (rw c.in_ok-spend.was at c.spend.ensures) refl c.if-free-eq0.false _ _ _
+    (rw c.in-Ok.is at (c.declare_name.ensures (sym c.len.ensures.0 ∙ c.len.ensures.1))) (goes_done _) _ _ _
+    c.if-name.false c.close.ensures
 
-pub parser::choice-returns-then-a-ne0 : goal.parser::choice-returns-then-a-ne0
-parser::choice-returns-then-a-ne0 t c =
-    choice_stopped _ _ _ _ _ _ _ _ _ _ _ _ _ _ _ _ _ _ _ c.first_side-f.ensures c.steps-a.ensures c.if-a-ne0.true
+pub parser::choice-returns-in_err-first : goal.parser::choice-returns-in_err-first
+parser::choice-returns-in_err-first t c =
+    let p = err_from_is_err_and c.from_residual.result c.from_residual.ensures.1 in
+    rw (p.1, p.2)
+    (choice_stopped _ _ _ _ _ _ _ _ _ _ _ _ _ _ _ _ _ _ _ (rw (side_steps c.first_side-begun.result
+    c.first_side-begun.new.state c.first_side-begun.ensures.steps) at
+    c.first_side-begun.ensures.does)
+    (rw (side_steps c.first_side-begun.result c.first_side-begun.new.state c.first_side-begun.ensures.steps) at
+    (rw c.in_err-first.was at c.steps.ensures)) (number_there _))
+
+pub parser::choice-returns-in_err-second : goal.parser::choice-returns-in_err-second
+parser::choice-returns-in_err-second t c =
+    let p = err_from_is_err_and c.from_residual-in_err-second.result c.from_residual-in_err-second.ensures.1 in
+    rw (p.1, p.2)
+    (choice_both _ _ _ _ _ _ _ _ _ _ _ _ _ _ _ _ _ _ _ (rw (side_steps c.first_side-begun.result
+    c.first_side-begun.new.state c.first_side-begun.ensures.steps) at
+    c.first_side-begun.ensures.does)
+    (rw (side_steps c.first_side-begun.result c.first_side-begun.new.state c.first_side-begun.ensures.steps) at
+    (rw c.in_ok-first.was at c.steps.ensures)) refl _ _ _ _ (rw c.in_err-second.was at c.descend.ensures) (both_limit
+    _ _ _ _ _ _ (number_there _)))
 
 pub parser::choice-returns : goal.parser::choice-returns
 parser::choice-returns t c =
-    choice_both _ _ _ _ _ _ _ _ _ _ _ _ _ _ _ _ _ _ _ c.first_side-f.ensures c.steps-a.ensures c.if-a-ne0.false _ _ _
-    _ c.descend-b.ensures c.both_sides.ensures
+    choice_both _ _ _ _ _ _ _ _ _ _ _ _ _ _ _ _ _ _ _ (rw (side_steps c.first_side-begun.result
+    c.first_side-begun.new.state c.first_side-begun.ensures.steps) at
+    c.first_side-begun.ensures.does)
+    (rw (side_steps c.first_side-begun.result c.first_side-begun.new.state c.first_side-begun.ensures.steps) at
+    (rw c.in_ok-first.was at c.steps.ensures)) refl _ _ _ _ (rw c.in_ok-second.was at c.descend.ensures)
+    (c.both_sides.ensures _ _)
+
+pub parser::descend-returns-in_err-failure : goal.parser::descend-returns-in_err-failure
+parser::descend-returns-in_err-failure t c =
+    let p = err_from_is_err_and c.from_residual.result c.from_residual.ensures.1 in
+    rw (p.1, p.2)
+    (descended _ _ _ _ _ _ _ _ _ _ _ _ _ _ _ _ _ _ _ _ _ _ _ _ c.inherited_binder-binder.ensures
+    c.begin_child-at.ensures
+    (rw c.in_err-failure.was at c.enter.ensures) (follow_ended _ _ _ _ _ _ _ _ _ _ _ _ (limit_stops_path _ _)))
 
 pub parser::descend-returns : goal.parser::descend-returns
 parser::descend-returns t c =
-    descended _ _ _ _ _ _ _ _ _ _ _ _ _ _ _ _ _ _ _ _ _ _ _ _ c.inherited_binder-binder.ensures
-    c.begin_child-at.ensures c.enter-o.ensures c.follow.ensures
+    descended _ _ _ _ _ _ _ _ _ _ _ _ _ _ _ _ _ _ _ _ _ _ _ _ c.inherited_binder-binder.ensures c.begin_child-at.ensures
+    (rw c.in_ok-failure.was at c.enter.ensures) c.follow.ensures
 
-pub parser::follow-returns-then-not-goes_on : goal.parser::follow-returns-then-not-goes_on
-parser::follow-returns-then-not-goes_on t c =
-    follow_ended _ _ _ _ _ _ _ _ _ _ _ _ (sym c.goes_on.ensures ∙ c.if-not-goes_on.true)
+pub parser::follow-returns-then-is_some : goal.parser::follow-returns-then-is_some
+parser::follow-returns-then-is_some t c =
+    follow_ended _ _ _ _ _ _ _ _ _ _ _ _ (failure_stops _ _ (sym c.is_some.ensures ∙ c.if-is_some.true))
 
 pub parser::follow-loop-i-init : goal.parser::follow-loop-i-init
-parser::follow-loop-i-init t c = record {
-  few = search rules;
-  unlimited = goes_without_limit _ (sym c.goes_on.ensures ∙ c.if-not-goes_on.false);
-  left = λ held. record { held = held; is = rw sub-zero };
-}
+parser::follow-loop-i-init t c =
+    record { few = search rules; left = λ held. record { held = held; is = rw sub-zero } }
 
 pub parser::follow-returns-then-free-eq0 : goal.parser::follow-returns-then-free-eq0
 parser::follow-returns-then-free-eq0 t c =
-    follow_whole _ _ _ _ _ _ _ _ _ _ _ _ _ _ _ _ (sym c.goes_on.ensures ∙ c.if-not-goes_on.false)
-    c.parse_count-parses.ensures (follow_deep _ _ _ _ _ _ _ _ _ _ _ _ _ _ (table c.loop-i.rows) c.loop-i.all
-    c.loop-i.invariant.left _ c.without_failure.ensures c.loop-i-test.true c.if-free-eq0.true)
+    follow_whole _ _ _ _ _ _ _ _ _ _ _ _ _ _ _ _ (nothing_goes _ _ (sym c.is_some.ensures ∙ c.if-is_some.false))
+    c.parse_count-parses.ensures.count (follow_deep _ _ _ _ _ _ _ _ _ _ _ _ _ _ c.loop-i.rows (done_with c.loop-i.all
+    c.loop-i.state) c.loop-i.invariant.left
+    _ refl c.loop-i-test.true c.if-free-eq0.true)
 
-pub parser::follow-returns-then-all-ne0 : goal.parser::follow-returns-then-all-ne0
-parser::follow-returns-then-all-ne0 t c =
-    follow_whole _ _ _ _ _ _ _ _ _ _ _ _ _ _ _ _ (sym c.goes_on.ensures ∙ c.if-not-goes_on.false)
-    c.parse_count-parses.ensures (follow_stop _ _ _ _ _ _ _ _ _ _ _ _ _ _ (table c.loop-i.rows) c.loop-i.all
-    c.loop-i.invariant.left c.loop-i-test.true c.if-free-eq0.false _ c.nth_parse-q.ensures _ _ _ _ _ _
-    c.next_of-g.ensures c.steps-o.ensures c.after_parse-all.ensures c.if-all-ne0.true)
+pub parser::follow-returns-in_err-failure : goal.parser::follow-returns-in_err-failure
+parser::follow-returns-in_err-failure t c =
+    let p = err_from_is_err_and c.from_residual.result c.from_residual.ensures.1 in
+    rw (p.1, p.2)
+    (follow_whole _ _ _ _ _ _ _ _ _ _ _ _ _ _ _ _ (nothing_goes _ _ (sym c.is_some.ensures ∙ c.if-is_some.false))
+    c.parse_count-parses.ensures.count (follow_stop _ _ _ _ _ _ _ _ _ _ _ _ _ _ c.loop-i.rows (done_with c.loop-i.all
+    c.loop-i.state) c.loop-i.invariant.left c.loop-i-test.true c.if-free-eq0.false _ c.nth_parse-q.ensures _ _ _ _ _ _
+    c.next_of-begun.ensures (rw c.in_err-failure.was at c.steps.ensures) (joined_limit _ _ _ (number_there _))
+    (number_there _)))
 
 pub parser::follow-loop-i-preserved : goal.parser::follow-loop-i-preserved
-parser::follow-loop-i-preserved t c = record {
-  few = omega (arith, c.loop-i-test.true);
-  unlimited = c.if-all-ne0.false;
-  left =
-      follow_again _ _ _ _ _ _ _ _ _ _ _ _ _ _ (table c.loop-i.rows) c.loop-i.all c.loop-i.invariant.left
-      c.loop-i-test.true c.if-free-eq0.false _ c.nth_parse-q.ensures _ _ _ _ _ _ c.next_of-g.ensures c.steps-o.ensures
-      c.after_parse-all.ensures c.if-all-ne0.false;
-}
+parser::follow-loop-i-preserved t c =
+    record {
+      few = omega (arith, c.loop-i-test.true);
+      left = follow_again _ _ _ _ _ _ _ _ _ _ _ _ _ _ c.loop-i.rows (done_with c.loop-i.all c.loop-i.state)
+          c.loop-i.invariant.left c.loop-i-test.true c.if-free-eq0.false _ c.nth_parse-q.ensures _ _ _ _ _ _
+          c.next_of-begun.ensures (rw c.in_ok-failure.was at c.steps.ensures) (c.after_parse-all.ensures _ _) refl;
+    }
 
 pub parser::follow-returns : goal.parser::follow-returns
 parser::follow-returns t c =
-    follow_whole _ _ _ _ _ _ _ _ _ _ _ _ _ _ _ _ (sym c.goes_on.ensures ∙ c.if-not-goes_on.false)
-    c.parse_count-parses.ensures (follow_end _ _ _ _ _ _ _ _ _ _ _ _ _ _ (table c.loop-i.rows) c.loop-i.all
-    c.loop-i.invariant.left c.loop-i-test.false c.loop-i.invariant.unlimited)
+    follow_whole _ _ _ _ _ _ _ _ _ _ _ _ _ _ _ _ (nothing_goes _ _ (sym c.is_some.ensures ∙ c.if-is_some.false))
+    c.parse_count-parses.ensures.count (follow_end _ _ _ _ _ _ _ _ _ _ _ _ _ _ c.loop-i.rows (done_with c.loop-i.all
+    c.loop-i.state) c.loop-i.invariant.left c.loop-i-test.false refl)
 
-pub parser::one_run-returns-then-next-ne0 : goal.parser::one_run-returns-then-next-ne0
-parser::one_run-returns-then-next-ne0 t c =
-    one_run_whole _ _ _ _ _ _ _ _ _ _ _ _ _ _ _ c.nonterminal_of-nonterminal.ensures c.clear_run.ensures
-    c.nonterminal-called.ensures c.done-o.ensures (variants_stop _ _ _ _ _ _ _ _ _ _ _ _ (table c.loop-k.rows)
-    c.loop-k.o c.loop-k.invariant.left c.loop-k-test.true _ refl _ _ _ c.variant-next.ensures c.if-next-ne0.true)
+pub parser::one_run-returns-in_err-failure : goal.parser::one_run-returns-in_err-failure
+parser::one_run-returns-in_err-failure t c =
+    let p = err_from_is_err_and c.from_residual.result c.from_residual.ensures.1 in
+    rw (p.1, p.2)
+    (one_run_whole _ _ _ _ _ _ _ _ _ _ _ _ _ _ _ c.nonterminal_of-nonterminal.ensures c.clear_run.ensures
+    c.nonterminal-called.ensures refl (variants_stop _ _ _ _ _ _ _ _ _ _ _ _ c.loop-k.rows (done_with
+    c.loop-k.failure c.loop-k.state) c.loop-k.invariant.left c.loop-k-test.true
+    _ refl _ _ _ (rw c.in_err-failure.was at c.variant.ensures) (number_there _)))
 
 pub parser::one_run-loop-k-preserved : goal.parser::one_run-loop-k-preserved
-parser::one_run-loop-k-preserved t c = record {
-  few = omega (arith, c.loop-k-test.true);
-  unlimited = c.if-next-ne0.false;
-  left =
-      variants_again _ _ _ _ _ _ _ _ _ _ _ _ (table c.loop-k.rows) c.loop-k.o c.loop-k.invariant.left c.loop-k-test.true
-      _ refl _ _ _ c.variant-next.ensures c.if-next-ne0.false;
-}
+parser::one_run-loop-k-preserved t c =
+    record {
+      few = omega (arith, c.loop-k-test.true);
+      left = variants_again _ _ _ _ _ _ _ _ _ _ _ _ c.loop-k.rows (done_with c.loop-k.failure c.loop-k.state)
+          c.loop-k.invariant.left c.loop-k-test.true
+          _ refl _ _ _ (rw c.in_ok-failure.was at c.variant.ensures) refl;
+    }
 
 pub parser::one_run-returns : goal.parser::one_run-returns
 parser::one_run-returns t c =
     one_run_whole _ _ _ _ _ _ _ _ _ _ _ _ _ _ _ c.nonterminal_of-nonterminal.ensures c.clear_run.ensures
-    c.nonterminal-called.ensures c.done-o.ensures (variants_end _ _ _ _ _ _ _ _ _ _ _ _ (table c.loop-k.rows)
-    c.loop-k.o c.loop-k.invariant.left c.loop-k-test.false c.loop-k.invariant.unlimited)
+    c.nonterminal-called.ensures refl (variants_end _ _ _ _ _ _ _ _ _ _ _ _ c.loop-k.rows (done_with c.loop-k.failure
+    c.loop-k.state) c.loop-k.invariant.left c.loop-k-test.false refl)
+
+pub parser::steps-returns-in-Err : goal.parser::steps-returns-in-Err
+parser::steps-returns-in-Err t c =
+    rw (c.in-Err.is, c.outcome.ensures c.args.state.now)
+    (resume_ended _ _ _ _ _ _ _ _ _ _ _ _ _ (ended_stops _ _))
+
+pub parser::steps-returns-in_err-finish-in-Steps : goal.parser::steps-returns-in_err-finish-in-Steps
+parser::steps-returns-in_err-finish-in-Steps t c =
+    let p = err_from_is_err_and c.from_residual.result c.from_residual.ensures.1 in
+    rw (p.1, p.2)
+    (rw c.in-Ok.is (path_end _ _ _ _ _ _ c.loop-stage.step c.loop-stage.remaining _ _ _ (without_failure 0
+    c.loop-stage.state) _ _ _ _
+    c.loop-stage.rows c.loop-stage.invariant.left (goes_done _) c.in-Steps.is _ _ _
+    c.if-remaining-eq0.true (rw c.in_err-finish-in-Steps.was at c.finish.ensures)))
 
 pub parser::steps-returns-then-remaining-eq0 : goal.parser::steps-returns-then-remaining-eq0
 parser::steps-returns-then-remaining-eq0 t c =
-    path_end _ _ _ _ _ _ c.loop-from.step c.loop-from.remaining _ _ _ c.loop-from.o _ _ _ _ (table c.loop-from.rows)
-    c.loop-from.invariant.left (sym c.goes_on.ensures ∙ c.loop-from-test.true) c.in-Steps.is _ _ _
-    c.if-remaining-eq0.true c.finish.ensures
+    rw c.in-Ok.is (path_end _ _ _ _ _ _ c.loop-stage.step c.loop-stage.remaining _ _ _ (without_failure 0
+    c.loop-stage.state) _ _ _ _
+    c.loop-stage.rows c.loop-stage.invariant.left (goes_done _) c.in-Steps.is _ _ _
+    c.if-remaining-eq0.true (rw c.in_ok-finish-in-Steps.was at c.finish.ensures))
 
-pub parser::steps-loop-from-preserved : goal.parser::steps-loop-from-preserved
-parser::steps-loop-from-preserved t c = record {
-  in_range = (
-    c.loop-from.invariant.in_range.0,
-    omega (arith, c.loop-from.invariant.in_range.1),
-    omega (arith, c.loop-from.invariant.in_range.2, c.if-remaining-eq0.false),
-  );
-  nearer = omega (arith, c.loop-from.invariant.nearer, c.if-remaining-eq0.false, rank_few c.take_step-g.result.doing);
-  left =
-      path_step _ _ _ _ _ _ c.loop-from.step c.loop-from.remaining _ _ _ c.loop-from.o _ _ _ _ (table c.loop-from.rows)
-      c.loop-from.invariant.left (sym c.goes_on.ensures ∙ c.loop-from-test.true) c.in-Steps.is _ _
-      c.if-remaining-eq0.false c.loop-from.invariant.in_range.2 c.take_step-g.ensures;
-}
+pub parser::steps-returns-in-Err-take_step : goal.parser::steps-returns-in-Err-take_step
+parser::steps-returns-in-Err-take_step t c =
+    rw (c.in-Ok.is, c.outcome-in-Err-take_step.ensures c.take_step.new.state)
+    (path_ended _ _ _ _ _ _ _ _ _ _ _ _ _ _ _ _ _ (path_step _ _ _ _ _ _ c.loop-stage.step c.loop-stage.remaining _ _
+    _ (without_failure 0 c.loop-stage.state) _ _ _ _
+    c.loop-stage.rows c.loop-stage.invariant.left (goes_done _) c.in-Steps.is _ _
+    c.if-remaining-eq0.false c.loop-stage.invariant.in_range.2 (rw c.in-Err-take_step.is at c.take_step.ensures))
+    (ended_stops _ _))
+
+pub parser::steps-loop-stage-preserved : goal.parser::steps-loop-stage-preserved
+parser::steps-loop-stage-preserved t c =
+    record {
+      in_range = (
+        c.loop-stage.invariant.in_range.0,
+        omega (arith, c.loop-stage.invariant.in_range.1),
+        omega (arith, c.loop-stage.invariant.in_range.2, c.if-remaining-eq0.false),
+      );
+      nearer = omega (
+        arith,
+        c.loop-stage.invariant.nearer,
+        c.if-remaining-eq0.false,
+        rank_few
+            c.in-Ok-take_step.stage.doing,
+      );
+      left =
+          path_step _ _ _ _ _ _ c.loop-stage.step c.loop-stage.remaining _ _ _ (without_failure 0 c.loop-stage.state)
+          _ _ _ _
+          c.loop-stage.rows c.loop-stage.invariant.left (goes_done _) c.in-Steps.is _ _
+          c.if-remaining-eq0.false c.loop-stage.invariant.in_range.2 (rw c.in-Ok-take_step.is at c.take_step.ensures);
+    }
 
 pub parser::steps-returns-in-Child : goal.parser::steps-returns-in-Child
 parser::steps-returns-in-Child t c =
-    path_child _ _ _ _ _ _ c.loop-from.step c.loop-from.remaining _ _ _ c.loop-from.o _ _ _ _ (table c.loop-from.rows)
-    c.loop-from.invariant.left (sym c.goes_on.ensures ∙ c.loop-from-test.true) _ _ _ _ c.in-Child.is c.descend.ensures
+    rw c.in-Ok.is (path_child _ _ _ _ _ _ c.loop-stage.step c.loop-stage.remaining _ _ _ (without_failure 0
+    c.loop-stage.state) _ _ _ _
+    c.loop-stage.rows c.loop-stage.invariant.left (goes_done _) _ _ _ _ c.in-Child.is c.descend.ensures)
 
 pub parser::steps-returns-in-Optional : goal.parser::steps-returns-in-Optional
 parser::steps-returns-in-Optional t c =
-    path_optional _ _ _ _ _ _ c.loop-from.step c.loop-from.remaining _ _ _ c.loop-from.o _ _ _ _ (table
-    c.loop-from.rows) c.loop-from.invariant.left (sym c.goes_on.ensures ∙ c.loop-from-test.true) _ _ _ _
-    c.in-Optional.is c.choice.ensures
+    rw c.in-Ok.is (path_optional _ _ _ _ _ _ c.loop-stage.step c.loop-stage.remaining _ _ _ (without_failure 0
+    c.loop-stage.state) _ _ _ _
+    c.loop-stage.rows c.loop-stage.invariant.left (goes_done _) _ _ _ _ c.in-Optional.is c.choice.ensures)
 
 pub parser::steps-returns-then-list : goal.parser::steps-returns-then-list
 parser::steps-returns-then-list t c =
-    path_names _ _ _ _ _ _ c.loop-from.step c.loop-from.remaining _ _ _ c.loop-from.o _ _ _ _ (table c.loop-from.rows)
-    c.loop-from.invariant.left (sym c.goes_on.ensures ∙ c.loop-from-test.true) _ _ _ _ _ c.in-Elements.is
-    c.if-list.true c.no_names-names.ensures c.choose.ensures
+    rw c.in-Ok.is (path_names _ _ _ _ _ _ c.loop-stage.step c.loop-stage.remaining _ _ _ (without_failure 0
+    c.loop-stage.state) _ _ _ _
+    c.loop-stage.rows c.loop-stage.invariant.left (goes_done _) _ _ _ _ _ c.in-Elements.is
+    c.if-list.true c.no_names.ensures c.choose.ensures)
 
 pub parser::steps-returns-in-Elements : goal.parser::steps-returns-in-Elements
 parser::steps-returns-in-Elements t c =
-    path_elements _ _ _ _ _ _ c.loop-from.step c.loop-from.remaining _ _ _ c.loop-from.o _ _ _ _ (table
-    c.loop-from.rows) c.loop-from.invariant.left (sym c.goes_on.ensures ∙ c.loop-from-test.true) _ _ _ _
-    c.in-Elements.is c.if-list.false c.choice-in-Elements.ensures
-
-pub parser::steps-returns : goal.parser::steps-returns
-parser::steps-returns t c =
-    path_ended _ _ _ _ _ _ c.loop-from.step c.loop-from.remaining _ _ _ c.loop-from.o _ _ _ _ (table c.loop-from.rows)
-    c.loop-from.invariant.left (sym c.goes_on.ensures ∙ c.loop-from-test.false)
+    rw c.in-Ok.is (path_elements _ _ _ _ _ _ c.loop-stage.step c.loop-stage.remaining _ _ _ (without_failure 0
+    c.loop-stage.state) _ _ _ _
+    c.loop-stage.rows c.loop-stage.invariant.left (goes_done _) _ _ _ _ c.in-Elements.is c.if-list.false
+    c.choice-in-Elements.ensures)
 
 pub parser::variant-returns-then-variant-minimum : goal.parser::variant-returns-then-variant-minimum
 parser::variant-returns-then-variant-minimum t c =
-    variant_skipped _ _ _ _ _ _ _ c.variant-variant.ensures _ _ c.if-variant-minimum.true c.requires.4
+    variant_skipped _ _ _ _ _ _ _ c.variant-variant.ensures _ _ c.if-variant-minimum.true refl
+
+pub parser::variant-returns-in_err-items : goal.parser::variant-returns-in_err-items
+parser::variant-returns-in_err-items t c =
+    let p = err_from_is_err_and c.from_residual.result c.from_residual.ensures.1 in
+    rw (p.1, p.2)
+    (variant_ran _ _ _ _ _ _ _ c.variant-variant.ensures _ _ c.if-variant-minimum.false _ _ _ _ _ _ _
+    (rw c.in_err-items.was at c.begin_variant.ensures)
+    (resume_ended _ _ _ _ _ _ _ _ _ _ _ _ _ (limit_stops_path _ _))
+    (variant_limit _ _ _ (done_with c.args.before c.args.state.now) (without_failure (limit_number
+    c.in_err-items.field-0.0) c.begin_variant.new.state) _
+    (number_there _) refl))
+
+pub parser::variant-returns-in_err-failure : goal.parser::variant-returns-in_err-failure
+parser::variant-returns-in_err-failure t c =
+    let p = err_from_is_err_and c.from_residual-in_err-failure.result c.from_residual-in_err-failure.ensures.1 in
+    rw (p.1, p.2)
+    (variant_ran _ _ _ _ _ _ _ c.variant-variant.ensures _ _ c.if-variant-minimum.false _ _ _ _ _ _ _
+    (rw c.in_ok-items.was at c.begin_variant.ensures)
+    (rw (c.start_of-start.ensures, c.in_err-failure.was) at c.steps.ensures)
+    (variant_limit _ _ _ (done_with c.args.before c.args.state.now) (without_failure (limit_number
+    c.in_err-failure.field-0.0) c.steps.new.state) _
+    (number_there _) refl))
 
 pub parser::variant-returns : goal.parser::variant-returns
 parser::variant-returns t c =
     variant_ran _ _ _ _ _ _ _ c.variant-variant.ensures _ _ c.if-variant-minimum.false _ _ _ _ _ _ _
-    c.begin_variant-b.ensures c.steps-o.ensures c.after_variant.ensures
+    (rw c.in_ok-items.was at c.begin_variant.ensures)
+    (rw (c.start_of-start.ensures, c.in_ok-failure.was) at c.steps.ensures)
+    (rw c.start_of-start.ensures at (c.after_variant.ensures c.args.state.now c.steps.new.state))

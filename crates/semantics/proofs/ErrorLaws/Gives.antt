@@ -5,7 +5,7 @@ use Rattle.std.specs.Prelude.{◌≡◌, Bool, cond, List, [], ℕ, ◌≤◌, l
 use Rattle.std.proofs.Common.{sym, subst}
 use Rattle.std.proofs.Math.Bool.{true, false}
 use mathlib.Core.List.Memᴰ
-use Rattle.std.proofs.Math.Option.{Option, none, some}
+use Rattle.std.specs.Prelude.{Option, None, Some}
 use Rattle.characters.specs.Skipping.{skip_from}
 use Rattle.book.specs.Book.{Entry, Book, nth_variant}
 use Rattle.semantics.specs.Numbers.{more_wanted}
@@ -27,8 +27,8 @@ module _ (text : List ℕ) where
 
   -- an error, if there is one, stands at such a place
   pub data Fails : Option Error → Type 0 where
-    no_error_lem : Fails none
-    an_error : {e : Error} → Skipped e.place → Fails (some e)
+    no_error_lem : Fails None
+    an_error : {e : Error} → Skipped e.place → Fails (Some e)
 
   -- ---- What becomes of errors
   join_skipped : (a b : Error) → Skipped a.place → Skipped b.place → Skipped (join a b).place
@@ -43,21 +43,21 @@ module _ (text : List ℕ) where
   unfolding beyond
   beyond_fails place e h = by (ltb place e.place)
     where
-      by : (t : Bool) → Fails (cond t (some e) none)
+      by : (t : Bool) → Fails (cond t (Some e) None)
       by true = an_error h
       by false = no_error_lem
 
   pub join_with_fails : (a b : Option Error) → Fails a → Fails b → Fails (join_with a b)
   unfolding join_with
-  join_with_fails none b h k = k
-  join_with_fails (some a) none h k = h
-  join_with_fails (some a) (some b) (an_error h) (an_error k) = an_error (join_skipped a b h k)
+  join_with_fails None b h k = k
+  join_with_fails (Some a) None h k = h
+  join_with_fails (Some a) (Some b) (an_error h) (an_error k) = an_error (join_skipped a b h k)
 
   pub either_fails : (a b : Option Error) → Fails a → Fails b → Fails (eitherError a b)
   unfolding eitherError
-  either_fails none b h k = no_error_lem
-  either_fails (some a) none h k = no_error_lem
-  either_fails (some a) (some b) (an_error h) (an_error k) = an_error (join_skipped a b h k)
+  either_fails None b h k = no_error_lem
+  either_fails (Some a) None h k = no_error_lem
+  either_fails (Some a) (Some b) (an_error h) (an_error k) = an_error (join_skipped a b h k)
 
   choice_skipped : (at N : ℕ) (a b : Error) → Skipped at → Skipped a.place → Skipped b.place →
       Skipped (choice_error at N a b).place
@@ -65,22 +65,22 @@ module _ (text : List ℕ) where
   choice_skipped at N a b h k l = by (beyond at (join a b)) (beyond_fails at (join a b) (join_skipped a b k l))
     where
       by : (o : Option Error) → Fails o →
-          Skipped (elim o as (λ _. Error) [ some e ↦ e | none ↦ error at more_wanted N ]).place
-      by none no_error_lem = h
-      by (some e) (an_error f) = f
+          Skipped (elim o as (λ _. Error) [ Some e ↦ e | None ↦ error at more_wanted N ]).place
+      by None no_error_lem = h
+      by (Some e) (an_error f) = f
 
   pub failed_call_skipped : (c : Call) (o : Option Error) → Skipped c.start → Fails o →
       Skipped (failed_call c o).place
   unfolding failed_call
-  failed_call_skipped c none h no_error_lem = h
-  failed_call_skipped c (some e) h (an_error k) = k
+  failed_call_skipped c None h no_error_lem = h
+  failed_call_skipped c (Some e) h (an_error k) = k
 
   pub counted_fails : (book : Book) (c : Call) (j : ℕ) (o : Option Error) → Fails o → Fails (counted book text c j o)
   unfolding counted
-  counted_fails book c j none no_error_lem = no_error_lem
-  counted_fails book c j (some e) (an_error h) = by (nth_variant book j).committed
+  counted_fails book c j None no_error_lem = no_error_lem
+  counted_fails book c j (Some e) (an_error h) = by (nth_variant book j).committed
     where
-      by : (t : Bool) → Fails (cond t (beyond c.start e) none)
+      by : (t : Bool) → Fails (cond t (beyond c.start e) None)
       by true = beyond_fails c.start e h
       by false = no_error_lem
 
@@ -120,23 +120,23 @@ module _ (text : List ℕ) where
   pub gives_ok : {u : ℕ} {a r : Parsed} → ok a ≡ ok r → Gives u a → Gives u r
   gives_ok {u} e g = subst (Gives u) (ok_inj e) g
 
-  pub gives_set : {u : ℕ} {set : List (Parse ℕ)} {s : State} → Behind u set → Gives u (parsed set none s)
+  pub gives_set : {u : ℕ} {set : List (Parse ℕ)} {s : State} → Behind u set → Gives u (parsed set None s)
   gives_set b = record { set = b; failure = no_error_lem }
 
   pub gives_error : {u : ℕ} {set : List (Parse ℕ)} {e : Error} {s : State} → Behind u set → Skipped e.place →
-      Gives u (parsed set (some e) s)
+      Gives u (parsed set (Some e) s)
   gives_error b h = record { set = b; failure = an_error h }
 
   pub chosen_gives : {u : ℕ} (c : Call) (at : ℕ) (o : Option Error) (b : Parsed) → Skipped at → Fails o → Gives u b →
       Gives u (chosen c at o b)
   unfolding chosen
-  chosen_gives c at none b h no_error_lem g = gives_set g.set
-  chosen_gives {u} c at (some a) b h (an_error k) g = by b.failure g.failure
+  chosen_gives c at None b h no_error_lem g = gives_set g.set
+  chosen_gives {u} c at (Some a) b h (an_error k) g = by b.failure g.failure
     where
       by : (o : Option Error) → Fails o → Gives u
-          (elim o [ none ↦ b | some e ↦ parsed b.set (some (choice_error at c.nonterminal a e)) b.state ])
-      by none no_error_lem = g
-      by (some e) (an_error l) = gives_error g.set (choice_skipped at c.nonterminal a e h k l)
+          (elim o [ None ↦ b | Some e ↦ parsed b.set (Some (choice_error at c.nonterminal a e)) b.state ])
+      by None no_error_lem = g
+      by (Some e) (an_error l) = gives_error g.set (choice_skipped at c.nonterminal a e h k l)
 
   -- a body stands in the same uses as its opening
   pub around_any : (opening : Option (List Entry)) {P : Path} {S : List (List (Parse ℕ))} {u : ℕ} → Around P S u →

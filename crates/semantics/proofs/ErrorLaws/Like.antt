@@ -1,7 +1,7 @@
 -- Failures that a call can't tell apart, and results that are the same but for them.
 use Rattle.std.specs.Prelude.{◌≡◌, List, ℕ, ◌≤◌}
 use Rattle.std.proofs.Math.Path.{refl}
-use Rattle.std.proofs.Math.Option.{Option, none, some}
+use Rattle.std.specs.Prelude.{Option, None, Some}
 use Rattle.std.proofs.Common.{arith}
 use Rattle.semantics.specs.Values.{Parse}
 use Rattle.semantics.specs.Steps.{Todo}
@@ -13,12 +13,12 @@ use Rattle.semantics.proofs.ErrorLaws.Gives.{Behind, Ready}
 
 -- both or neither, and a call that begins at the place can't tell them apart
 pub data Both (place : ℕ) : Option Error → Option Error → Type 0 where
-  neither : Both place none none
-  both : {a b : Error} → Alike place a b → Both place (some a) (some b)
+  neither : Both place None None
+  both : {a b : Error} → Alike place a b → Both place (Some a) (Some b)
 
 pub both_same : {place : ℕ} (o : Option Error) → Both place o o
-both_same none = neither
-both_same (some e) = both (record { at = refl; beyond_it = λ far. refl })
+both_same None = neither
+both_same (Some e) = both (record { at = refl; beyond_it = λ far. refl })
 
 pub both_either : (place : ℕ) {a b c d : Option Error} → Both place a b → Both place c d →
     Both place (eitherError a c) (eitherError b d)
@@ -88,8 +88,8 @@ module _ (text : List ℕ) where
       c.start ≤ x → Behind text c.start set → Like c.start (f c j todo x items set s) (g c j todo x items set s)
 
   pub data LikeInner : Option Runner → Option Runner → Type 0 where
-    deepest : LikeInner none none
-    deeper : {f g : Runner} → LikeRunner f g → LikeInner (some f) (some g)
+    deepest : LikeInner None None
+    deeper : {f g : Runner} → LikeRunner f g → LikeInner (Some f) (Some g)
 
   abbrev pub LikeGo : Call → Go → Go → Type 0
   LikeGo c go go' = (x items : ℕ) (set : List (Parse ℕ)) (s : State) → c.start ≤ x → Behind text c.start set →

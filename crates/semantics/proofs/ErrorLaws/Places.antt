@@ -8,7 +8,7 @@ use Rattle.std.proofs.Math.Bool.{true, false, and-eq-true_iff}
 use Rattle.std.proofs.lemmas.Bool.{false≢true}
 use mathlib.Core.List.Memᴰ
 use mathlib.Core.List.{List, [], ◌∷◌}
-use Rattle.std.proofs.Math.Option.{Option, none, some}
+use Rattle.std.specs.Prelude.{Option, None, Some}
 use native.Mathlib.Omega.{arith}
 use Rattle.std.proofs.Math.Dec.{eqb}
 use borrow.Author.Tests.{eqb-true}
@@ -20,7 +20,6 @@ use Rattle.characters.specs.Lexemes.{number_at}
 use Rattle.characters.proofs.LexemeLaws.{number_bounds}
 use Rattle.characters.specs.declared.lexemes.Number.{Number}
 use Rattle.book.specs.Book.{Entry, Book, nth_entry, kind_word}
-use Rattle.book.specs.declared.names.KindWord.{KindWord}
 use Rattle.book.specs.declared.records.Step.{Step}
 use Rattle.semantics.specs.Numbers.{identifier_wanted}
 use Rattle.semantics.specs.Uses.{Use, Enclosing, within, behind, Path, behind_any, has_mark, Governor, minimum}
@@ -60,14 +59,14 @@ use_no_opening e = false≢true (sym (ap is_use e))
 -- so the uses around a body are those around its opening
 pub behind_any_in : (opening : Option (List Entry)) {P : Path} {f : Use} → within f ∈ behind_any opening P → within f ∈
     P
-behind_any_in none m = m
-behind_any_in (some names) (Memᴰ.head e) = absurd (use_no_opening e)
-behind_any_in (some names) (Memᴰ.tail m) = m
+behind_any_in None m = m
+behind_any_in (Some names) (Memᴰ.head e) = absurd (use_no_opening e)
+behind_any_in (Some names) (Memᴰ.tail m) = m
 
 pub behind_any_at : (opening : Option (List Entry)) {P Q : Path} {i : ℕ} {f : Use} → At (behind_any opening P) i f Q →
     At P i f Q
-behind_any_at none a = a
-behind_any_at (some names) (past a) = a
+behind_any_at None a = a
+behind_any_at (Some names) (past a) = a
 
 -- a governor at its own start begins where the child does
 abbrev Begins : ℕ → Governor → Type 0
@@ -105,7 +104,7 @@ pub record Claimant (P : Path) (u : ℕ) : Type 0 where
 
 -- ---- Places go forward
 module _ (text : List ℕ) where
-  pub character_forward : (a x end : ℕ) → character_end text a x ≡ some end → x ≤ end
+  pub character_forward : (a x end : ℕ) → character_end text a x ≡ Some end → x ≤ end
   unfolding character_end
   character_forward a x end q =
       let h = skip_forward text x in
@@ -113,10 +112,10 @@ module _ (text : List ℕ) where
       (λ t. let is = some_inj (rw (t, character_end) at q) in omega arith)
       (λ t. absurd (none_some (rw (t, character_end) at q)))
 
-  pub closed_forward : (close : Option ℕ) (x y : ℕ) → closed text close x ≡ some y → x ≤ y
+  pub closed_forward : (close : Option ℕ) (x y : ℕ) → closed text close x ≡ Some y → x ≤ y
   unfolding closed
-  closed_forward none x y q = let is = some_inj q in omega arith
-  closed_forward (some c) x y q = character_forward c x y q
+  closed_forward None x y q = let is = some_inj q in omega arith
+  closed_forward (Some c) x y q = character_forward c x y q
 
   abbrev pub Onward : ℕ → After → Type 0
   Onward x (goes y) = x ≤ y
@@ -133,12 +132,12 @@ module _ (text : List ℕ) where
 module _ (book : Book) (text : List ℕ) where
   -- a variable ends behind its place, if its identifier does
   read_forward : {at end : ℕ} (f : Option Variable) (v : Read Variable) → at < end →
-      elim f [ some w ↦ some (record { end = end; value = w }) | none ↦ none ] ≡ some v → at < v.end
-  read_forward {end = end} (some w) v l p =
+      elim f [ Some w ↦ Some (record { end = end; value = w }) | None ↦ None ] ≡ Some v → at < v.end
+  read_forward {end = end} (Some w) v l p =
       let is : end ≡ v.end = ap (λ (r : Read Variable). r.end) (some_inj p) in omega arith
-  read_forward none v l p = absurd (none_some p)
+  read_forward None v l p = absurd (none_some p)
 
-  variable_forward : (scope : Scope) (at : ℕ) (v : Read Variable) → variable_at book text scope at ≡ some v → at < v.end
+  variable_forward : (scope : Scope) (at : ℕ) (v : Read Variable) → variable_at book text scope at ≡ Some v → at < v.end
   unfolding variable_at
   variable_forward scope at v q =
       option_cases (identifier_end text at)
@@ -147,7 +146,7 @@ module _ (book : Book) (text : List ℕ) where
       read_forward (variable_in book.names 0 scope (spelled text at end)) v (identifier_within text at end e).0
       (rw (e, variable_at) at q))
 
-  kind_forward : (at : ℕ) (k : Read ℕ) → kind_at book text at ≡ some k → at < k.end
+  kind_forward : (at : ℕ) (k : Read ℕ) → kind_at book text at ≡ Some k → at < k.end
   unfolding kind_at
   kind_forward at k q =
       option_cases (identifier_end text at)
@@ -156,16 +155,16 @@ module _ (book : Book) (text : List ℕ) where
       by end (identifier_within text at end e).0 (kind_word book.words (spelled text at end))
       (rw (e, kind_at) at q))
     where
-      by : (end : ℕ) → at < end → (w : KindWord) →
+      by : (end : ℕ) → at < end → (w : Option ℕ) →
           elim w [
-            | KindWord.Kind kind ↦ some (record { end = end; value = kind })
-            | KindWord.Nothing ↦ none
-          ] ≡ some k → at < k.end
-      by end l (KindWord.Kind kind) p =
+            | Some kind ↦ Some (record { end = end; value = kind })
+            | None ↦ None
+          ] ≡ Some k → at < k.end
+      by end l (Some kind) p =
           let is : end ≡ k.end = ap (λ (r : Read ℕ). r.end) (some_inj p) in omega arith
-      by end l KindWord.Nothing p = absurd (none_some p)
+      by end l None p = absurd (none_some p)
 
-  name_forward : (kind at : ℕ) (d : Read Entry) → name_of_kind book text kind at ≡ some d → at < d.end
+  name_forward : (kind at : ℕ) (d : Read Entry) → name_of_kind book text kind at ≡ Some d → at < d.end
   unfolding name_of_kind
   name_forward kind at d q =
       option_cases (free_end book text at)
@@ -176,7 +175,7 @@ module _ (book : Book) (text : List ℕ) where
       omega arith)
 
   -- a declared name ends behind its place
-  pub declaration_forward : (at : ℕ) (d : Read Entry) → declaration_at book text at ≡ some d → at < d.end
+  pub declaration_forward : (at : ℕ) (d : Read Entry) → declaration_at book text at ≡ Some d → at < d.end
   unfolding declaration_at
   declaration_forward at d q =
       option_cases (kind_at book text at)

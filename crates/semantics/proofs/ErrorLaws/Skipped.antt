@@ -9,7 +9,7 @@
 use Rattle.std.specs.Prelude.{◌≡◌, Bool}
 use Rattle.std.proofs.Math.Path.{subst}
 use mathlib.Core.List.{List, [], ◌∷◌}
-use Rattle.std.proofs.Math.Option.{Option, none, some}
+use Rattle.std.specs.Prelude.{Option, None, Some}
 use Prim.Native.Nat.{ℕ, zero, suc, ◌≤◌}
 use Rattle.std.proofs.Common.{arith}
 use Rattle.characters.specs.Skipping.{skip_from}
@@ -32,7 +32,7 @@ use Rattle.semantics.proofs.ErrorLaws.SkippedBinders.{body_gives, opens_give, na
 
 module _ (book : Book) (text : List ℕ) where
   -- ---- One level of nesting
-  module _ (inner : Option Runner) (goods : (f : Runner) → inner ≡ some f → Good book text f) where
+  module _ (inner : Option Runner) (goods : (f : Runner) → inner ≡ Some f → Good book text f) where
     module _ (c : Call) (h : Ready text c) where
       module _ (j : ℕ) (rest : List (Todo ℕ)) (go : Go) (good : GoodGo book text c go) where
         or_absent_gives : (M : ℕ) → GoodGo book text c (or_absent book text inner c j M rest go)
@@ -74,20 +74,20 @@ module _ (book : Book) (text : List ℕ) where
           (λ t takes. let on : x ≤ t.next = step_forward book text (scope_of c.path) x step takes in
           after _ _ (rw takes at ran) (λ m linked more. good t.next m.cell set m.state r (omega arith) b more))
           (λ M takes. after _ _ (rw takes at ran) (λ a entered next.
-          child_gives book text inner goods c h none j M x _ (plain_next_good book text c h j rest items) set s a r l b
+          child_gives book text inner goods c h None j M x _ (plain_next_good book text c h j rest items) set s a r l b
           entered next))
           (λ M takes. or_absent_gives j rest _ good M x items set s r l b (rw takes at ran))
           (λ comma M close y takes. let on : x ≤ y = step_forward book text (scope_of c.path) x step takes in
           listing_gives j rest _ good comma M close y items set s r (omega arith) b (rw takes at ran))
           (λ y takes. let on : x ≤ y = step_forward book text (scope_of c.path) x step takes in
           after _ _ (rw takes at ran) (λ m begun next.
-          stops_give book text c h j m.cell none _ good y items set m.state r (omega arith) b next))
+          stops_give book text c h j m.cell None _ good y items set m.state r (omega arith) b next))
           (λ close M y takes. let on : x ≤ y = step_forward book text (scope_of c.path) x step takes in
           after _ _ (rw takes at ran) (λ m begun next.
           name_choice_gives book text inner goods c h j rest [] m.cell close M y items set m.state r (omega arith)
           b next))
           (λ M takes. after _ _ (rw takes at ran) (λ m missing next.
-          body_gives book text inner goods c h j rest none M m.cell x items set m.state r l b next)))
+          body_gives book text inner goods c h j rest None M m.cell x items set m.state r l b next)))
 
     steps_give : Good book text (steps book text inner)
     unfolding steps
@@ -106,14 +106,14 @@ module _ (book : Book) (text : List ℕ) where
         take_gives c h j step rest (λ y is u t r l b e. steps_give c j rest y is u t r h l b e) x items set s r l b e
 
   -- ---- The whole run
-  runner_good : (n : ℕ) (f : Runner) → runner book text n ≡ some f → Good book text f
+  runner_good : (n : ℕ) (f : Runner) → runner book text n ≡ Some f → Good book text f
   unfolding runner
   runner_good zero f e = absurd (none_some e)
   runner_good (suc n) f e = subst (Good book text) (some_inj e) (steps_give (runner book text n) (runner_good n))
 
   -- every error of a run stands at a skipped place
   pub run_error_skipped : (units start : ℕ) (r : Parsed) (e : Error) → run book text units start ≡ ok r →
-      r.failure ≡ some e → skip_from text e.place ≡ e.place
+      r.failure ≡ Some e → skip_from text e.place ≡ e.place
   unfolding run
   run_error_skipped units start r e ran failed = told (subst (Fails text) failed g.failure)
     where
@@ -122,5 +122,5 @@ module _ (book : Book) (text : List ℕ) where
           enter_gives book text (runner book text most_nesting) (runner_good most_nesting) [] [] start
           (skip_from text 0) _ r (around_none text (skip_twice text 0)) ran
 
-      told : {e : Error} → Fails text (some e) → Skipped text e.place
+      told : {e : Error} → Fails text (Some e) → Skipped text e.place
       told (an_error k) = k

@@ -2,7 +2,7 @@
 -- ErrorLaws/Skipped.
 use Rattle.std.specs.Prelude.{◌≡◌, List, [], ◌∷◌, ◌++◌, ℕ}
 use Rattle.std.proofs.Math.Bool.{true}
-use Rattle.std.proofs.Math.Option.{Option, some}
+use Rattle.std.specs.Prelude.{Option, Some}
 use Rattle.std.proofs.Common.{arith}
 use Rattle.characters.specs.Skipping.{skip_from}
 use Rattle.characters.proofs.SkippingLaws.{skip_forward, skip_twice}
@@ -16,7 +16,7 @@ use Rattle.semantics.proofs.ErrorLaws.Gives.{Ready, gives_ok, gives_error, chose
 use Rattle.semantics.proofs.ErrorLaws.SkippedCalls.{Good, GoodGo, plain_next_good, after_gives, child_gives}
 
 module _ (book : Book) (text : List ℕ) (inner : Option Runner)
-    (goods : (f : Runner) → inner ≡ some f → Good book text f)
+    (goods : (f : Runner) → inner ≡ Some f → Good book text f)
     (c : Call) (h : Ready text c) (j : ℕ) (rest : List (Todo ℕ)) where
   pub body_gives : (opening : Option (List Entry)) (M item : ℕ) →
       GoodGo book text c (body_after book text inner opening c j M item rest)
@@ -34,7 +34,7 @@ module _ (book : Book) (text : List ℕ) (inner : Option Runner)
         option_cases (character_end text close x)
         (λ unclosed. gives_ok text (rw unclosed at next) (gives_error text b (skip_twice text x)))
         (λ y there. let on = character_forward text close x y there in
-        body_gives (some names) M m.cell y items set m.state r (omega arith) b (rw there at next)))
+        body_gives (Some names) M m.cell y items set m.state r (omega arith) b (rw there at next)))
 
     declares_give : GoodGo book text c (declares book text inner c j names kinds close M rest)
     unfolding declares

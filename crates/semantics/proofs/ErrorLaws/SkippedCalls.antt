@@ -5,7 +5,7 @@ use Rattle.std.proofs.Common.{sym, ◌∙◌}
 use Rattle.std.proofs.Math.Path.{subst}
 use mathlib.Core.List.Memᴰ
 use mathlib.Core.List.{List, [], ◌∷◌}
-use Rattle.std.proofs.Math.Option.{Option, none, some}
+use Rattle.std.specs.Prelude.{Option, None, Some}
 use Prim.Native.Nat.{ℕ, zero, suc, ◌≤◌}
 use native.Mathlib.Omega.{arith}
 use Rattle.characters.specs.Cases.{by_test}
@@ -71,7 +71,7 @@ module _ (book : Book) (text : List ℕ) where
     unfolding one_run
     one_run_gives c m s r h e =
         variants_give c m (nth_nonterminal book c.nonterminal).count (nth_nonterminal book c.nonterminal).first []
-        none s r h (nothing_behind text) no_error_lem e
+        None s r h (nothing_behind text) no_error_lem e
 
     rounds_give : (n : ℕ) (c : Call) (m : ℕ) (s : State) (r : Parsed) → Ready text c →
         rounds book text n f c m s ≡ ok r → Gives text c.start r
@@ -146,11 +146,11 @@ module _ (book : Book) (text : List ℕ) where
           stored = λ i f Q a. sets i f Q a;
         })
       where
-        begins : {u : ℕ} → c.start ≤ u → (f : Use) → within f ∈ child_path none c j x → f.start ≤ u
+        begins : {u : ℕ} → c.start ≤ u → (f : Use) → within f ∈ child_path None c j x → f.start ≤ u
         begins k f (Memᴰ.head e) = let is = same_begin e in omega arith
         begins k f (Memᴰ.tail m) = let less = h.around.starts f m in omega arith
 
-        sets : (i : ℕ) (f : Use) (Q : Path) → At (child_path none c j x) i f Q →
+        sets : (i : ℕ) (f : Use) (Q : Path) → At (child_path None c j x) i f Q →
             Behind text f.start (nth (c.mine ∷ c.stored) i)
         sets zero f Q here = h.mine
         sets (suc i) f Q (there a) = h.around.stored i f Q a
@@ -160,7 +160,7 @@ module _ (book : Book) (text : List ℕ) where
         within f ∈ child_path opening c j x → f.start ≡ skip_from text x → skip_from text x ≡ c.start
     child_at_start opening j x l f m s = by (behind_any_in opening m)
       where
-        by : within f ∈ child_path none c j x → skip_from text x ≡ c.start
+        by : within f ∈ child_path None c j x → skip_from text x ≡ c.start
         by (Memᴰ.head e) = sym s ∙ same_begin e
         by (Memᴰ.tail n) =
             let less = h.around.starts f n in let on = skip_forward text x in omega arith
@@ -203,7 +203,7 @@ module _ (book : Book) (text : List ℕ) where
         after _ _ (rw there at next) (λ m linked ran. good y m.cell set m.state r (omega arith) b ran)))
 
   -- ---- One level of nesting
-  module _ (inner : Option Runner) (goods : (f : Runner) → inner ≡ some f → Good f) where
+  module _ (inner : Option Runner) (goods : (f : Runner) → inner ≡ Some f → Good f) where
     reentry_gives : {u : ℕ} (l : List (Parse ℕ)) (d : Error) (s : State) → Behind text u l → Skipped text d.place →
         Gives text u (reentry book text inner l d s)
     unfolding reentry
@@ -291,8 +291,8 @@ module _ (book : Book) (text : List ℕ) where
       -- both sides of a choice
       pub sides_give : (j M x : ℕ) (next : Next) (s : State) (a b d : Parsed) → GoodNext c next → c.start ≤ x →
           Gives text c.start a →
-          enter_child book text inner none c j M x s ≡ ok b → followed book text inner next a.set b ≡ ok d →
+          enter_child book text inner None c j M x s ≡ ok b → followed book text inner next a.set b ≡ ok d →
           Gives text c.start (chosen c (skip_from text x) a.failure d)
       sides_give j M x next s a b d good l g entered e =
           chosen_gives text c (skip_from text x) a.failure d (skip_twice text x) g.failure
-          (child_gives none j M x next good a.set s b d l g.set entered e)
+          (child_gives None j M x next good a.set s b d l g.set entered e)

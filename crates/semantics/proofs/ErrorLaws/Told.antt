@@ -1,7 +1,7 @@
 -- The run once more, with errors that are told for re-entries and claimed names: what "The run" says from a call's
 -- governor on. `run_with_lem` of ErrorLaws/Unseen holds it to the run's own definition, whatever is told.
 use Rattle.std.specs.Prelude.{Bool, false, List, [], ◌∷◌, ℕ, zero, suc, get_or}
-use Rattle.std.proofs.Math.Option.{Option, none, some}
+use Rattle.std.specs.Prelude.{Option, None, Some}
 use Rattle.characters.specs.Skipping.{skip_from}
 use Rattle.book.specs.Book.{Entry, Book}
 use Rattle.semantics.specs.Numbers.{most_nesting, character_wanted}
@@ -21,7 +21,7 @@ module _ (told : ℕ → ℕ → Error) (book : Book) (text : List ℕ) (inner :
   unfoldable pub identifier_with : Call → State → Result Parsed
   identifier_with c s =
       when (claimed book text c.path c.start)
-      (λ _. ok (parsed [] (some (told c.start c.nonterminal)) s))
+      (λ _. ok (parsed [] (Some (told c.start c.nonterminal)) s))
       (λ _. named book text c s (free_end book text c.start))
 
   unfoldable pub enter_with : Path → List (List (Parse ℕ)) → ℕ → ℕ → State → Result Parsed
@@ -49,7 +49,7 @@ module _ (told : ℕ → ℕ → Error) (book : Book) (text : List ℕ) (inner :
     absent ← make text Cell.absent s
     m ← with_cell book text j items absent.cell absent.state
     a ← go x m.cell set m.state
-    r ← enter_child_with none c j M x a.state
+    r ← enter_child_with None c j M x a.state
     b ← followed book text inner (plain_next book text c j rest items) a.set r
     ok (chosen c (skip_from text x) a.failure b)
 
@@ -57,7 +57,7 @@ module _ (told : ℕ → ℕ → Error) (book : Book) (text : List ℕ) (inner :
   choice_with c j comma M values close rest go x items set s₀ = do
     s ← spend s₀
     a ← stops book text j values close go x items set s
-    r ← enter_child_with none c j M x a.state
+    r ← enter_child_with None c j M x a.state
     b ← followed book text inner (list_next book text c j comma M values close rest items) a.set r
     ok (chosen c (skip_from text x) a.failure b)
 
@@ -72,8 +72,8 @@ module _ (told : ℕ → ℕ → Error) (book : Book) (text : List ℕ) (inner :
   opens_with c j names kinds close M rest x items set s = do
     l ← make text (Cell.list kinds) s
     elim (character_end text close x) [
-      | none ↦ ok (parsed set (some (error (skip_from text x) character_wanted close)) l.state)
-      | some y ↦ body_after_with (some names) c j M l.cell rest y items set l.state
+      | None ↦ ok (parsed set (Some (error (skip_from text x) character_wanted close)) l.state)
+      | Some y ↦ body_after_with (Some names) c j M l.cell rest y items set l.state
     ]
 
   -- a declared name calls no nonterminal itself, and what follows it runs one level further in
@@ -97,27 +97,27 @@ module _ (told : ℕ → ℕ → Error) (book : Book) (text : List ℕ) (inner :
   steps_with c j (taking step ∷ rest) x items set s₀ = do
     s ← step_unit book text inner step s₀
     elim (step_at book text (scope_of c.path) step x) [
-      | Taken.nothing ↦ ok (parsed set (some (step_error book text (scope_of c.path) step (skip_from text x))) s)
+      | Taken.nothing ↦ ok (parsed set (Some (step_error book text (scope_of c.path) step (skip_from text x))) s)
       | Taken.token t ↦
           with_token book text j items t.item s >>= (λ m. steps_with c j rest t.next m.cell set m.state)
       | Taken.child M ↦
-          enter_child_with none c j M x s >>= (λ r. followed book text inner (plain_next book text c j rest items) set
+          enter_child_with None c j M x s >>= (λ r. followed book text inner (plain_next book text c j rest items) set
           r)
       | Taken.optional M ↦ or_absent_with c j M rest (steps_with c j rest) x items set s
       | Taken.list comma M close y ↦
           make text Cell.empty s
           >>= (λ e. choice_with c j comma M e.cell close rest (steps_with c j rest) y items set e.state)
       | Taken.unopened y ↦
-          make text Cell.empty s >>= (λ e. stops book text j e.cell none (steps_with c j rest) y items set e.state)
+          make text Cell.empty s >>= (λ e. stops book text j e.cell None (steps_with c j rest) y items set e.state)
       | Taken.names close M y ↦
           make text Cell.empty s >>= (λ e. name_choice_with c j [] e.cell close M rest y items set e.state)
-      | Taken.body M ↦ make text Cell.absent s >>= (λ a. body_after_with none c j M a.cell rest x items set a.state)
+      | Taken.body M ↦ make text Cell.absent s >>= (λ a. body_after_with None c j M a.cell rest x items set a.state)
     ]
 
 module _ (told : ℕ → ℕ → Error) (book : Book) (text : List ℕ) where
   unfoldable pub runner_with : ℕ → Option Runner
-  runner_with zero = none
-  runner_with (suc n) = some (steps_with told book text (runner_with n))
+  runner_with zero = None
+  runner_with (suc n) = Some (steps_with told book text (runner_with n))
 
   unfoldable pub run_with : ℕ → ℕ → Result Parsed
   run_with units start =

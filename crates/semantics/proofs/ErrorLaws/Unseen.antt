@@ -9,7 +9,7 @@ use Rattle.std.specs.Prelude.{◌≡◌, Bool}
 use Rattle.std.proofs.Common.{ap, arith}
 use mathlib.Core.List.Memᴰ
 use mathlib.Core.List.{List, [], ◌∷◌}
-use Rattle.std.proofs.Math.Option.{Option, none}
+use Rattle.std.specs.Prelude.{Option, None}
 use Prim.Native.Nat.{ℕ, zero, suc, ◌≤◌}
 use Rattle.characters.specs.Skipping.{skip_from}
 use Rattle.characters.proofs.SkippingLaws.{skip_twice}
@@ -74,7 +74,7 @@ module _ (book : Book) (text : List ℕ) where
           (λ t takes. let on : x ≤ t.next = step_forward book text (scope_of c.path) x step takes in
           rw takes (like_next text (with_token book text j items t.item s) _ _ (λ m linked.
           like t.next m.cell set m.state (omega arith) b)))
-          (λ M takes. rw takes (child_followed_like book text told there inner inner' likes c h none j M x
+          (λ M takes. rw takes (child_followed_like book text told there inner inner' likes c h None j M x
           (plain_next book text c j rest items) (plain_next_like book text c h j rest items) set s l b))
           (λ M takes. rw takes (or_absent_like j rest _ _ like M x items set s l b))
           (λ comma M close y takes. let on : x ≤ y = step_forward book text (scope_of c.path) x step takes in
@@ -82,13 +82,13 @@ module _ (book : Book) (text : List ℕ) where
           choice_like j rest _ _ like comma M e.cell close y items set e.state (omega arith) b)))
           (λ y takes. let on : x ≤ y = step_forward book text (scope_of c.path) x step takes in
           rw takes (like_next text (make text Cell.empty s) _ _ (λ e begun.
-          stops_like book text c h j e.cell none _ _ like y items set e.state (omega arith) b)))
+          stops_like book text c h j e.cell None _ _ like y items set e.state (omega arith) b)))
           (λ close M y takes. let on : x ≤ y = step_forward book text (scope_of c.path) x step takes in
           rw takes (like_next text (make text Cell.empty s) _ _ (λ e begun.
           name_choice_like book text told there inner inner' likes c h j rest [] e.cell close M y items set
           e.state (omega arith) b)))
           (λ M takes. rw takes (like_next text (make text Cell.absent s) _ _ (λ a missing.
-          body_like book text told there inner inner' likes c h j rest none M a.cell x items set a.state l b))))
+          body_like book text told there inner inner' likes c h j rest None M a.cell x items set a.state l b))))
 
     steps_like : LikeRunner text (steps_with told book text inner) (steps book text inner')
     unfolding steps_with steps

@@ -2,7 +2,7 @@
 -- that the call can't tell apart. The plan is in ErrorLaws/Unseen.
 use Rattle.std.specs.Prelude.{◌≡◌, List, [], ◌∷◌, ◌++◌, ℕ}
 use Rattle.std.proofs.Math.Bool.{true}
-use Rattle.std.proofs.Math.Option.{Option, some}
+use Rattle.std.specs.Prelude.{Option, Some}
 use Rattle.std.proofs.Common.{arith}
 use Rattle.characters.specs.Skipping.{skip_from}
 use Rattle.characters.proofs.SkippingLaws.{skip_forward}
@@ -44,7 +44,7 @@ module _ (book : Book) (text : List ℕ) (told : ℕ → ℕ → Error) (there :
         option_cases (character_end text close x)
         (λ unclosed. rw unclosed (like_result b (both_same _)))
         (λ y closed. let on = character_forward text close x y closed in
-        rw closed (body_like (some names) M m.cell y items set m.state (omega arith) b)))
+        rw closed (body_like (Some names) M m.cell y items set m.state (omega arith) b)))
 
     declares_like : LikeGo text c (declares book text inner c j names kinds close M rest)
         (declares book text inner' c j names kinds close M rest)

@@ -6,7 +6,7 @@ use Rattle.std.proofs.Math.Path.{subst}
 use Rattle.std.proofs.Math.Bool.{true, false, and-eq-true_iff}
 use mathlib.Core.List.Memᴰ
 use mathlib.Core.List.{List, [], ◌∷◌}
-use Rattle.std.proofs.Math.Option.{Option, none, some}
+use Rattle.std.specs.Prelude.{Option, None, Some}
 use Prim.Native.Nat.{ℕ, zero, suc, ◌≤◌}
 use native.Mathlib.Omega.{arith}
 use Rattle.characters.specs.Cases.{by_test}
@@ -86,7 +86,7 @@ module _ (book : Book) (text : List ℕ) where
     unfolding one_run
     one_run_same c m s h =
         variants_same c m (nth_nonterminal book c.nonterminal).count (nth_nonterminal book c.nonterminal).first []
-        none s h (nothing_behind text)
+        None s h (nothing_behind text)
 
     rounds_same : (n : ℕ) (c : Call) (m : ℕ) (s : State) → Ready text c →
         Same text c.start (rounds book text n f c m s) (rounds book text n g c m s)
@@ -182,8 +182,8 @@ module _ (book : Book) (text : List ℕ) where
     nested_same {u} s k k' h = by likes
       where
         by : {o o' : Option Runner} → LikeInner text o o' →
-            Same text u (elim o [ some run ↦ k run | none ↦ met too_deep s.units ])
-            (elim o' [ some run ↦ k' run | none ↦ met too_deep s.units ])
+            Same text u (elim o [ Some run ↦ k run | None ↦ met too_deep s.units ])
+            (elim o' [ Some run ↦ k' run | None ↦ met too_deep s.units ])
         by deepest = same_limit
         by (deeper {f} {g} like) = h f g like
 
@@ -194,8 +194,8 @@ module _ (book : Book) (text : List ℕ) where
     nested_like {u} s k k' h = by likes
       where
         by : {o o' : Option Runner} → LikeInner text o o' →
-            Like text u (elim o [ some run ↦ k run | none ↦ met too_deep s.units ])
-            (elim o' [ some run ↦ k' run | none ↦ met too_deep s.units ])
+            Like text u (elim o [ Some run ↦ k run | None ↦ met too_deep s.units ])
+            (elim o' [ Some run ↦ k' run | None ↦ met too_deep s.units ])
         by deepest = like_limit
         by (deeper {f} {g} like) = h f g like
 
@@ -353,12 +353,12 @@ module _ (book : Book) (text : List ℕ) where
           (set : List (Parse ℕ)) (s : State) {d e : Option Error} → c.start ≤ x → Behind text c.start set →
           Both c.start d e →
           Like text c.start
-          (enter_child_with told book text inner none c j M x s
+          (enter_child_with told book text inner None c j M x s
           >>= (λ r. followed book text inner next set r >>= (λ b. ok (chosen c (skip_from text x) d b))))
-          (enter_child book text inner' none c j M x s
+          (enter_child book text inner' None c j M x s
           >>= (λ r. followed book text inner' next set r >>= (λ b. ok (chosen c (skip_from text x) e b))))
       sides_like j M x next like set s l b k =
           let on = skip_forward text x in
-          like_bind text _ _ (child_like none j M x s l) (λ qs s' d' e' q k'.
+          like_bind text _ _ (child_like None j M x s l) (λ qs s' d' e' q k'.
           like_bind text _ _ (followed_like next like set qs s' b q k') (λ more s'' d'' e'' b'' k''.
           chosen_like c (skip_from text x) more s'' (omega arith) k b'' k''))

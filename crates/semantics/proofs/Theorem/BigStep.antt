@@ -1,7 +1,7 @@
 -- The run as a relation, over trees: which sets its calls, variants and steps find, and which marks stand after them.
 -- It knows nothing of work, nesting, cells and errors.
 use Rattle.std.specs.Prelude.{◌≡◌, Bool, true, false, cond, List, [], ◌∷◌, ◌++◌, ℕ, zero, suc, leb}
-use Rattle.std.proofs.Math.Option.{Option, none, some}
+use Rattle.std.specs.Prelude.{Option, None, Some}
 use Rattle.characters.specs.Skipping.{skip_from}
 use Rattle.book.specs.Book.{Entry, Book, nth_nonterminal, nth_variant}
 use Rattle.book.specs.declared.records.Step.{Step}
@@ -74,8 +74,8 @@ module _ (book : Book) (text : List ℕ) where
 
   -- what a mark-2 use finds
   abbrev pub named : Option ℕ → ℕ → List (Parse Tree)
-  named none u = []
-  named (some end) u = identifier_parse text u end ∷ []
+  named None u = []
+  named (Some end) u = identifier_parse text u end ∷ []
 
   abbrev pub identifiers : Path → ℕ → List (Parse Tree)
   identifiers P u = cond (claimed book text P u) [] (named (free_end book text u) u)
@@ -159,10 +159,10 @@ module _ (book : Book) (text : List ℕ) where
           Each o j (listing comma M values close rest items) Q B₂ R₂ B' → Joins R₁ R₂ R →
           Steps o j (elements comma M values close ∷ rest) x items B R B'
       s_unclosed : {o : Open} {j x : ℕ} {values : Trees} {close : Option ℕ} {rest : List (Todo Trees)} {items : Trees}
-          {B : List Bool} → closed text close x ≡ none →
+          {B : List Bool} → closed text close x ≡ None →
           Steps o j (ending values close ∷ rest) x items B [] B
       s_ending : {o : Open} {j x y : ℕ} {values : Trees} {close : Option ℕ} {rest : List (Todo Trees)} {items : Trees}
-          {B B' : List Bool} {R : List (Parse Tree)} → closed text close x ≡ some y →
+          {B B' : List Bool} {R : List (Parse Tree)} → closed text close x ≡ Some y →
           Steps o j rest y (items ▸ list values) B R B' → Steps o j (ending values close ∷ rest) x items B R B'
       s_names : {o : Open} {j x close M y : ℕ} {s : Step} {rest : List (Todo Trees)} {items : Trees}
           {B B' : List Bool} {R : List (Parse Tree)} →
@@ -174,21 +174,21 @@ module _ (book : Book) (text : List ℕ) where
           Each o j (plain rest (items ▸ absent)) Q B₁ R B' → Steps o j (taking s ∷ rest) x items B R B'
       s_no_name : {o : Open} {j x close M : ℕ} {names : List Entry} {kinds : Trees} {rest : List (Todo Trees)}
           {items : Trees} {B B' : List Bool} {R : List (Parse Tree)} →
-          declaration_at book text (skip_from text x) ≡ none →
+          declaration_at book text (skip_from text x) ≡ None →
           Steps o j (closing names kinds close M ∷ rest) x items B R B' →
           Steps o j (naming names kinds close M ∷ rest) x items B R B'
       s_name : {o : Open} {j x close M : ℕ} {names : List Entry} {kinds : Trees} {rest : List (Todo Trees)}
           {items : Trees} {d : Read Entry} {l : Left} {B B₁ B' : List Bool} {R R₁ R₂ : List (Parse Tree)} →
-          declaration_at book text (skip_from text x) ≡ some d →
+          declaration_at book text (skip_from text x) ≡ Some d →
           with_name (after_element text true d.end) d.value names kinds close M rest items ≡ l →
           Steps o j (closing names kinds close M ∷ rest) x items B R₁ B₁ →
           Steps o j l.todo l.place l.items B₁ R₂ B' → Joins R₁ R₂ R →
           Steps o j (naming names kinds close M ∷ rest) x items B R B'
       s_unopening : {o : Open} {j x close M : ℕ} {names : List Entry} {kinds : Trees} {rest : List (Todo Trees)}
-          {items : Trees} {B : List Bool} → character_end text close x ≡ none →
+          {items : Trees} {B : List Bool} → character_end text close x ≡ None →
           Steps o j (closing names kinds close M ∷ rest) x items B [] B
       s_opening : {o : Open} {j x y close M : ℕ} {names : List Entry} {kinds : Trees} {rest : List (Todo Trees)}
-          {items : Trees} {B B₁ B' : List Bool} {Q R : List (Parse Tree)} → character_end text close x ≡ some y →
+          {items : Trees} {B B₁ B' : List Bool} {Q R : List (Parse Tree)} → character_end text close x ≡ Some y →
           Enters (behind names ∷ inside o j (skip_from text y)) (around o) B M (skip_from text y) Q B₁ →
           Each o j (plain rest (items ▸ list kinds)) Q B₁ R B' →
           Steps o j (closing names kinds close M ∷ rest) x items B R B'

@@ -12,7 +12,7 @@ use Rattle.std.specs.Prelude.{◌≡◌, refl, Bool, true, false, cond, List, []
 use Rattle.std.proofs.Common.{sym, ◌∙◌, ap, subst, arith}
 use Rattle.std.proofs.lemmas.Bool.{false≢true}
 use mathlib.Core.List.Memᴰ
-use Rattle.std.proofs.Math.Option.{Option, none, some}
+use Rattle.std.specs.Prelude.{Option, None, Some}
 use Rattle.characters.specs.Skipping.{skip_from}
 use Rattle.book.specs.Book.{Entry, Book, nth_nonterminal, nth_variant}
 use Rattle.semantics.specs.Values.{Tree, Trees, no_trees, ◌▸◌, list, Parse}
@@ -65,8 +65,8 @@ module _ (book : Book) (text : List ℕ) where
   -- behind an opening the calls around are the same
   full_behind : {h : ℕ} (opening : Option (List Entry)) {P : Path} {S : Sets} {A : List Bool} → Full h P S A →
       Full h (behind_any opening P) S A
-  full_behind none F = F
-  full_behind {h} (some names) {P} {S} {A} F = record { holds = behind_holds }
+  full_behind None F = F
+  full_behind {h} (Some names) {P} {S} {A} F = record { holds = behind_holds }
     where
       behind_holds : (i : ℕ) (f : Use) (Q : Path) → At (behind names ∷ P) i f Q → flag A i ≡ true →
           HoldsAll h Q f.nonterminal f.start (nth S i)
@@ -113,7 +113,7 @@ module _ (book : Book) (text : List ℕ) where
 
   -- ---- Mark-2 uses
   named_in : (P : Path) (u : ℕ) {end : ℕ} {p : Parse Tree} → claimed book text P u ≡ false →
-      free_end book text u ≡ some end → p ∈ named book text (some end) u → p ∈ identifiers book text P u
+      free_end book text u ≡ Some end → p ∈ named book text (Some end) u → p ∈ identifiers book text P u
   named_in P u {p = p} c e m =
       subst (λ b. p ∈ cond b [] (named book text (free_end book text u) u)) (sym c)
       (subst (λ z. p ∈ named book text z u) (sym e) m)
@@ -174,7 +174,7 @@ module _ (book : Book) (text : List ℕ) where
         {R : List (Parse Tree)} {B' : List Bool}
         {q p : Parse Tree} → Der book text h (inside book text o j (skip_from text x)) M (skip_from text x) q →
         FindsLeft h o j (resume book text c q) p → Choice book text o j todo items c M x B R B' → FullIn h o B' → p ∈ R
-    with_ok {p = p} d k y F = y.joins.second p (child_ok none d k y.with' F)
+    with_ok {p = p} d k y F = y.joins.second p (child_ok None d k y.with' F)
 
     -- a binder's names, without one more
     no_name_ok : {o : Open} {j : ℕ} {names : List Entry} {kinds : Trees} {close M : ℕ} {rest : List (Todo Trees)}
@@ -185,13 +185,13 @@ module _ (book : Book) (text : List ℕ) where
         by (declaration_at book text (skip_from text x)) (inv_naming book text s)
       where
         by : (d : Option (Read Entry)) → Named book text o j names kinds close M rest x items B R B' d → p ∈ R
-        by none y = k B R B' y F
-        by (some d) y = y.joins.first p (k B y.R₁ y.B₁ y.without (in_le (m_steps book text y.with') F))
+        by None y = k B R B' y F
+        by (Some d) y = y.joins.first p (k B y.R₁ y.B₁ y.without (in_le (m_steps book text y.with') F))
 
     -- a name that stands there, where it is known whether the names go on
     name_ok : {o : Open} {j : ℕ} {names : List Entry} {kinds : Trees} {close M : ℕ} {rest : List (Todo Trees)}
         {x : ℕ} {items : Trees} {B : List Bool} {R : List (Parse Tree)} {B' : List Bool} {p : Parse Tree}
-        {d : Read Entry} {z : After} → declaration_at book text (skip_from text x) ≡ some d →
+        {d : Read Entry} {z : After} → declaration_at book text (skip_from text x) ≡ Some d →
         after_element text true d.end ≡ z →
         FindsLeft h o j (with_name book text z d.value names kinds close M rest items) p →
         Steps book text o j (naming names kinds close M ∷ rest) x items B R B' → FullIn h o B' → p ∈ R
@@ -204,12 +204,12 @@ module _ (book : Book) (text : List ℕ) where
     -- the body behind a closing that stands there
     opening_ok : {o : Open} {j : ℕ} {names : List Entry} {kinds : Trees} {close M : ℕ} {rest : List (Todo Trees)}
         {x y : ℕ} {items : Trees} {B : List Bool} {R : List (Parse Tree)} {B' : List Bool} {q p : Parse Tree} →
-        character_end text close x ≡ some y →
+        character_end text close x ≡ Some y →
         Der book text h (behind names ∷ inside book text o j (skip_from text y)) M (skip_from text y) q →
         FindsLeft h o j (resume book text (plain rest (items ▸ list kinds)) q) p →
         Steps book text o j (closing names kinds close M ∷ rest) x items B R B' → FullIn h o B' → p ∈ R
     opening_ok {o} {j} {names} {kinds} {close} {M} {rest} {items = items} {B = B} {R = R} {B' = B'} e d k s F =
-        child_ok (some names) d k (subst (Opened book text o j names kinds M rest items B R B') e
+        child_ok (Some names) d k (subst (Opened book text o j names kinds M rest items B R B') e
         (inv_closing book text s)) F
 
     -- an element of a list, where it is known whether the list goes on
@@ -229,7 +229,7 @@ module _ (book : Book) (text : List ℕ) where
         (S : Sets) (T : List (Parse Tree)) → Finds h (open' P S N u T) j todo x items p
     c_steps (h_done e) S T = λ B R B' s F. only_in (inv_done book text s) e
     c_steps (h_token e t) S T = λ B R B' s F. c_steps t S T B R B' (ran book text e s) F
-    c_steps (h_child e d t) S T = λ B R B' s F. child_ok none d (c_steps t S T) (ran book text e s) F
+    c_steps (h_child e d t) S T = λ B R B' s F. child_ok None d (c_steps t S T) (ran book text e s) F
     c_steps (h_absent e t) S T = λ B R B' s F. without_ok (c_steps t S T) (ran book text e s) F
     c_steps (h_one e d t) S T = λ B R B' s F. with_ok d (c_steps t S T) (ran book text e s) F
     c_steps (h_list e t) S T = λ B R B' s F. c_steps t S T B R B' (ran book text e s) F
@@ -239,7 +239,7 @@ module _ (book : Book) (text : List ℕ) where
     c_steps (h_last d e t) S T = λ B R B' s F. element_ok d e (c_steps t S T) (inv_elements book text s) F
     c_steps (h_ending e t) S T = λ B R B' s F. c_steps t S T B R B' (ended book text e s) F
     c_steps (h_names e t) S T = λ B R B' s F. c_steps t S T B R B' (ran book text e s) F
-    c_steps (h_body e d t) S T = λ B R B' s F. child_ok none d (c_steps t S T) (ran book text e s) F
+    c_steps (h_body e d t) S T = λ B R B' s F. child_ok None d (c_steps t S T) (ran book text e s) F
     c_steps (h_no_name t) S T = λ B R B' s F. no_name_ok (c_steps t S T) s F
     c_steps (h_name e g t) S T = λ B R B' s F. name_ok e g (c_steps t S T) s F
     c_steps (h_last_name e g t) S T = λ B R B' s F. name_ok e g (c_steps t S T) s F

@@ -3,7 +3,7 @@ use Rattle.std.specs.Prelude.{◌≡◌}
 use Rattle.std.proofs.Math.Path.{refl, subst}
 use Rattle.std.proofs.Common.{sym, ◌∙◌}
 use mathlib.Core.List.{List, [], ◌∷◌, cons≢nil}
-use Rattle.std.proofs.Math.Option.{Option, none, some}
+use Rattle.std.specs.Prelude.{Option, None, Some}
 use Prim.Native.Nat.{ℕ, zero, suc}
 use Rattle.characters.specs.Cases.{by_test}
 use Rattle.book.specs.Book.{Book}
@@ -18,13 +18,13 @@ use Rattle.semantics.proofs.Theorem.Results.{governor_cases}
 use Rattle.semantics.proofs.Theorem.Sets.{add_all_some}
 
 pub record Fails (r : Parsed) : Type 0 where
-  pub fails : (e : Error) → r.failure ≡ some e → r.set ≡ []
-  pub finds : r.failure ≡ none → r.set ≡ [] → ⊥
+  pub fails : (e : Error) → r.failure ≡ Some e → r.set ≡ []
+  pub finds : r.failure ≡ None → r.set ≡ [] → ⊥
 
-failed : (r : Parsed) (e : Error) → r.failure ≡ some e → r.set ≡ [] → Fails r
+failed : (r : Parsed) (e : Error) → r.failure ≡ Some e → r.set ≡ [] → Fails r
 failed r e f n = record { fails = λ d t. n; finds = λ h. absurd (none_some (sym h ∙ f)) }
 
-found : (r : Parsed) → r.failure ≡ none → (r.set ≡ [] → ⊥) → Fails r
+found : (r : Parsed) → r.failure ≡ None → (r.set ≡ [] → ⊥) → Fails r
 found r f n = record { fails = λ d t. absurd (none_some (sym f ∙ t)); finds = λ h. n }
 
 module _ (book : Book) (text : List ℕ) where

@@ -4,7 +4,7 @@ use Rattle.std.specs.Prelude.{◌≡◌, Bool, true, length}
 use Rattle.std.proofs.Common.{sym, ◌∙◌}
 use Rattle.std.proofs.Math.Path.{ap, subst}
 use mathlib.Core.List.{List, [], ◌∷◌}
-use Rattle.std.proofs.Math.Option.{Option, none, some}
+use Rattle.std.specs.Prelude.{Option, None, Some}
 use Prim.Native.Nat.{ℕ, zero, suc, ◌≤◌}
 use native.Mathlib.Omega.{arith}
 use Rattle.characters.specs.Cases.{by_test}
@@ -70,7 +70,7 @@ module _ (book : Book) (text : List ℕ) (passing_ok : PassingChild book) where
       let o = with_cell_onward book text j rest items a.cell a.state m h'.tabled w new.item linked in
       gives_from o.grown (good y m.cell set m.state r (ready_still o.grown h') o.left ran)))))
 
-  module _ (inner : Option Runner) (goods : (f : Runner) → inner ≡ some f → Good book text f) where
+  module _ (inner : Option Runner) (goods : (f : Runner) → inner ≡ Some f → Good book text f) where
     module _ (c : Call) (j : ℕ) (rest : List (Todo ℕ)) (go : Go) (good : GoodGo book text c j rest go) where
       or_absent_gives : (M x items : ℕ) (set : List (Parse ℕ)) (s : State) (r : Parsed) → Ready text s.cells c set →
           Wants book text s.cells j rest items →
@@ -121,13 +121,13 @@ module _ (book : Book) (text : List ℕ) (passing_ok : PassingChild book) where
 
       unopened_gives : (x items : ℕ) (set : List (Parse ℕ)) (s : State) (r : Parsed) → Ready text s.cells c set →
           Wants book text s.cells j rest items →
-          (make text Cell.empty s >>= (λ m. stops book text j m.cell none go x items set m.state)) ≡ ok r →
+          (make text Cell.empty s >>= (λ m. stops book text j m.cell None go x items set m.state)) ≡ ok r →
           Gives text s.cells r
       unopened_gives x items set s r h w e =
           after _ _ e (λ m begun next.
           let new = new_empty s m h.tabled begun in
           gives_from new.grown
-          (stops_give c j m.cell none rest go good x items set m.state r (ready_still new.grown h)
+          (stops_give c j m.cell None rest go good x items set m.state r (ready_still new.grown h)
           (record { chain = new.chain; wants = wants_still rest items new.grown.prefix w }) next))
 
       token_gives : (t : Token) (items : ℕ) (set : List (Parse ℕ)) (s : State) (r : Parsed) →
@@ -175,7 +175,7 @@ module _ (book : Book) (text : List ℕ) (passing_ok : PassingChild book) where
         (λ p. child_token (sym (passing_child j (scope_of c.path) step rest x items l p).1 ∙ takes))
         (token_fits book text (scope_of c.path) x step t takes) (rw takes at ran))
         (λ M takes. after _ _ (rw takes at ran) (λ a entered next.
-        child_gives book text passing_ok inner goods s.cells none c j M x _
+        child_gives book text passing_ok inner goods s.cells None c j M x _
         (plain_next_good book text s.cells c j rest items w) set s a r
         (prefix_refl s.cells) h entered next))
         (λ M takes. or_absent_gives c j rest _ good M x items set s r h w (rw takes at ran))
@@ -208,7 +208,7 @@ module _ (book : Book) (text : List ℕ) (passing_ok : PassingChild book) where
         take_gives c j step rest (steps_give c j rest) x items set s r h l e
 
   -- ---- The whole run
-  runner_good : (n : ℕ) (f : Runner) → runner book text n ≡ some f → Good book text f
+  runner_good : (n : ℕ) (f : Runner) → runner book text n ≡ Some f → Good book text f
   unfolding runner
   runner_good zero f e = absurd (none_some e)
   runner_good (suc n) f e = subst (Good book text) (some_inj e) (steps_give (runner book text n) (runner_good n))

@@ -2,7 +2,7 @@
 use Rattle.std.specs.Prelude.{◌≡◌, List, [], ◌∷◌, ◌++◌, ℕ, leb}
 use Rattle.std.proofs.Common.{subst}
 use Rattle.std.proofs.Math.Bool.{true}
-use Rattle.std.proofs.Math.Option.{Option, none, some}
+use Rattle.std.specs.Prelude.{Option, None, Some}
 use Rattle.characters.specs.Cases.{by_test}
 use Rattle.characters.specs.Skipping.{skip_from}
 use Rattle.book.specs.Book.{Entry, Book, nth_variant}
@@ -28,14 +28,14 @@ use Rattle.semantics.proofs.Theorem.ForwardCalls.{child_gives}
 open_grown : {text : List ℕ} (opening : Option (List Entry)) (scope : Scope) (s t : State) → Tabled text s.cells →
     open_scope opening scope s ≡ ok t → Grown text s.cells t.cells
 unfolding open_scope
-open_grown {text} none scope s t h e = subst (λ (z : State). Grown text s.cells z.cells) (ok_inj e) (grown_refl h)
-open_grown {text} (some names) scope s t h e =
+open_grown {text} None scope s t h e = subst (λ (z : State). Grown text s.cells z.cells) (ok_inj e) (grown_refl h)
+open_grown {text} (Some names) scope s t h e =
     by_test (leb (declared_names (names ∷ scope)) most_declared)
     (λ p. subst (λ (z : State). Grown text s.cells z.cells) (ok_inj (rw p at e)) (grown_refl h))
     (λ p. absurd (met_ok (rw p at e)))
 
 module _ (book : Book) (text : List ℕ) (passing_ok : PassingChild book) (inner : Option Runner)
-    (goods : (f : Runner) → inner ≡ some f → Good book text f) (c : Call) (j : ℕ) (rest : List (Todo ℕ)) where
+    (goods : (f : Runner) → inner ≡ Some f → Good book text f) (c : Call) (j : ℕ) (rest : List (Todo ℕ)) where
   body_gives : (opening : Option (List Entry)) (M item x items : ℕ) (set : List (Parse ℕ)) (s : State) (r : Parsed) →
       Ready text s.cells c set → Wants book text s.cells j rest items → Item text s.cells item →
       ((nth_variant book j).passing ≡ true → ⊥) →
@@ -66,7 +66,7 @@ module _ (book : Book) (text : List ℕ) (passing_ok : PassingChild book) (inner
       (option_cases (character_end text close x)
       (λ unclosed. gives_ok (rw unclosed at next) (gives_set h'))
       (λ y there.
-      body_gives (some names) M a.cell y items set a.state r h'
+      body_gives (Some names) M a.cell y items set a.state r h'
       (wants_still rest items new.grown.prefix l.wants) new.item l.not_passing (rw there at next))))
 
   declares_give : (names : List Entry) (kinds close M x items : ℕ) (set : List (Parse ℕ)) (s : State) (r : Parsed) →
@@ -141,11 +141,11 @@ module _ (book : Book) (text : List ℕ) (passing_ok : PassingChild book) (inner
       Ready text s.cells c set → Wants book text s.cells j rest items →
       ((nth_variant book j).passing ≡ true → ⊥) →
       (make text Cell.absent s
-      >>= (λ m. body_after book text inner none c j M m.cell rest x items set m.state)) ≡ ok r →
+      >>= (λ m. body_after book text inner None c j M m.cell rest x items set m.state)) ≡ ok r →
       Gives text s.cells r
   body_alone_gives M x items set s r h w not_passing e =
       after _ _ e (λ m missing next.
       let new = new_absent s m h.tabled missing in
       gives_from new.grown
-      (body_gives none M m.cell x items set m.state r (ready_still new.grown h)
+      (body_gives None M m.cell x items set m.state r (ready_still new.grown h)
       (wants_still rest items new.grown.prefix w) new.item not_passing next))

@@ -10,7 +10,7 @@ use Rattle.std.specs.Prelude.{◌≡◌, refl, Bool, true, leb, ltb}
 use Rattle.std.proofs.Common.{subst, arith}
 use mathlib.Core.List.Memᴰ
 use mathlib.Core.List.{List, [], ◌∷◌}
-use Rattle.std.proofs.Math.Option.{Option, none, some}
+use Rattle.std.specs.Prelude.{Option, None, Some}
 use Prim.Native.Nat.{ℕ, zero, suc, ◌-◌}
 use Rattle.characters.specs.Cases.{by_test}
 use Rattle.characters.specs.Skipping.{skip_from}
@@ -150,7 +150,7 @@ module _ (book : Book) (text : List ℕ) (passing_ok : PassingChild book) where
     unfolding one_run
     one_run_gives c m s r h e =
         variants_give c m (nth_nonterminal book c.nonterminal).count
-        (nth_nonterminal book c.nonterminal).first [] none s r h e
+        (nth_nonterminal book c.nonterminal).first [] None s r h e
 
     -- the call is run again with this set as its own
     again : {C : List Cell} {a : Parsed} (c : Call) (all : List (Parse ℕ)) → Ready text C c [] → Gives text C a →
@@ -186,7 +186,7 @@ module _ (book : Book) (text : List ℕ) (passing_ok : PassingChild book) where
         (rw t at (rw found at next))))
         (λ t. gives_ok (rw t at (rw found at next)) (record { grown = g.grown; set = g.set }))))
 
-  module _ (inner : Option Runner) (goods : (f : Runner) → inner ≡ some f → Good book text f) where
+  module _ (inner : Option Runner) (goods : (f : Runner) → inner ≡ Some f → Good book text f) where
     opened : {C : List Cell} (P : Path) (S : List (List (Parse ℕ))) (N u : ℕ) → Tabled text C →
         ((i : ℕ) → Held text C (nth S i)) → Ready text C (call P S N u []) []
     opened P S N u h k = record { tabled = h; stored = k; mine = holds_none; set = holds_none }
@@ -277,11 +277,11 @@ module _ (book : Book) (text : List ℕ) (passing_ok : PassingChild book) where
     pub sides_give : (c : Call) (j M x : ℕ) (next : Next) (set : List (Parse ℕ)) (s : State) (a b d : Parsed) →
         GoodNext book text s.cells c next →
         Ready text s.cells c set → Gives text s.cells a →
-        enter_child book text inner none c j M x a.state ≡ ok b →
+        enter_child book text inner None c j M x a.state ≡ ok b →
         followed book text inner next a.set b ≡ ok d →
         Gives text s.cells (chosen c (skip_from text x) a.failure d)
     sides_give c j M x next set s a b d good h g entered e =
         chosen_gives c (skip_from text x) a.failure d
         (gives_from g.grown
-        (child_gives s.cells none c j M x next good a.set a.state b d g.grown.prefix
+        (child_gives s.cells None c j M x next good a.set a.state b d g.grown.prefix
         (ready_after h g) entered e))

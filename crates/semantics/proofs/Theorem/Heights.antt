@@ -1,7 +1,7 @@
 -- Derivations of at most a height, and that every derivation has one. Only a use adds to the height: a child is lower
 -- than the use that has it, and what is left to do of a variant counts as high as its highest child.
 use Rattle.std.specs.Prelude.{◌≡◌, true, false, List, [], ◌∷◌, ◌++◌, ℕ, zero, suc, ◌+◌, ◌<◌, ◌≤◌, leb}
-use Rattle.std.proofs.Math.Option.{some}
+use Rattle.std.specs.Prelude.{Some}
 use Rattle.std.proofs.Common.{arith}
 use Rattle.characters.specs.Skipping.{skip_from}
 use Rattle.book.specs.Book.{Book, nth_nonterminal, nth_variant}
@@ -27,7 +27,7 @@ module _ (book : Book) (text : List ℕ) where
       h_governor : {h P N u p i f Q : _} → governor P N u ≡ same_start i f Q →
           Der h Q f.nonterminal f.start p → keeps f p ≡ true → Der (suc h) P N u p
       h_identifier : {h P N u p m end : _} → governor P N u ≡ minimum m → has_mark book 2 N ≡ true →
-          claimed book text P u ≡ false → free_end book text u ≡ some end →
+          claimed book text P u ≡ false → free_end book text u ≡ Some end →
           p ≡ identifier_parse text u end → Der (suc h) P N u p
 
     pub data DThrough : ℕ → Attempt → List (Todo Trees) → ℕ → Trees → Type 0 where
@@ -58,7 +58,7 @@ module _ (book : Book) (text : List ℕ) where
           Der h (inside book a (skip_from text x)) M (skip_from text x) q → after_element text comma q.rest ≡ halts y →
           DThrough h a (ending (values ▸ q.value) close ∷ rest) y items →
           DThrough h a (elements comma M values close ∷ rest) x items
-      h_ending : {h a values close y rest x items : _} → closed text close x ≡ some y →
+      h_ending : {h a values close y rest x items : _} → closed text close x ≡ Some y →
           DThrough h a rest y (items ▸ list values) → DThrough h a (ending values close ∷ rest) x items
       h_names : {h a s close M y rest x items : _} → takes book text a s x ≡ Taken.names close M y →
           DThrough h a (naming [] no_trees close M ∷ rest) y items → DThrough h a (taking s ∷ rest) x items
@@ -69,14 +69,14 @@ module _ (book : Book) (text : List ℕ) where
           DThrough h a (closing names kinds close M ∷ rest) x items →
           DThrough h a (naming names kinds close M ∷ rest) x items
       h_name : {h a names kinds close M d y rest x items : _} →
-          declaration_at book text (skip_from text x) ≡ some d → after_element text true d.end ≡ goes y →
+          declaration_at book text (skip_from text x) ≡ Some d → after_element text true d.end ≡ goes y →
           DThrough h a (naming (names ++ (d.value ∷ [])) (kinds ▸ number d.value.label) close M ∷ rest) y items →
           DThrough h a (naming names kinds close M ∷ rest) x items
       h_last_name : {h a names kinds close M d y rest x items : _} →
-          declaration_at book text (skip_from text x) ≡ some d → after_element text true d.end ≡ halts y →
+          declaration_at book text (skip_from text x) ≡ Some d → after_element text true d.end ≡ halts y →
           DThrough h a (closing (names ++ (d.value ∷ [])) (kinds ▸ number d.value.label) close M ∷ rest) y items →
           DThrough h a (naming names kinds close M ∷ rest) x items
-      h_opening : {h a names kinds close M q y rest x items : _} → character_end text close x ≡ some y →
+      h_opening : {h a names kinds close M q y rest x items : _} → character_end text close x ≡ Some y →
           Der h (behind names ∷ inside book a (skip_from text y)) M (skip_from text y) q →
           DThrough h a rest q.rest (items ▸ list kinds ▸ q.value) →
           DThrough h a (closing names kinds close M ∷ rest) x items

@@ -5,7 +5,7 @@ use Rattle.std.specs.Prelude.{◌≡◌, true, ℕ, ◌+◌, ◌/◌, ◌%◌, �
 use Rattle.std.proofs.Math.Path.{refl, subst}
 use Rattle.std.proofs.Common.{sym, ◌∙◌, pow_pos}
 use mathlib.Core.List.{List, [], ◌∷◌, map}
-use Rattle.std.proofs.Math.Option.{Option, none, some}
+use Rattle.std.specs.Prelude.{Option, None, Some}
 use Rattle.std.proofs.Math.Nat.{mod-lt}
 use native.Mathlib.Omega.{arith}
 use Rattle.characters.specs.Cases.{by_test, clash}
@@ -169,13 +169,13 @@ module _ (book : Book) (text : List ℕ) (j : ℕ) where
       Tabled text s.cells → Wants book text s.cells j rest items → ((nth_variant book j).passing ≡ true → ⊥) →
       AddsFit text item → with_token book text j items item s ≡ ok m → Onward rest s.cells m
   unfolding with_token
-  with_token_onward rest items none s m tabled h not_passing fits e =
+  with_token_onward rest items None s m tabled h not_passing fits e =
       subst (λ (z : Made). Onward rest s.cells z) (ok_inj e)
       (record {
         grown = grown_refl tabled;
         left = record { values = h.values; plain = h.plain; passing = λ u. absurd (not_passing u) };
       })
-  with_token_onward rest items (some item) s m tabled h not_passing fits e =
+  with_token_onward rest items (Some item) s m tabled h not_passing fits e =
       after _ _ e (λ a read next. both a (new_read s a tabled item fits read) next)
     where
       both : (a : Made) → NewItem text s.cells a →

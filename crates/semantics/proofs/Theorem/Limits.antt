@@ -8,7 +8,7 @@ use Rattle.std.proofs.Math.Path.{refl}
 use Rattle.std.proofs.Common.{sym, subst}
 use Rattle.std.proofs.Math.Bool.{true}
 use mathlib.Core.List.{List, [], ◌∷◌}
-use Rattle.std.proofs.Math.Option.{Option, none, some}
+use Rattle.std.specs.Prelude.{Option, None, Some}
 use Prim.Native.Nat.{ℕ, zero, suc}
 use Rattle.characters.specs.Cases.{by_test}
 use Rattle.characters.specs.Classes.{between}
@@ -60,8 +60,8 @@ LimitedRunner f =
 
 -- the runner one level further in, if there is one
 abbrev LimitedInner : Option Runner → Type 0
-LimitedInner none = Unit {0}
-LimitedInner (some f) = LimitedRunner f
+LimitedInner None = Unit {0}
+LimitedInner (Some f) = LimitedRunner f
 
 abbrev LimitedGo : Go → Type 0
 LimitedGo go = (x items : ℕ) (set : List (Parse ℕ)) (s : State) → Limited (go x items set s)
@@ -95,8 +95,8 @@ make_limited text c s =
 
 open_scope_limited : (opening : Option (List Entry)) (scope : Scope) (s : State) → Limited (open_scope opening scope s)
 unfolding open_scope
-open_scope_limited none scope s = done
-open_scope_limited (some names) scope s =
+open_scope_limited None scope s = done
+open_scope_limited (Some names) scope s =
     by_test (leb (declared_names (names ∷ scope)) most_declared)
     (λ t. rw t done)
     (λ t. rw t (meets too_many_names s.units refl))
@@ -114,8 +114,8 @@ module _ (book : Book) (text : List ℕ) where
 
   with_token_limited : (j items : ℕ) (item : Option Item) (s : State) → Limited (with_token book text j items item s)
   unfolding with_token
-  with_token_limited j items none s = done
-  with_token_limited j items (some item) s =
+  with_token_limited j items None s = done
+  with_token_limited j items (Some item) s =
       then _ _ (make_limited text _ s) (λ m. with_cell_limited j items m.cell m.state)
 
   complete_limited : (j x items : ℕ) (set : List (Parse ℕ)) (s : State) → Limited (complete book text j x items set s)
@@ -139,7 +139,7 @@ module _ (book : Book) (text : List ℕ) where
 
     one_run_limited : (c : Call) (m : ℕ) (s : State) → Limited (one_run book text f c m s)
     unfolding one_run
-    one_run_limited c m s = variants_limited c m _ _ [] none s
+    one_run_limited c m s = variants_limited c m _ _ [] None s
 
     rounds_limited : (n : ℕ) (c : Call) (m : ℕ) (s : State) → Limited (rounds book text n f c m s)
     unfolding rounds
@@ -200,8 +200,8 @@ module _ (book : Book) (text : List ℕ) where
   nested_limited : (inner : Option Runner) → LimitedInner inner → (s : State) (k : Runner → Result Parsed) →
       ((f : Runner) → LimitedRunner f → Limited (k f)) → Limited (nested book text inner s k)
   unfolding nested
-  nested_limited none i s k h = meets 21 s.units refl
-  nested_limited (some f) i s k h = h f i
+  nested_limited None i s k h = meets 21 s.units refl
+  nested_limited (Some f) i s k h = h f i
 
   module _ (inner : Option Runner) (limited : LimitedInner inner) where
     enter_limited : (P : Path) (S : List (List (Parse ℕ))) (N u : ℕ) (s : State) →
@@ -255,7 +255,7 @@ module _ (book : Book) (text : List ℕ) where
         then _ _ (make_limited text Cell.absent s) (λ absent.
         then _ _ (with_cell_limited j items absent.cell absent.state) (λ m.
         then _ _ (h x m.cell set m.state) (λ a.
-        then _ _ (enter_child_limited none c j M x a.state) (λ r.
+        then _ _ (enter_child_limited None c j M x a.state) (λ r.
         then _ _ (followed_limited _ (plain_next_limited c j rest items) a.set r) (λ b. done)))))
 
     choice_limited :
@@ -265,7 +265,7 @@ module _ (book : Book) (text : List ℕ) where
     choice_limited c j comma M values close rest go h x items set s₀ =
         then _ _ (spend_limited s₀) (λ s.
         then _ _ (stops_limited j values close go h x items set s) (λ a.
-        then _ _ (enter_child_limited none c j M x a.state) (λ r.
+        then _ _ (enter_child_limited None c j M x a.state) (λ r.
         then _ _ (followed_limited _ (list_next_limited c j comma M values close rest items) a.set r) (λ b. done))))
 
     listing_limited : (c : Call) (j : ℕ) (comma : Bool) (M : ℕ) (close : Option ℕ) (rest : List (Todo ℕ)) (go : Go) →
@@ -293,7 +293,7 @@ module _ (book : Book) (text : List ℕ) where
             then _ _ (make_limited text _ s) (λ l.
             option_cases (character_end text close x)
             (λ unclosed. rw unclosed done)
-            (λ y ends. rw ends (body_after_limited (some names) M l.cell rest y items set l.state)))
+            (λ y ends. rw ends (body_after_limited (Some names) M l.cell rest y items set l.state)))
 
         declares_limited : LimitedGo (declares book text inner c j names kinds close M rest)
         unfolding declares
@@ -325,18 +325,18 @@ module _ (book : Book) (text : List ℕ) where
         (λ t takes.
         rw takes (then _ _ (with_token_limited j items t.item s) (λ m. h t.next m.cell set m.state)))
         (λ M takes. rw takes
-        (then _ _ (enter_child_limited none c j M x s)
+        (then _ _ (enter_child_limited None c j M x s)
         (λ r. followed_limited _ (plain_next_limited c j rest items) set r)))
         (λ M takes. rw takes (or_absent_limited c j M rest _ h x items set s))
         (λ comma M close y takes. rw takes (listing_limited c j comma M close rest _ h y items set s))
         (λ y takes. rw takes
-        (then _ _ (make_limited text Cell.empty s) (λ e. stops_limited j e.cell none _ h y items set e.state)))
+        (then _ _ (make_limited text Cell.empty s) (λ e. stops_limited j e.cell None _ h y items set e.state)))
         (λ close M y takes. rw takes
         (then _ _ (make_limited text Cell.empty s)
         (λ e. name_choice_limited c j [] e.cell close M rest y items set e.state)))
         (λ M takes. rw takes
         (then _ _ (make_limited text Cell.absent s)
-        (λ a. body_after_limited c j none M a.cell rest x items set a.state))))
+        (λ a. body_after_limited c j None M a.cell rest x items set a.state))))
 
     steps_limited : LimitedRunner (steps book text inner)
     unfolding steps

@@ -7,7 +7,7 @@ use Rattle.std.proofs.Math.Path.{refl, subst}
 use Rattle.std.proofs.Common.{sym, ◌∙◌, ap}
 use mathlib.Core.List.Memᴰ
 use mathlib.Core.List.{List, [], ◌∷◌, ◌++◌, map}
-use Rattle.std.proofs.Math.Option.{Option, none, some}
+use Rattle.std.specs.Prelude.{Option, None, Some}
 use Prim.Native.Nat.{ℕ, zero, suc, ◌-◌}
 use Rattle.characters.specs.Cases.{by_test}
 use Rattle.book.specs.Book.{Book, nth_nonterminal, nth_variant}
@@ -180,7 +180,7 @@ module _ (book : Book) (text : List ℕ) (Cf : List Cell) (table : Table text Cf
     one_run_ok c m s r e b =
         let v =
         variants_ok c m (nth_nonterminal book c.nonterminal).count
-        (nth_nonterminal book c.nonterminal).first [] none s r e b in
+        (nth_nonterminal book c.nonterminal).first [] None s r e b in
         record { back = v.back; run = runs (set_as v.run v.joins) }
 
     rounds_ok : (n : ℕ) (c : Call) (m : ℕ) (s : State) (r : Parsed) → rounds book text n f c m s ≡ ok r →
@@ -249,7 +249,7 @@ module _ (book : Book) (text : List ℕ) (Cf : List Cell) (table : Table text Cf
   module _ (P : Path) (S : List (List (Parse ℕ))) (N u m : ℕ) (gov : governor P N u ≡ minimum m)
       (mark : has_mark book 2 N ≡ true) where
     missing_ok : (s : State) (e : Error) → [] ≡ identifiers book text P u → Before Cf s →
-        EnterOk P S N u s (parsed [] (some e) s)
+        EnterOk P S N u s (parsed [] (Some e) s)
     missing_ok s e is b = record { back = b; run = identifier gov mark is refl }
 
     identifier_ok : (s : State) (r : Parsed) → run_identifier book text (call P S N u []) s ≡ ok r →
@@ -288,7 +288,7 @@ module _ (book : Book) (text : List ℕ) (Cf : List Cell) (table : Table text Cf
   reentry_state inner [] e t = refl
   reentry_state inner (p ∷ ps) e t = refl
 
-  module _ (inner : Option Runner) (goods : (f : Runner) → inner ≡ some f → Good f) where
+  module _ (inner : Option Runner) (goods : (f : Runner) → inner ≡ Some f → Good f) where
     kept_trees : (S : List (List (Parse ℕ))) (i : ℕ) (f : Use) →
         trees text Cf (kept f (get_or S i [])) ≡ sift (keeps f) (nth (map (trees text Cf) S) i)
     kept_trees S i f =

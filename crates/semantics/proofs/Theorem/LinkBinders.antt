@@ -5,7 +5,7 @@ use Rattle.std.proofs.Math.Path.{refl, ap, subst}
 use Rattle.std.proofs.Common.{sym, ◌∙◌}
 use Rattle.std.proofs.Math.Bool.{true}
 use mathlib.Core.List.{List, [], ◌∷◌, ◌++◌, map}
-use Rattle.std.proofs.Math.Option.{Option, none, some}
+use Rattle.std.specs.Prelude.{Option, None, Some}
 use Rattle.characters.specs.Cases.{by_test}
 use Rattle.characters.specs.Skipping.{skip_from}
 use Rattle.book.specs.Book.{Entry, Book}
@@ -34,8 +34,8 @@ use Rattle.semantics.proofs.Theorem.LinkTail.{EachFinds, plain_next_ok, tail_ok}
 open_way : {Cf : List Cell} (opening : Option (List Entry)) (scope : Scope) (s t : State) →
     open_scope opening scope s ≡ ok t → Before Cf t → Way Cf s t
 unfolding open_scope
-open_way {Cf} none scope s t e b = subst (λ z. Before Cf z → Way Cf s z) (ok_inj e) way_refl b
-open_way {Cf} (some names) scope s t e b =
+open_way {Cf} None scope s t e b = subst (λ z. Before Cf z → Way Cf s z) (ok_inj e) way_refl b
+open_way {Cf} (Some names) scope s t e b =
     by_test (leb (declared_names (names ∷ scope)) most_declared)
     (λ p. subst (λ z. Before Cf z → Way Cf s z) (ok_inj (rw p at e)) way_refl b)
     (λ p. absurd (met_ok (rw p at e)))
@@ -64,10 +64,10 @@ module _ (book : Book) (text : List ℕ) (Cf : List Cell) (table : Table text Cf
   -- what the relation finds behind a declared name: there is none, and nothing happened; or what is left behind it
   data NameFinds (c : Call) (j : ℕ) (names : List Entry) (kinds close M : ℕ) (rest : List (Todo ℕ)) (x : ℕ) (ts : Trees)
       (set : List (Parse ℕ)) (s : State) (out : List (Parse ℕ)) (u : State) : Type 0 where
-    no_name : declaration_at book text (skip_from text x) ≡ none → out ≡ set → u.asked ≡ s.asked →
+    no_name : declaration_at book text (skip_from text x) ≡ None → out ≡ set → u.asked ≡ s.asked →
         NameFinds c j names kinds close M rest x ts set s out u
     one_name : (d : Read Entry) (l : Left) (R : List (Parse Tree)) →
-        declaration_at book text (skip_from text x) ≡ some d →
+        declaration_at book text (skip_from text x) ≡ Some d →
         with_name book text (after_element text true d.end) d.value names (trees_for text Cf kinds) close M
         (map (todo_for text Cf) rest) ts ≡ l →
         Steps book text (open_for text Cf c) j l.todo l.place l.items s.asked R u.asked →
@@ -82,7 +82,7 @@ module _ (book : Book) (text : List ℕ) (Cf : List Cell) (table : Table text Cf
   -- a name that is there: its kind joins the chain, and what is left behind it is the same in the relation
   named_ok : (c : Call) (j : ℕ) (names : List Entry) (kinds close M : ℕ) (rest : List (Todo ℕ)) (x items : ℕ)
       (set : List (Parse ℕ)) (s₀ s : State) (r : Parsed) (d : Read Entry) (k m : Made) (todo : Todo ℕ) (a : After)
-      (y : ℕ) → spend s₀ ≡ ok s → declaration_at book text (skip_from text x) ≡ some d →
+      (y : ℕ) → spend s₀ ≡ ok s → declaration_at book text (skip_from text x) ≡ Some d →
       make text (Cell.number 0 d.value.label) s ≡ ok k →
       make text (Cell.chain kinds k.cell) k.state ≡ ok m → after_element text true d.end ≡ a →
       ((ts : Trees) → trees_for text Cf m.cell ≡ trees_for text Cf kinds ▸ Tree.number d.value.label →
@@ -128,7 +128,7 @@ module _ (book : Book) (text : List ℕ) (Cf : List Cell) (table : Table text Cf
     joins = joins_two f.joins joins;
   }
 
-  module _ (inner : Option Runner) (goods : (f : Runner) → inner ≡ some f → Good f) where
+  module _ (inner : Option Runner) (goods : (f : Runner) → inner ≡ Some f → Good f) where
     body_ok : (opening : Option (List Entry)) (c : Call) (j M item : ℕ) (t : Tree) (rest : List (Todo ℕ)) (x items : ℕ)
         (set : List (Parse ℕ)) (s : State) (r : Parsed) →
         body_after book text inner opening c j M item rest x items set s ≡ ok r → Before Cf r.state →
@@ -172,7 +172,7 @@ module _ (book : Book) (text : List ℕ) (Cf : List Cell) (table : Table text Cf
         }) b)
         (λ y there.
         let w =
-        body_ok (some names) c j M l.cell (Tree.list (trees_for text Cf kinds)) rest y items set l.state r
+        body_ok (Some names) c j M l.cell (Tree.list (trees_for text Cf kinds)) rest y items set l.state r
         (rw there at ran) b (λ b'. made_list text Cf table s l kinds made b') in
         let v = make_way text Cf table s l (Cell.list kinds) made w.back in
         record {
@@ -263,12 +263,12 @@ module _ (book : Book) (text : List ℕ) (Cf : List Cell) (table : Table text Cf
     pub body_alone_ok : (c : Call) (j M : ℕ) (step : Step) (rest : List (Todo ℕ)) (x items : ℕ) (set : List (Parse ℕ))
         (s : State) (r : Parsed) → step_at book text (scope_of c.path) step x ≡ Taken.body M →
         (make text Cell.absent s
-        >>= (λ a. body_after book text inner none c j M a.cell rest x items set a.state)) ≡ ok r →
+        >>= (λ a. body_after book text inner None c j M a.cell rest x items set a.state)) ≡ ok r →
         Before Cf r.state → RunOk c j (taking step ∷ rest) x items set s r.set r.state
     body_alone_ok c j M step rest x items set s r takes e b =
         after _ _ e (λ a made ran.
         let w =
-        body_ok none c j M a.cell Tree.absent rest x items set a.state r ran b
+        body_ok None c j M a.cell Tree.absent rest x items set a.state r ran b
         (λ b'. made_absent text Cf table s a made b') in
         let v = make_way text Cf table s a Cell.absent made w.back in
         record {

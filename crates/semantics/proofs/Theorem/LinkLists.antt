@@ -3,7 +3,7 @@
 use Rattle.std.specs.Prelude.{◌≡◌, refl, Bool, ℕ}
 use Rattle.std.proofs.Math.Path.{subst}
 use mathlib.Core.List.{List, [], ◌∷◌, ◌++◌, map}
-use Rattle.std.proofs.Math.Option.{Option, none, some}
+use Rattle.std.specs.Prelude.{Option, None, Some}
 use Rattle.characters.specs.Skipping.{skip_from}
 use Rattle.book.specs.Book.{Book}
 use Rattle.book.specs.declared.records.Step.{Step}
@@ -98,7 +98,7 @@ module _ (book : Book) (text : List ℕ) (Cf : List Cell) (table : Table text Cf
   pub unopened_ok : (c : Call) (j : ℕ) (step : Step) (rest : List (Todo ℕ)) (go : Go) → GoodGo c j rest go →
       (x y items : ℕ) (set : List (Parse ℕ)) (s : State) (r : Parsed) →
       step_at book text (scope_of c.path) step x ≡ Taken.unopened y →
-      (make text Cell.empty s >>= (λ e. stops book text j e.cell none go y items set e.state)) ≡ ok r →
+      (make text Cell.empty s >>= (λ e. stops book text j e.cell None go y items set e.state)) ≡ ok r →
       Before Cf r.state →
       RunOk c j (taking step ∷ rest) x items set s r.set r.state
   unfolding stops closed
@@ -161,7 +161,7 @@ module _ (book : Book) (text : List ℕ) (Cf : List Cell) (table : Table text Cf
     joins = joins_two f.joins g.joins;
   }
 
-  module _ (inner : Option Runner) (goods : (f : Runner) → inner ≡ some f → Good f) where
+  module _ (inner : Option Runner) (goods : (f : Runner) → inner ≡ Some f → Good f) where
     pub choice_ok : (c : Call) (j : ℕ) (comma : Bool) (M values : ℕ) (close : Option ℕ) (rest : List (Todo ℕ))
         (go : Go) → GoodGo c j rest go → (x items : ℕ) (set : List (Parse ℕ))
         (s : State) (r : Parsed) → choice book text inner c j comma M values close rest go x items set s ≡ ok r →
@@ -174,7 +174,7 @@ module _ (book : Book) (text : List ℕ) (Cf : List Cell) (table : Table text Cf
         RunOk c j (elements comma M values close ∷ rest) x items set s₀ z.set z.state) (ok_inj is)
         (chosen_same c (skip_from text x) a.failure l
         (λ out t. Before Cf t → RunOk c j (elements comma M values close ∷ rest) x items set s₀ out t)
-        (λ b'. let t = tail_ok book text Cf table inner goods none c j M x items _ _
+        (λ b'. let t = tail_ok book text Cf table inner goods None c j M x items _ _
         (list_next_ok book text Cf table c j comma M values close rest items) a.set
         a.state d l entered went b' in
         let w = stops_ok c j values close rest go good x items set s a stopped t.back in
@@ -210,7 +210,7 @@ module _ (book : Book) (text : List ℕ) (Cf : List Cell) (table : Table text Cf
         (chosen_same c (skip_from text x) a.failure l
         (λ out t. Before Cf t → RunOk c j (taking step ∷ rest) x items set s out t)
         (λ b'.
-        let t = tail_ok book text Cf table inner goods none c j M x items _ _
+        let t = tail_ok book text Cf table inner goods None c j M x items _ _
         (plain_next_ok book text Cf table c j rest items) a.set a.state d l entered went b' in
         let w =
         with_item_ok c j rest go good x items absent.cell Tree.absent set absent.state m a with_it went_first

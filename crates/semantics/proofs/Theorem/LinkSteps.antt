@@ -4,7 +4,7 @@ use Rattle.std.specs.Prelude.{◌≡◌, refl}
 use Rattle.std.proofs.Common.{sym, ◌∙◌}
 use Rattle.std.proofs.Math.Path.{ap, subst}
 use mathlib.Core.List.{List, [], ◌∷◌}
-use Rattle.std.proofs.Math.Option.{Option, none, some}
+use Rattle.std.specs.Prelude.{Option, None, Some}
 use Prim.Native.Nat.{ℕ, zero, suc}
 use Rattle.characters.specs.Cases.{by_test}
 use Rattle.characters.specs.Classes.{between}
@@ -116,7 +116,7 @@ module _ (book : Book) (text : List ℕ) (Cf : List Cell) (table : Table text Cf
       let v = w o.back in
       record { back = v.back; finds = λ ts h. finds_from book text Cf table v (o.finds ts h) }
 
-  module _ (inner : Option Runner) (goods : (f : Runner) → inner ≡ some f → Good f) where
+  module _ (inner : Option Runner) (goods : (f : Runner) → inner ≡ Some f → Good f) where
     unit_way : (step : Step) (s t : State) → step_unit book text inner step s ≡ ok t → Before Cf t → Way Cf s t
     unfolding step_unit
     unit_way step s t e b =
@@ -126,12 +126,12 @@ module _ (book : Book) (text : List ℕ) (Cf : List Cell) (table : Table text Cf
 
     child_ok : (c : Call) (j M : ℕ) (step : Step) (rest : List (Todo ℕ)) (x items : ℕ) (set : List (Parse ℕ))
         (s : State) (r : Parsed) → step_at book text (scope_of c.path) step x ≡ Taken.child M →
-        (enter_child book text inner none c j M x s
+        (enter_child book text inner None c j M x s
         >>= (λ d. followed book text inner (plain_next book text c j rest items) set d)) ≡ ok r → Before Cf r.state →
         RunOk c j (taking step ∷ rest) x items set s r.set r.state
     child_ok c j M step rest x items set s r takes e b =
         after _ _ e (λ d entered went.
-        let t = tail_ok book text Cf table inner goods none c j M x items _ _
+        let t = tail_ok book text Cf table inner goods None c j M x items _ _
         (plain_next_ok book text Cf table c j rest items) set s d r entered went b in
         record {
           back = t.back;
@@ -175,7 +175,7 @@ module _ (book : Book) (text : List ℕ) (Cf : List Cell) (table : Table text Cf
         (rw takes at ran) b)))
 
   -- ---- The whole run
-  runner_ok : (n : ℕ) (f : Runner) → runner book text n ≡ some f → Good f
+  runner_ok : (n : ℕ) (f : Runner) → runner book text n ≡ Some f → Good f
   unfolding runner
   runner_ok zero f e = absurd (none_some e)
   runner_ok (suc n) f e = subst Good (some_inj e) (steps_ok (runner book text n) (runner_ok n))

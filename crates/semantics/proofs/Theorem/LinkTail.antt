@@ -5,7 +5,7 @@ use Rattle.std.specs.Prelude.{◌≡◌, Bool, ℕ}
 use Rattle.std.proofs.Math.Path.{refl, ap, subst}
 use Rattle.std.proofs.Common.{sym, ◌∙◌}
 use mathlib.Core.List.{List, [], ◌∷◌, ◌++◌, map}
-use Rattle.std.proofs.Math.Option.{Option, some}
+use Rattle.std.specs.Prelude.{Option, Some}
 use Rattle.characters.specs.Skipping.{skip_from}
 use Rattle.book.specs.Book.{Entry, Book}
 use Rattle.semantics.specs.Values.{Tree, Trees, ◌▸◌, Parse}
@@ -173,7 +173,7 @@ module _ (book : Book) (text : List ℕ) (Cf : List Cell) (table : Table text Cf
       (sym chain)) (good c j (ending m.cell close ∷ rest) y items set m.state r (rw there at ran) b)))
 
   -- ---- All the parses
-  module _ (inner : Option Runner) (goods : (f : Runner) → inner ≡ some f → Good f) where
+  module _ (inner : Option Runner) (goods : (f : Runner) → inner ≡ Some f → Good f) where
     first_ok : (c : Call) (j items : ℕ) (k : Trees → Follows) (next : Next) → GoodNext c j items k next →
         (q : Parse ℕ) (qs set : List (Parse ℕ)) (s : State) (a r : Parsed) →
         nested book text inner s (λ f. next q s f set) ≡ ok a →
@@ -209,7 +209,7 @@ module _ (book : Book) (text : List ℕ) (Cf : List Cell) (table : Table text Cf
         (follow_more_ok c j items k next good qs a.set a.failure a.state r others b))
 
     followed_ok : (c : Call) (j items : ℕ) (k : Trees → Follows) (next : Next) → GoodNext c j items k next →
-        (set : List (Parse ℕ)) (a r : Parsed) → ((e : Error) → a.failure ≡ some e → a.set ≡ []) →
+        (set : List (Parse ℕ)) (a r : Parsed) → ((e : Error) → a.failure ≡ Some e → a.set ≡ []) →
         followed book text inner next set a ≡ ok r → Before Cf r.state →
         EachOk c j items k a.set set a.state r.set r.state
     unfolding followed

@@ -9,7 +9,7 @@ use Rattle.std.proofs.Math.Path.{refl}
 use Rattle.std.proofs.Common.{sym, ◌∙◌, ap, subst, arith}
 use Rattle.std.proofs.Math.Bool.{true}
 use mathlib.Core.List.{List, [], ◌∷◌}
-use Rattle.std.proofs.Math.Option.{Option, none, some}
+use Rattle.std.specs.Prelude.{Option, None, Some}
 use Rattle.std.proofs.Math.Dec.{ltb}
 use borrow.Author.Tests.{ltb-true, lt-ltb, le-ltb, ne_eqb}
 use Rattle.characters.specs.Cases.{by_test}
@@ -172,8 +172,8 @@ module _ (d : ℕ) where
         at_end cells parses text (allowance + d) (ok (parsed set e (with_more s)))
         ≡ at_end cells parses text allowance (ok (parsed set e s))
     unfolding at_end
-    result_same allowance set none s = by_values_same (whole_values text set) _ _ set none s (omega arith)
-    result_same allowance set (some e) s = cleared_same _ _ _ _ _ _ (omega arith)
+    result_same allowance set None s = by_values_same (whole_values text set) _ _ set None s (omega arith)
+    result_same allowance set (Some e) s = cleared_same _ _ _ _ _ _ (omega arith)
 
     at_end_longer : (allowance : ℕ) (m₁ m₂ : Result Parsed) → Longer of_set m₁ m₂ →
         ((at_end cells parses text allowance m₁).answer.refusal ≡ no_unit → ⊥) →

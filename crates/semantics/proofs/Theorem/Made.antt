@@ -3,7 +3,7 @@
 use Rattle.std.specs.Prelude.{◌≡◌, true, false, List, ℕ, ◌/◌, ◌%◌, ◌^◌}
 use Rattle.std.proofs.Math.Path.{refl, ap, subst}
 use Rattle.std.proofs.Common.{◌∙◌, arith}
-use Rattle.std.proofs.Math.Option.{Option, none, some}
+use Rattle.std.specs.Prelude.{Option, None, Some}
 use Rattle.std.proofs.Math.Pow.{split}
 use Rattle.characters.specs.Cases.{by_test, clash}
 use Rattle.characters.specs.Spelling.{part_of}
@@ -140,10 +140,10 @@ module _ (text : List ℕ) (Cf : List Cell) (table : Table text Cf) where
         with_token book text j items item s ≡ ok m → Before Cf m.state →
         WithOk items (λ ts. with_item text ts item) s m
     unfolding with_token with_item
-    with_token_ok items none s m e b =
+    with_token_ok items None s m e b =
         subst (λ (z : Made). Before Cf z.state → WithOk items (λ ts. ts) s z) (ok_inj e)
         (λ b'. record { way = way_refl b'; stands = λ ts h. h }) b
-    with_token_ok items (some item) s m e b =
+    with_token_ok items (Some item) s m e b =
         let g = got _ _ e in
         let w = with_cell_ok items g.val.cell (tree_for text Cf g.val.cell) g.val.state m g.next b refl in
         let v = made_item s g.val item g.ran w.way.back in

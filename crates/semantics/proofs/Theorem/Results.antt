@@ -1,7 +1,7 @@
 -- Results of the run, taken apart: what holds where something ends with a result and not with a limit.
 use Rattle.std.specs.Prelude.{◌≡◌, refl, Bool, true, false, List, [], ◌∷◌, ◌⊎◌, ℕ}
 use Rattle.std.proofs.Common.{inl, inr, arith}
-use Rattle.std.proofs.Math.Option.{Option, none, some}
+use Rattle.std.specs.Prelude.{Option, None, Some}
 use Rattle.semantics.specs.Uses.{Use, Path, Governor, minimum, same_start}
 use Rattle.semantics.specs.Tokens.{when}
 use Rattle.semantics.specs.Steps.{Token, Taken, After, goes, halts}
@@ -17,10 +17,10 @@ met_ok e = let z : ◌≡◌ {A = ℕ} 0 1 = cc in omega arith
 pub ok_inj : {A : Type 0} {a b : A} → ok a ≡ ok b → a ≡ b
 ok_inj e = cc
 
-pub some_inj : {A : Type 0} {a b : A} → some a ≡ some b → a ≡ b
+pub some_inj : {A : Type 0} {a b : A} → Some a ≡ Some b → a ≡ b
 some_inj e = cc
 
-pub none_some : {A : Type 0} {a : A} → none ≡ some a → ⊥
+pub none_some : {A : Type 0} {a : A} → None ≡ Some a → ⊥
 none_some e = let z : ◌≡◌ {A = ℕ} 0 1 = cc in omega arith
 
 -- two parts one after the other have a result: so has the first, and from it the second
@@ -46,9 +46,9 @@ split true f g e = inl (refl, e)
 split false f g e = inr (refl, e)
 
 -- ---- Cases, each with its equation
-pub option_cases : {A X : Type 0} (o : Option A) → (o ≡ none → X) → ((a : A) → o ≡ some a → X) → X
-option_cases none f g = f refl
-option_cases (some a) f g = g a refl
+pub option_cases : {A X : Type 0} (o : Option A) → (o ≡ None → X) → ((a : A) → o ≡ Some a → X) → X
+option_cases None f g = f refl
+option_cases (Some a) f g = g a refl
 
 pub list_cases : {A X : Type 0} (l : List A) → (l ≡ [] → X) → ((a : A) (l' : List A) → l ≡ a ∷ l' → X) → X
 list_cases [] f g = f refl
@@ -81,15 +81,15 @@ taken_cases (Taken.body M) n t c o l u m b = b M refl
 -- what is nested ran one level further in
 pub nested_run : {X : Type 0} (book : Book) (text : List ℕ) (inner : Option Runner) (s : State)
     (k : Runner → Result Parsed) {r : Parsed} →
-    nested book text inner s k ≡ ok r → ((f : Runner) → inner ≡ some f → k f ≡ ok r → X) → X
+    nested book text inner s k ≡ ok r → ((f : Runner) → inner ≡ Some f → k f ≡ ok r → X) → X
 unfolding nested
-nested_run book text none s k e h = absurd (met_ok e)
-nested_run book text (some f) s k e h = h f refl e
+nested_run book text None s k e h = absurd (met_ok e)
+nested_run book text (Some f) s k e h = h f refl e
 
 -- the other side of a choice changes no set and no state
 pub chosen_same : (c : Call) (at : ℕ) (a : Option Error) (b : Parsed)
     (F : List (Parse ℕ) → State → Type 0) → F b.set b.state → F (chosen c at a b).set (chosen c at a b).state
 unfolding chosen
-chosen_same c at none b F f = f
-chosen_same c at (some e) b F f =
+chosen_same c at None b F f = f
+chosen_same c at (Some e) b F f =
     option_cases b.failure (λ n. rw n f) (λ d n. rw n f)

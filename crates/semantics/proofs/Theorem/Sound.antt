@@ -4,7 +4,7 @@
 use Rattle.std.specs.Prelude.{◌≡◌, refl, Bool, true, false, cond, ◌&&◌, List, [], ◌∷◌, ℕ, zero, suc, ◌+◌, ◌<◌, leb, eqb}
 use Rattle.std.proofs.Common.{sym, subst, arith}
 use mathlib.Core.List.Memᴰ
-use Rattle.std.proofs.Math.Option.{Option, none, some}
+use Rattle.std.specs.Prelude.{Option, None, Some}
 use Rattle.characters.specs.Skipping.{skip_from}
 use Rattle.book.specs.Book.{Entry, Book, nth_nonterminal, nth_variant}
 use Rattle.semantics.specs.Values.{Tree, Trees, no_trees, Parse}
@@ -121,8 +121,8 @@ module _ (book : Book) (text : List ℕ) where
       (b : Bool) → claimed book text P u ≡ b →
       (end : Option ℕ) → free_end book text u ≡ end → p ∈ cond b [] (named book text end u) → Derives book text P N u p
   by_named g k true c end e m = absurd (Memᴰ.not-nil m)
-  by_named g k false c none e m = absurd (Memᴰ.not-nil m)
-  by_named g k false c (some end) e m = by_identifier g k c e (Memᴰ.eq_of_singleton m)
+  by_named g k false c None e m = absurd (Memᴰ.not-nil m)
+  by_named g k false c (Some end) e m = by_identifier g k c e (Memᴰ.eq_of_singleton m)
 
   -- ---- What follows a child
   -- what is left to do has a parse
@@ -150,7 +150,7 @@ module _ (book : Book) (text : List ℕ) where
 
   after_name_lem : {P : Path} {N u j x : ℕ} {d : Read Entry} {names : List Entry} {kinds : Trees} {close M : ℕ}
       {p : Parse Tree} {rest : List (Todo Trees)} {items : Trees} →
-      declaration_at book text (skip_from text x) ≡ some d → (z : After) → after_element text true d.end ≡ z →
+      declaration_at book text (skip_from text x) ≡ Some d → (z : After) → after_element text true d.end ≡ z →
       ThroughLeft P N u j (with_name book text z d.value names kinds close M rest items) p →
       Through book text (attempt P N u j p) (naming names kinds close M ∷ rest) x items
   after_name_lem e (goes y) g t = by_name e g t

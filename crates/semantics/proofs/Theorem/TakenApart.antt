@@ -2,7 +2,7 @@
 -- step takes or where a closing ends. Complete takes runs apart with these along a derivation.
 use Rattle.std.specs.Prelude.{◌≡◌, Bool, true, List, [], ◌∷◌, ℕ}
 use Rattle.std.proofs.Common.{sym, subst}
-use Rattle.std.proofs.Math.Option.{Option, none, some}
+use Rattle.std.specs.Prelude.{Option, None, Some}
 use Rattle.characters.specs.Skipping.{skip_from}
 use Rattle.book.specs.Book.{Entry, Book}
 use Rattle.book.specs.declared.records.Step.{Step}
@@ -37,28 +37,28 @@ module _ (book : Book) (text : List ℕ) where
     pub R₁ : List (Parse Tree)
     pub R₂ : List (Parse Tree)
     pub without : Steps book text o j todo x items B R₁ B₁
-    pub with' : Child none o j c M x B₁ R₂ B'
+    pub with' : Child None o j c M x B₁ R₂ B'
     pub joins : Joins R₁ R₂ R
 
   -- the run of a step, by what the step takes
   abbrev pub Ran : Open → ℕ → List (Todo Trees) → ℕ → Trees → List Bool → List (Parse Tree) → List Bool → Taken → Type 0
   Ran o j rest x items B R B' (Taken.token t) =
       Steps book text o j rest t.next (with_item text items t.item) B R B'
-  Ran o j rest x items B R B' (Taken.child M) = Child none o j (plain rest items) M x B R B'
+  Ran o j rest x items B R B' (Taken.child M) = Child None o j (plain rest items) M x B R B'
   Ran o j rest x items B R B' (Taken.optional M) = Choice o j rest (items ▸ absent) (plain rest items) M x B R B'
   Ran o j rest x items B R B' (Taken.list comma M close y) =
       Steps book text o j (elements comma M no_trees close ∷ rest) y items B R B'
   Ran o j rest x items B R B' (Taken.unopened y) = Steps book text o j rest y (items ▸ list no_trees) B R B'
   Ran o j rest x items B R B' (Taken.names close M y) =
       Steps book text o j (naming [] no_trees close M ∷ rest) y items B R B'
-  Ran o j rest x items B R B' (Taken.body M) = Child none o j (plain rest (items ▸ absent)) M x B R B'
+  Ran o j rest x items B R B' (Taken.body M) = Child None o j (plain rest (items ▸ absent)) M x B R B'
   Ran o j rest x items B R B' Taken.nothing = Unit {0}
 
   -- the run of a list's end, by where its closing ends
   abbrev pub Closed : Open → ℕ → List (Todo Trees) → Trees → Trees → List Bool → List (Parse Tree) →
       List Bool → Option ℕ → Type 0
-  Closed o j rest values items B R B' none = Unit {0}
-  Closed o j rest values items B R B' (some y) = Steps book text o j rest y (items ▸ list values) B R B'
+  Closed o j rest values items B R B' None = Unit {0}
+  Closed o j rest values items B R B' (Some y) = Steps book text o j rest y (items ▸ list values) B R B'
 
   pub inv_done : {o : Open} {j x : ℕ} {items : Trees} {B : List Bool} {R : List (Parse Tree)} {B' : List Bool} →
       Steps book text o j [] x items B R B' → R ≡ parse_of book j x items ∷ []
@@ -131,9 +131,9 @@ module _ (book : Book) (text : List ℕ) where
 
   abbrev pub Named : Open → ℕ → List Entry → Trees → ℕ → ℕ → List (Todo Trees) → ℕ → Trees → List Bool →
       List (Parse Tree) → List Bool → Option (Read Entry) → Type 0
-  Named o j names kinds close M rest x items B R B' none =
+  Named o j names kinds close M rest x items B R B' None =
       Steps book text o j (closing names kinds close M ∷ rest) x items B R B'
-  Named o j names kinds close M rest x items B R B' (some d) = Naming o j names kinds close M rest x items B R B' d
+  Named o j names kinds close M rest x items B R B' (Some d) = Naming o j names kinds close M rest x items B R B' d
 
   pub inv_naming : {o : Open} {j : ℕ} {names : List Entry} {kinds : Trees} {close M : ℕ} {rest : List (Todo Trees)}
       {x : ℕ} {items : Trees} {B : List Bool} {R : List (Parse Tree)} {B' : List Bool} →
@@ -149,9 +149,9 @@ module _ (book : Book) (text : List ℕ) where
   -- the run of a binder's body, by where its closing ends
   abbrev pub Opened : Open → ℕ → List Entry → Trees → ℕ → List (Todo Trees) → Trees → List Bool → List (Parse Tree) →
       List Bool → Option ℕ → Type 0
-  Opened o j names kinds M rest items B R B' none = Unit {0}
-  Opened o j names kinds M rest items B R B' (some y) =
-      Child (some names) o j (plain rest (items ▸ list kinds)) M y B R B'
+  Opened o j names kinds M rest items B R B' None = Unit {0}
+  Opened o j names kinds M rest items B R B' (Some y) =
+      Child (Some names) o j (plain rest (items ▸ list kinds)) M y B R B'
 
   pub inv_closing : {o : Open} {j : ℕ} {names : List Entry} {kinds : Trees} {close M : ℕ} {rest : List (Todo Trees)}
       {x : ℕ} {items : Trees} {B : List Bool} {R : List (Parse Tree)} {B' : List Bool} →
@@ -172,7 +172,7 @@ module _ (book : Book) (text : List ℕ) where
   ran {o} {j} {s} {rest} {x} {items} {B} {R} {B'} e r = subst (Ran o j rest x items B R B') e (inv_take r)
 
   pub ended : {o : Open} {j : ℕ} {values : Trees} {close : Option ℕ} {rest : List (Todo Trees)} {x y : ℕ}
-      {items : Trees} {B : List Bool} {R : List (Parse Tree)} {B' : List Bool} → closed text close x ≡ some y →
+      {items : Trees} {B : List Bool} {R : List (Parse Tree)} {B' : List Bool} → closed text close x ≡ Some y →
       Steps book text o j (ending values close ∷ rest) x items B R B' →
       Steps book text o j rest y (items ▸ list values) B R B'
   ended {o} {j} {values} {close} {rest} {items = items} {B = B} {R = R} {B' = B'} e r =

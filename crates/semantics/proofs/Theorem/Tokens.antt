@@ -3,7 +3,7 @@
 use Rattle.std.specs.Prelude.{◌≡◌, List, [], ◌∷◌, ℕ, suc, ◌+◌, ◌^◌, ◌≤◌, ◌<◌, eqb}
 use Rattle.std.proofs.Math.Path.{refl, ap}
 use Rattle.std.proofs.Common.{◌∙◌, subst, length-take}
-use Rattle.std.proofs.Math.Option.{Option, none, some}
+use Rattle.std.specs.Prelude.{Option, None, Some}
 use native.Mathlib.Omega.{arith}
 use Rattle.std.proofs.Math.ListN.{length, take}
 use Rattle.characters.specs.Cases.{by_test}
@@ -11,12 +11,10 @@ use Rattle.characters.specs.Skipping.{skip_from}
 use Rattle.characters.specs.Spelling.{same}
 use Rattle.characters.specs.Lexemes.{identifier_at, number_at}
 use Rattle.characters.proofs.LexemeLaws.{identifier_bounds, number_bounds}
-use Rattle.characters.specs.declared.lexemes.Identifier.{Identifier}
 use Rattle.characters.specs.declared.lexemes.Number.{Number}
 use Rattle.book.specs.Book.{Entry, Book, nth_entry, lookup_name, least_word, kind_word}
 use Rattle.book.specs.Numbers.{kinds}
-use Rattle.book.specs.declared.names.Found.{Found}
-use Rattle.book.specs.declared.names.KindWord.{KindWord}
+use Rattle.book.specs.declared.names.StartingName.{StartingName}
 use Rattle.book.specs.declared.records.Step.{Step}
 use Rattle.semantics.specs.Uses.{Scope}
 use Rattle.semantics.specs.Tokens.{Item, Variable, Read, character_end, identifier_end, spelled, reserved_at}
@@ -25,18 +23,18 @@ use Rattle.semantics.specs.Steps.{Token, Taken, step_at}
 use Rattle.semantics.proofs.Theorem.Results.{none_some, some_inj, option_cases}
 
 -- ---- Identifiers
-identifier_told : (text : List ℕ) (at end : ℕ) (i : Identifier) → identifier_at text at ≡ i →
-    identifier_end text at ≡ some end → (at < end) × (end ≤ length text)
+identifier_told : (text : List ℕ) (at end : ℕ) (i : Option ℕ) → identifier_at text at ≡ i →
+    identifier_end text at ≡ Some end → (at < end) × (end ≤ length text)
 unfolding identifier_end
-identifier_told text at end (Identifier.Ends y) e q =
-    identifier_bounds text at end (e ∙ ap Identifier.Ends (some_inj (rw (e, identifier_end) at q)))
-identifier_told text at end Identifier.Nothing e q = absurd (none_some (rw (e, identifier_end) at q))
+identifier_told text at end (Some y) e q =
+    identifier_bounds text at end (e ∙ ap Some (some_inj (rw (e, identifier_end) at q)))
+identifier_told text at end None e q = absurd (none_some (rw (e, identifier_end) at q))
 
-pub identifier_within : (text : List ℕ) (at end : ℕ) → identifier_end text at ≡ some end →
+pub identifier_within : (text : List ℕ) (at end : ℕ) → identifier_end text at ≡ Some end →
     (at < end) × (end ≤ length text)
 identifier_within text at end q = identifier_told text at end (identifier_at text at) refl q
 
-pub free_end_within : (book : Book) (text : List ℕ) (at end : ℕ) → free_end book text at ≡ some end →
+pub free_end_within : (book : Book) (text : List ℕ) (at end : ℕ) → free_end book text at ≡ Some end →
     (at < end) × (end ≤ length text)
 unfolding free_end
 free_end_within book text at end q =
@@ -45,15 +43,15 @@ free_end_within book text at end q =
     (λ t. identifier_within text at end (rw (t, free_end) at q))
 
 -- ---- Declared names
-nothing_kind : {kind : ℕ} → KindWord.Nothing ≡ KindWord.Kind kind → ⊥
+nothing_kind : {kind : ℕ} → None ≡ Some kind → ⊥
 nothing_kind e = let z : ◌≡◌ {A = ℕ} 0 1 = cc in omega arith
 
-kind_inj : {i kind : ℕ} → KindWord.Kind i ≡ KindWord.Kind kind → i ≡ kind
+kind_inj : {i kind : ℕ} → Some i ≡ Some kind → i ≡ kind
 kind_inj e = cc
 
 -- the number of a word is one of those looked at
 least_below : (i : ℕ) (words : List Entry) (spelling : List ℕ) (kind : ℕ) →
-    least_word i words spelling ≡ KindWord.Kind kind → kind < i + length words
+    least_word i words spelling ≡ Some kind → kind < i + length words
 unfolding least_word
 least_below i [] spelling kind e = absurd (nothing_kind e)
 least_below i (w ∷ words) spelling kind e =
@@ -62,27 +60,27 @@ least_below i (w ∷ words) spelling kind e =
     (λ t. let k = least_below (suc i) words spelling kind (rw (t, least_word) at e) in omega arith)
 
 module _ (book : Book) (text : List ℕ) where
-  kind_below : (at : ℕ) (k : Read ℕ) → kind_at book text at ≡ some k → k.value < kinds
+  kind_below : (at : ℕ) (k : Read ℕ) → kind_at book text at ≡ Some k → k.value < kinds
   unfolding kind_at
   kind_below at k q =
       option_cases (identifier_end text at)
       (λ e. absurd (none_some (rw (e, kind_at) at q)))
       (λ end e. by end (kind_word book.words (spelled text at end)) refl (rw (e, kind_at) at q))
     where
-      by : (end : ℕ) (w : KindWord) → kind_word book.words (spelled text at end) ≡ w →
+      by : (end : ℕ) (w : Option ℕ) → kind_word book.words (spelled text at end) ≡ w →
           elim w [
-            | KindWord.Kind kind ↦ some (record { end = end; value = kind })
-            | KindWord.Nothing ↦ none
-          ] ≡ some k → k.value < kinds
-      by end (KindWord.Kind kind) there is =
+            | Some kind ↦ Some (record { end = end; value = kind })
+            | None ↦ None
+          ] ≡ Some k → k.value < kinds
+      by end (Some kind) there is =
           let words = take kinds book.words in
           let few : length words ≤ kinds = rw (length-take kinds book.words) (omega arith) in
           let same : kind ≡ k.value = ap (λ (z : Read ℕ). z.value) (some_inj is) in
           let below = least_below 0 words (spelled text at end) kind there in omega arith
-      by end KindWord.Nothing there is = absurd (none_some is)
+      by end None there is = absurd (none_some is)
 
   -- the kind of a declared name is the number of one of the words for kinds
-  pub declared_kind : (at : ℕ) (d : Read Entry) → declaration_at book text at ≡ some d → d.value.label < kinds
+  pub declared_kind : (at : ℕ) (d : Read Entry) → declaration_at book text at ≡ Some d → d.value.label < kinds
   unfolding declaration_at name_of_kind
   declared_kind at d q =
       option_cases (kind_at book text at)
@@ -104,8 +102,8 @@ ReadFits text (Item.variable i kind) = Unit {0}
 ReadFits text (Item.declared depth index) = Unit {0}
 
 abbrev pub AddsFit : List ℕ → Option Item → Type 0
-AddsFit text none = Unit {0}
-AddsFit text (some item) = ReadFits text item
+AddsFit text None = Unit {0}
+AddsFit text (Some item) = ReadFits text item
 
 abbrev TakenFits : List ℕ → Taken → Type 0
 TakenFits text (Taken.token t) = AddsFit text t.item
@@ -119,31 +117,31 @@ TakenFits text Taken.nothing = Unit {0}
 
 -- a variable fits: it is a starting name or a declared one
 variable_in_fits : (text : List ℕ) (names : List Entry) (d : ℕ) (scope : Scope) (spelling : List ℕ) (v : Variable) →
-    variable_in names d scope spelling ≡ some v → ReadFits text v.item
+    variable_in names d scope spelling ≡ Some v → ReadFits text v.item
 unfolding variable_in
 variable_in_fits text names d [] spelling v e = by (lookup_name names spelling) e
   where
-    by : (f : Found) →
+    by : (f : Option StartingName) →
         elim f [
-          | Found.Name i kind ↦ some (record { kind = kind; item = Item.variable i kind })
-          | Found.Nothing ↦ none
-        ] ≡ some v → ReadFits text v.item
-    by (Found.Name i kind) e = subst (λ (w : Variable). ReadFits text w.item) (some_inj e) tt
-    by Found.Nothing e = absurd (none_some e)
+          | Some n ↦ Some (record { kind = n.kind; item = Item.variable n.number n.kind })
+          | None ↦ None
+        ] ≡ Some v → ReadFits text v.item
+    by (Some n) e = subst (λ (w : Variable). ReadFits text w.item) (some_inj e) tt
+    by None e = absurd (none_some e)
 variable_in_fits text names d (binder ∷ scope) spelling v e =
     by (lookup_name binder spelling) e (λ outer. variable_in_fits text names (suc d) scope spelling v outer)
   where
-    by : (f : Found) →
+    by : (f : Option StartingName) →
         elim f [
-          | Found.Name i kind ↦ some (record { kind = kind; item = Item.declared d i })
-          | Found.Nothing ↦ variable_in names (suc d) scope spelling
-        ] ≡ some v → (variable_in names (suc d) scope spelling ≡ some v → ReadFits text v.item) →
+          | Some n ↦ Some (record { kind = n.kind; item = Item.declared d n.number })
+          | None ↦ variable_in names (suc d) scope spelling
+        ] ≡ Some v → (variable_in names (suc d) scope spelling ≡ Some v → ReadFits text v.item) →
         ReadFits text v.item
-    by (Found.Name i kind) e outer = subst (λ (w : Variable). ReadFits text w.item) (some_inj e) tt
-    by Found.Nothing e outer = outer e
+    by (Some n) e outer = subst (λ (w : Variable). ReadFits text w.item) (some_inj e) tt
+    by None e outer = outer e
 
 variable_fits : (book : Book) (text : List ℕ) (scope : Scope) (at : ℕ) (v : Read Variable) →
-    variable_at book text scope at ≡ some v → ReadFits text v.value.item
+    variable_at book text scope at ≡ Some v → ReadFits text v.value.item
 unfolding variable_at
 variable_fits book text scope at v q =
     option_cases (identifier_end text at)

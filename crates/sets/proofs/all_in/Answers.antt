@@ -1,47 +1,24 @@
--- `sets::all_in` meets its contract. The invariant: all are in the set just where all that are left are.
-use Rattle.std.proofs.Common.{arith, sym, ◌∙◌}
-use Rattle.sets.specs.PlaceLaws.{set_list, size_le}
+-- `sets::all_in` meets its contract.
+use Rattle.std.proofs.Common.{ap, arith, sym, ◌∙◌}
+use Rattle.semantics.specs.Run.{all_in}
+use Rattle.sets.specs.Sets.{set_at}
+use Rattle.sets.specs.PlaceLaws.{list_whole}
 use Rattle.sets.specs.SetLaws.{all_on, all_not, all_end}
 use Rattle.sets.proofs.all_in.Goals as goal
 
-pub overflow_add-at : goal.overflow_add-at
-overflow_add-at c = omega arith
-
-pub size-left-requires : goal.size-left-requires
-size-left-requires c = omega arith
-
-pub loop-left-init : goal.loop-left-init
-loop-left-init c = (
-  omega (arith, size_le c.args.numbers.now c.args.from _ c.size-left.ensures),
-  rw (set_list _ _ _ c.size-left.ensures),
-)
-
-pub parse_at-requires : goal.parse_at-requires
-parse_at-requires c = omega arith
-
-pub has-requires : goal.has-requires
-has-requires c = omega arith
+pub loop-i-init : goal.loop-i-init
+loop-i-init c =
+    ap (all_in (set_at c.args.numbers.now c.args.into))
+    (list_whole _ _ _ _ _ c.size-i-end.ensures (omega arith) (omega arith))
 
 pub returns-then-not-has : goal.returns-then-not-has
-returns-then-not-has c = sym
-    (all_not _ _ _ _ _ c.parse_at.ensures c.has.ensures _ c.loop-left-test.true (c.if-not-has.true))
-    ∙ c.loop-left.invariant.1
+returns-then-not-has c =
+    sym (all_not _ _ _ _ _ c.item.ensures c.has.ensures _ (omega arith) c.if-not-has.true) ∙ c.loop-i.invariant
 
-pub overflow_add-at-in-loop-left : goal.overflow_add-at-in-loop-left
-overflow_add-at-in-loop-left c = omega arith
-
-pub overflow_sub-left : goal.overflow_sub-left
-overflow_sub-left c = omega arith
-
-pub loop-left-smaller : goal.loop-left-smaller
-loop-left-smaller c = omega arith
-
-pub loop-left-preserved : goal.loop-left-preserved
-loop-left-preserved c = (
-  omega arith,
-  sym (all_on _ _ _ _ _ c.parse_at.ensures c.has.ensures _ c.loop-left-test.true
-      (c.if-not-has.false)) ∙ c.loop-left.invariant.1,
-)
+pub loop-i-preserved : goal.loop-i-preserved
+loop-i-preserved c =
+    sym (all_on _ _ _ _ _ c.item.ensures c.has.ensures _ _ _ (omega arith) (omega arith) c.if-not-has.false)
+    ∙ c.loop-i.invariant
 
 pub returns : goal.returns
-returns c = sym (all_end _ _ _ _ c.loop-left-test.false) ∙ c.loop-left.invariant.1
+returns c = sym (all_end _ _ _ _ (omega arith)) ∙ c.loop-i.invariant

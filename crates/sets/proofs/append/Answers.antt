@@ -1,11 +1,8 @@
 -- `sets::append` meets its contract.
 use Rattle.std.proofs.Common.{refl}
-use Rattle.sets.specs.SetLaws.{append_as, append_full}
+use Rattle.sets.specs.SetLaws.{append_as}
 use Rattle.sets.proofs.append.Goals as goal
 
 pub returns-then-parses-lt-MOST_PARSES : goal.returns-then-parses-lt-MOST_PARSES
 returns-then-parses-lt-MOST_PARSES c =
     append_as _ _ _ _ c.requires c.if-parses-lt-MOST_PARSES.true c.size-parses.ensures _ _ c.put_parse.ensures refl
-
-pub returns-else-parses-lt-MOST_PARSES : goal.returns-else-parses-lt-MOST_PARSES
-returns-else-parses-lt-MOST_PARSES c = append_full _ _ _ _ c.size-parses.ensures c.if-parses-lt-MOST_PARSES.false

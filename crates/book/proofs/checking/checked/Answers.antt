@@ -1,27 +1,20 @@
 -- `book::checked` meets its contract: each way out is one law of EndLaws.
-use Rattle.std.proofs.Common.{ap, arith, ◌∙◌}
 use Rattle.book.proofs.EndLaws.{checks_sections, checks_passing, checks_over, checks_accepted}
-use Rattle.book.specs.Index.{verdict_of}
+use Rattle.book.proofs.ReaderLaws.{passed_up}
 use Rattle.book.proofs.checking.checked.Goals as goal
 
-pub returns-in_default : goal.returns-in_default
-returns-in_default c = rw (c.refusal.ensures ∙ ap verdict_of c.in_default.is)
-    (checks_sections _ _ _ _ c.five_sections-sections.ensures c.in_default.is)
+pub returns-in_err-sections : goal.returns-in_err-sections
+returns-in_err-sections c = rw (passed_up c.from_residual.ensures.1)
+    (checks_sections _ _ _ _ c.five_sections.ensures c.in_err-sections.was)
 
-pub returns-in_default-passed : goal.returns-in_default-passed
-returns-in_default-passed c = let five-sections =
-    c.five_sections-sections in
-    rw (c.refusal-in_default-passed.ensures ∙ ap verdict_of c.in_default-passed.is)
-    (checks_passing _ _ _ _ five-sections.ensures _ _ c.in-Read.is _ c.all_pass-passed.ensures c.in_default-passed.is)
+pub returns-in_err-all_pass : goal.returns-in_err-all_pass
+returns-in_err-all_pass c = rw (passed_up c.from_residual-in_err-all_pass.ensures.1)
+    (checks_passing _ _ _ _ c.five_sections.ensures _ c.in_ok-sections.was _ c.all_pass.ensures c.in_err-all_pass.was)
 
-pub returns-then-last-book : goal.returns-then-last-book
-returns-then-last-book c = let five-sections =
-    c.five_sections-sections in
-    checks_over _ _ _ _ five-sections.ensures _ _ c.in-Read.is _ c.all_pass-passed.ensures _ _ c.in-Read-passed.is
-    (omega (arith, c.if-last-book.true))
+pub returns-then-sections-book : goal.returns-then-sections-book
+returns-then-sections-book c = checks_over _ _ _ _ c.five_sections.ensures _ c.in_ok-sections.was _ c.all_pass.ensures
+    c.in_ok-all_pass.was c.if-sections-book.true
 
-pub returns-else-last-book : goal.returns-else-last-book
-returns-else-last-book c = let five-sections =
-    c.five_sections-sections in
-    checks_accepted _ _ _ _ five-sections.ensures _ _ c.in-Read.is _ c.all_pass-passed.ensures _ _
-    c.in-Read-passed.is (omega (arith, c.if-last-book.false))
+pub returns : goal.returns
+returns c = checks_accepted _ _ _ _ c.five_sections.ensures _ c.in_ok-sections.was _ c.all_pass.ensures
+    c.in_ok-all_pass.was c.if-sections-book.false

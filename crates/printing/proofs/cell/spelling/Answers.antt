@@ -1,24 +1,19 @@
 -- `printing::spelling` meets its contract.
-use Rattle.std.proofs.Common.{sym, ◌∙◌}
-use Rattle.book.specs.Index.{book_in}
+use Rattle.std.proofs.Common.{arith, sym, ◌∙◌}
 use Rattle.printing.proofs.CellLaws.{spelling_name, spelling_variable, spelling_none}
 use Rattle.printing.proofs.cell.spelling.Goals as goal
 
-pub returns-then-cell-eq-NAME_FORM : goal.returns-then-cell-eq-NAME_FORM
-returns-then-cell-eq-NAME_FORM c =
-    let names = (book_in c.args.book.now c.args.index.now).names in
-    c.part.ensures ∙ sym (spelling_name names c.args.text.now c.args.cell.form c.args.cell.a c.args.cell.b
-    c.if-cell-eq-NAME_FORM.true)
+pub returns-in-4 : goal.returns-in-4
+returns-in-4 c =
+    c.part.ensures ∙ sym (spelling_name c.args.book.now.names c.args.text.now _ c.args.cell.a c.args.cell.b c.in-4.is)
 
-pub returns-then-cell-eq-VARIABLE_FORM : goal.returns-then-cell-eq-VARIABLE_FORM
-returns-then-cell-eq-VARIABLE_FORM c =
-    let names = (book_in c.args.book.now c.args.index.now).names in
-    c.name.ensures ∙ sym (spelling_variable names c.args.text.now c.args.cell.form c.args.cell.a c.args.cell.b
-    c.if-cell-eq-VARIABLE_FORM.true)
+pub returns-in-6 : goal.returns-in-6
+returns-in-6 c =
+    c.name.ensures
+    ∙ sym (spelling_variable c.args.book.now.names c.args.text.now _ c.args.cell.a c.args.cell.b c.in-6.is)
 
-pub returns : goal.returns
-returns c =
-    let names = (book_in c.args.book.now c.args.index.now).names in
-    c.part-2.ensures
-    ∙ sym (spelling_none names c.args.text.now c.args.cell.form c.args.cell.a c.args.cell.b
-    c.if-cell-eq-NAME_FORM.false c.if-cell-eq-VARIABLE_FORM.false)
+pub returns-in_default : goal.returns-in_default
+returns-in_default c =
+    c.part-in_default.ensures
+    ∙ sym (spelling_none c.args.book.now.names c.args.text.now c.args.cell.form c.args.cell.a c.args.cell.b
+    (λ h. omega (arith, h)) (λ h. omega (arith, h)))

@@ -1,6 +1,9 @@
 -- `printing::print_part` meets its contract.
-use Rattle.printing.proofs.LayingLaws.{window}
+use Rattle.std.proofs.Common.{rules, sym}
+use Rattle.printing.proofs.LayingLaws.{window, window_at}
 use Rattle.printing.proofs.line.print_part.Goals as goal
 
 pub returns : goal.returns
-returns c = window _ _ _ c.line-end.ensures
+returns c =
+    let same = sym c.line.ensures.same in
+    window_at (window _ _ _ c.line.ensures.laid) (search (rules, same))

@@ -6,9 +6,7 @@ use Rattle.printing.proofs.line.refused.Goals as goal
 
 pub returns : goal.returns
 returns c =
-    let ends = lays_then c.field-argument.ensures (lays_then c.field-lined.ensures (lays_then c.field-columned.ensures
-    c.byte.ensures)) in
-    let parts = lays_then c.field-refusal.ensures (lays_then c.field-place.ensures (lays_then c.field-kind.ensures
-    ends)) in
+    let ends = lays_then c.field-4.ensures (lays_then c.field-5.ensures (lays_then c.field-6.ensures c.byte.ensures)) in
+    let parts = lays_then c.field.ensures (lays_then c.field-2.ensures (lays_then c.field-3.ensures ends)) in
     lays_as parts
-    (refused_fields c.args.text.now (answer_in c.args.answer) _ _ c.line_of-line.ensures c.column_of-column.ensures)
+    (refused_fields c.args.text.now (answer_in c.args.answer) _ _ c.line_of.ensures c.column_of.ensures)

@@ -4,5 +4,4 @@ use Rattle.printing.proofs.value.declared.Goals as goal
 
 pub returns : goal.returns
 returns c =
-    lays_then c.byte-marked.ensures
-    (lays_then c.number-outwards.ensures (lays_then c.byte-dotted.ensures c.number.ensures))
+    lays_then c.byte.ensures (lays_then c.number.ensures (lays_then c.byte-2.ensures c.number-2.ensures))

@@ -1,25 +1,11 @@
 -- `run::write` meets its contract.
-use Rattle.std.proofs.Common.{List, ap, arith, get_or, set, take, ℕ, ◌∙◌, ◌≡◌}
-use Rattle.semantics.specs.Answer as answers
-use Rattle.run.specs.ListLaws.{copy_again}
+use Rattle.std.proofs.Common.{List, ◌++◌, ap, drop, length, ℕ, ◌∙◌}
+use Rattle.run.specs.ListLaws.{written_over}
 use Rattle.run.proofs.lists.write.Goals as goal
-
-pub loop-i-init : goal.loop-i-init
-loop-i-init c = (omega arith, λ lent e. e)
-
-pub loop-i-preserved : goal.loop-i-preserved
-loop-i-preserved c =
-    let loop = c.loop-i in
-    let source = c.args.source.now in
-    let at = loop.i in (
-      omega (arith, c.loop-i-test.true),
-      λ lent e. ap (λ (m : List ℕ). set m at (get_or source at 0)) (loop.invariant.1 lent e)
-          ∙ copy_again _ lent source at (omega (arith, c.loop-i-test.true, c.requires))
-          (omega (arith, c.loop-i-test.true, c.requires)),
-    )
 
 pub returns : goal.returns
 returns c =
-    let e : c.loop-i.i ≡ c.args.used = omega (arith, c.loop-i.invariant.0, c.loop-i-test.false) in
-    c.loop-i.invariant.1 _ c.clear.ensures
-    ∙ ap (λ (n : ℕ). answers.written c.args.size (take n c.args.source.now) c.args.lent.now) e
+    let numbers = c.args.numbers.now in
+    ap (λ (l : List ℕ). l ++ drop (length numbers) c.clear.new.lent) c.copy_from_slice.ensures.after
+    ∙ ap (λ (l : List ℕ). numbers ++ drop (length numbers) l) c.clear.ensures
+    ∙ written_over c.args.size numbers c.args.lent.now c.requires.1

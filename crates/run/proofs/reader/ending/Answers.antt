@@ -1,27 +1,26 @@
 -- `run::ending` meets its contract.
-use Rattle.std.proofs.Common.{arith, sym, ◌∙◌}
+use Rattle.std.proofs.Common.{◌≡◌, ◌∙◌, ap, refl, Ok, Err, Some, None}
+use Rattle.transitions.specs.OutcomeLaws.{number_there}
+use Rattle.transitions.specs.Results.{outcome_of}
 use Rattle.run.specs.ReadingLaws.{end_limit, end_failed, end_found}
-use Rattle.run.specs.ListLaws.{found_few}
 use Rattle.run.proofs.reader.ending.Goals as goal
 
-pub returns-then-outcome-ne0 : goal.returns-then-outcome-ne0
-returns-then-outcome-ne0 c =
-    end_limit _ _ _ _ _ _ _ _ _ c.args.outcome c.at_end.result c.gone-work.ensures c.if-outcome-ne0.true
-    c.clear_lists.ensures c.at_end.ensures
+pub returns-in-Err : goal.returns-in-Err
+returns-in-Err c =
+    rw c.in-Err.is (end_limit _ _ _ _ _ _ _ _ _ (outcome_of (Err c.in-Err.limit) c.args.state) c.at_end.result
+    c.saturating_sub-work.ensures (number_there _) c.clear_lists.ensures (rw c.number.ensures at c.at_end.ensures))
 
-pub overflow_cast-number : goal.overflow_cast-number
-overflow_cast-number c = omega (arith, c.parse_count-number.ensures, found_few c.args.rows.now)
+pub returns-in-Ok-Some : goal.returns-in-Ok-Some
+returns-in-Ok-Some c =
+    let same : c.in-Ok-Some.field-0 ≡ Some c.in-Ok-Some.e = rw c.in-Ok-Some.is at c.in-Ok-Some.field-0-is in
+    let is : c.args.found ≡ Ok (Some c.in-Ok-Some.e) = c.in-Ok-Some.is ∙ ap Ok same in
+    rw is (end_failed _ _ _ _ _ _ _ _ _ (outcome_of (Ok (Some c.in-Ok-Some.e)) c.args.state)
+    c.failed.result c.saturating_sub-work.ensures _ refl refl c.clear_lists-in-Ok-Some.ensures c.failed.ensures)
 
-pub returns-in-At : goal.returns-in-At
-returns-in-At c =
-    let failure-of = c.failure_of-failure in
-    end_failed _ _ _ _ _ _ _ _ _ c.args.outcome c.failed.result c.gone-work.ensures _ c.if-outcome-ne0.false
-    (sym failure-of.ensures ∙ c.in-At.is) c.clear_lists-in-At.ensures c.failed.ensures
-
-pub returns-in-None : goal.returns-in-None
-returns-in-None c =
-    let if1 = c.if-outcome-ne0 in
-    let failure-of = c.failure_of-failure in
-    end_found _ _ _ _ _ _ _ _ _ c.args.outcome c.by_values.result c.gone-work.ensures _ _ if1.false
-    (sym failure-of.ensures ∙ c.in-None.is) c.requires.3 c.fill_lists.ensures c.whole_values-values.ensures
-    c.parse_count-number.ensures c.by_values.ensures
+pub returns-in-Ok-None : goal.returns-in-Ok-None
+returns-in-Ok-None c =
+    let same : c.in-Ok-None.field-0 ≡ None = rw c.in-Ok-None.is at c.in-Ok-None.field-0-is in
+    let is : c.args.found ≡ Ok None = c.in-Ok-None.is ∙ ap Ok same in
+    rw is (end_found _ _ _ _ _ _ _ _ _ (outcome_of (Ok None) c.args.state) c.by_values.result
+    c.saturating_sub-work.ensures _ _ refl refl (rw is at c.requires).2 c.fill_lists.ensures
+    c.whole_values-values.ensures c.parse_count-number.ensures.count c.by_values.ensures)

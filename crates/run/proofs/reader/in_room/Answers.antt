@@ -1,7 +1,8 @@
 -- `run::in_room` meets its contract.
-use Rattle.std.proofs.Common.{arith}
+use Rattle.std.proofs.Common.{ap, arith, sym, ◌∙◌}
+use Rattle.book.specs.Check.{Outcome}
 use Rattle.book.proofs.BoundLaws.{refusal_bounds}
-use Rattle.run.specs.ReadingLaws.{call_short, call_allowance, call_refused, call_book, long_cells}
+use Rattle.run.specs.ReadingLaws.{call_short, call_allowance, call_refused, call_book}
 use Rattle.run.specs.ReadingLaws.{verdict_refused}
 use Rattle.run.proofs.reader.in_room.Goals as goal
 
@@ -19,24 +20,18 @@ pub book_refused-requires : goal.book_refused-requires
 book_refused-requires c =
     let bounds =
     refusal_bounds c.args.book.now (λ i. omega (arith, c.type_inv.book i)) _ _
-    (verdict_refused _ _ _ _ _ _ c.check_into-verdict.ensures c.requires.0 c.in-Refused.is) in
+    (verdict_refused _ _ _ _ _ c.check_into.ensures c.requires.0 c.in-Err.is) in
     (omega (arith, bounds.0), omega (arith, bounds.1))
 
-pub on_book-requires : goal.on_book-requires
-on_book-requires c =
-    let if1 = c.if-too_short in
-    let lists = long_cells c.args.cells.now c.args.parses.now _ c.too_short.ensures if1.false in
-    (lists.0, lists.1, c.requires.1, c.requires.2, c.check_into-verdict.ensures.gives c.in-Accepted.is)
-
-pub returns-in-Refused : goal.returns-in-Refused
-returns-in-Refused c =
+pub returns-in-Err : goal.returns-in-Err
+returns-in-Err c =
     let too_short = c.too_short in
     call_refused _ _ _ _ _ _ _ too_short.ensures c.if-too_short.false _ c.no_allowance.ensures c.if-no_allowance.false
-    c.book_refused.result _ _ (verdict_refused _ _ _ _ _ _ c.check_into-verdict.ensures c.requires.0 c.in-Refused.is)
+    c.book_refused.result _ _ (verdict_refused _ _ _ _ _ c.check_into.ensures c.requires.0 c.in-Err.is)
     c.book_refused.ensures
 
-pub returns-in-Accepted : goal.returns-in-Accepted
-returns-in-Accepted c =
+pub returns : goal.returns
+returns c =
     call_book _ _ _ _ _ _ _ c.too_short.ensures c.if-too_short.false _ c.no_allowance.ensures c.if-no_allowance.false
     _ _
-    (c.check_into-verdict.ensures.gives c.in-Accepted.is) c.on_book.ensures
+    (c.check_into.ensures.gives c.in_default.is ∙ ap Outcome.book (sym c.new-accepted.ensures)) c.on_book.ensures

@@ -7,7 +7,7 @@ use Rattle.std.specs.Prelude.{◌≡◌, Bool, ◌&&◌, ◌||◌, List, [], ◌
 use Rattle.std.proofs.Math.Path.{refl, sym, ap}
 use Rattle.std.proofs.Common.{◌∙◌, arith}
 use Rattle.std.proofs.Math.Bool.{true, false}
-use Rattle.std.proofs.Math.Option.{Option, none, some}
+use Rattle.std.specs.Prelude.{Option, None, Some}
 use Prim.Native.Nat.{ℕ, zero, suc, ◌≤◌, ◌<◌}
 use Rattle.std.proofs.Math.Dec.{eqb}
 use Rattle.book.specs.Book.{Entry, Book}
@@ -86,8 +86,8 @@ module _ (book : Book) (text : List ℕ) (P m u : ℕ) (scope : Scope) where
 
   pub around_behind : (k : ℕ) (A₁ A₂ : Context) (opening : Option (List Entry)) → Around k A₁ A₂ →
       Around k (behind_opening opening A₁) (behind_opening opening A₂)
-  around_behind k A₁ A₂ none a = a
-  around_behind k A₁ A₂ (some names) a = opened k names A₁ A₂ a
+  around_behind k A₁ A₂ None a = a
+  around_behind k A₁ A₂ (Some names) a = opened k names A₁ A₂ a
 
   pub around_scope : (k : ℕ) (A₁ A₂ : Context) → Around k A₁ A₂ → scope_of A₂.path ≡ scope_of A₁.path
   unfolding scope_of

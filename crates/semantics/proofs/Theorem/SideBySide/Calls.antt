@@ -3,7 +3,7 @@
 use Rattle.std.specs.Prelude.{◌≡◌, leb}
 use Rattle.std.proofs.Math.Path.{refl}
 use mathlib.Core.List.{List, [], ◌∷◌}
-use Rattle.std.proofs.Math.Option.{Option, none, some}
+use Rattle.std.specs.Prelude.{Option, None, Some}
 use Prim.Native.Nat.{ℕ, zero, suc}
 use Rattle.characters.specs.Cases.{by_test}
 use Rattle.book.specs.Book.{Book, nth_variant}
@@ -42,8 +42,8 @@ module _ {book : Book} {text : List ℕ} (L : Laws book text) where
   pub with_token_alike : {k : ℕ} (j items : ℕ) (item : Option Item) (s : Pair L k) →
       Alike L of_cell s (with_token book text j items item s.first) (with_token book text j items item s.second)
   unfolding with_token
-  with_token_alike j items none s = cell_done L s items
-  with_token_alike j items (some item) s =
+  with_token_alike j items None s = cell_done L s items
+  with_token_alike j items (Some item) s =
       cell_then L s _ _ (make_alike L s _) (λ n t. with_cell_alike j items n t)
 
   pub complete_alike : {k : ℕ} (j x items : ℕ) (set : List (Parse ℕ)) (s : Pair L k) →
@@ -55,7 +55,7 @@ module _ {book : Book} {text : List ℕ} (L : Laws book text) where
       (by_test (nth_variant book j).passing
       (λ t. rw t (cell_done L s items))
       (λ t. rw t (make_alike L s (Cell.variant j items))))
-      (λ n t. add_then L t set _ _ _ good place (λ more good_all. set_done L t more none good_all))
+      (λ n t. add_then L t set _ _ _ good place (λ more good_all. set_done L t more None good_all))
 
   -- ---- A call
   -- its stored parses are set to all found, in both runs
@@ -66,10 +66,10 @@ module _ {book : Book} {text : List ℕ} (L : Laws book text) where
   abbrev after_first : Runner → Call → ℕ → Parsed → Result Parsed
   after_first run c m r =
       elim r.set [
-        | [] ↦ ok (parsed [] (some (failed_call c r.failure)) r.state)
+        | [] ↦ ok (parsed [] (Some (failed_call c r.failure)) r.state)
         | p ∷ ps ↦ when (newest r.state.asked)
             (λ _. rounds book text most_rounds run (with_mine c r.set) m r.state)
-            (λ _. ok (parsed r.set none r.state))
+            (λ _. ok (parsed r.set None r.state))
       ]
 
   -- what follows all of them
@@ -79,8 +79,8 @@ module _ {book : Book} {text : List ℕ} (L : Laws book text) where
   counted_same : {k : ℕ} (c : Calls L k) (j : ℕ) (d : Option Error) →
       counted book text (second_call L c) j d ≡ counted book text (first_call L c) j d
   unfolding counted
-  counted_same c j none = refl
-  counted_same c j (some e) = refl
+  counted_same c j None = refl
+  counted_same c j (Some e) = refl
 
   module _ (f g : Runner) (h : AlikeRunner L f g) {k : ℕ} where
     variants_alike : (c : Calls L k) (m n j : ℕ) (set : List (Parse ℕ)) (e : Option Error) (s : Pair L (suc k)) →
@@ -100,7 +100,7 @@ module _ {book : Book} {text : List ℕ} (L : Laws book text) where
         Alike L of_set s (one_run book text f (first_call L c) m s.first)
         (one_run book text g (second_call L c) m s.second)
     unfolding one_run
-    one_run_alike c m s = variants_alike c m _ _ [] none s (good_none L.Place)
+    one_run_alike c m s = variants_alike c m _ _ [] None s (good_none L.Place)
 
     rounds_alike : (n : ℕ) (c : Calls L k) (m : ℕ) (s : Pair L (suc k)) →
         Alike L of_set s (rounds book text n f (first_call L c) m s.first)
@@ -110,7 +110,7 @@ module _ {book : Book} {text : List ℕ} (L : Laws book text) where
     rounds_alike (suc n) c m s =
         set_then L s _ _ (one_run_alike c m s) (λ set e t good.
         by_test (all_in c.mine set)
-        (λ b. rw b (set_done L t c.mine none c.good))
+        (λ b. rw b (set_done L t c.mine None c.good))
         (λ b. rw b (add_all_then L t c.mine set _ _ c.good good (λ all good_all.
         rounds_alike n (with_all c all good_all) m t))))
 
@@ -119,13 +119,13 @@ module _ {book : Book} {text : List ℕ} (L : Laws book text) where
         Alike L of_set s (after_first f (first_call L c) m (parsed set e s.first))
         (after_first g (second_call L c) m (parsed set e s.second))
     unfolding failed_call
-    after_first_alike c m [] none s good = set_done L s [] _ good
-    after_first_alike c m [] (some e) s good = set_done L s [] _ good
+    after_first_alike c m [] None s good = set_done L s [] _ good
+    after_first_alike c m [] (Some e) s good = set_done L s [] _ good
     after_first_alike c m (p ∷ ps) e s good =
         rw (L.newests k s.first s.second s.alike)
         (by_test (newest s.first.asked)
         (λ b. rw b (rounds_alike most_rounds (with_all c (p ∷ ps) good) m s))
-        (λ b. rw b (set_done L s (p ∷ ps) none good)))
+        (λ b. rw b (set_done L s (p ∷ ps) None good)))
 
     run_call_alike : (c : Calls L k) (m : ℕ) (s : Pair L (suc k)) →
         Alike L of_set s (run_call book text f (first_call L c) m s.first)
@@ -157,4 +157,4 @@ module _ {book : Book} {text : List ℕ} (L : Laws book text) where
       (λ b. option_cases (free_end book text c.start)
       (λ missing. rw (b, missing) (set_done L s [] _ (good_none L.Place)))
       (λ end there. rw (b, there) (cell_then L s _ _ (make_alike L s _) (λ n t.
-      set_done L t _ none (good_one L.Place _ (L.frees c.start end c.place there)))))))
+      set_done L t _ None (good_one L.Place _ (L.frees c.start end c.place there)))))))

@@ -8,7 +8,7 @@
 -- around a call.
 use Rattle.std.specs.Prelude.{◌≡◌, refl, Bool, false, ℕ, suc, ltb, length, get_or}
 use mathlib.Core.List.{List, [], ◌∷◌, ◌++◌}
-use Rattle.std.proofs.Math.Option.{Option, none, some}
+use Rattle.std.specs.Prelude.{Option, None, Some}
 use Rattle.characters.specs.Cases.{by_test}
 use Rattle.characters.specs.Skipping.{skip_from}
 use Rattle.book.specs.Book.{Entry, Book}
@@ -129,7 +129,7 @@ pub record Laws (book : Book) (text : List ℕ) : Type 1 where
       claimed book text A₂.path u ≡ claimed book text A₁.path u
   -- from a place that is followed the text leads to such places
   pub skips : (x : ℕ) → Place x → Place (skip_from text x)
-  pub frees : (x y : ℕ) → Place x → free_end book text x ≡ some y → Place y
+  pub frees : (x y : ℕ) → Place x → free_end book text x ≡ Some y → Place y
   pub takes : (scope : Scope) (step : Step) (x : ℕ) (t : Token) → Place x →
       step_at book text scope step x ≡ Taken.token t → Place t.next
   pub lists : (scope : Scope) (step : Step) (x : ℕ) (comma : Bool) (M : ℕ) (close : Option ℕ) (y : ℕ) → Place x →
@@ -138,10 +138,10 @@ pub record Laws (book : Book) (text : List ℕ) : Type 1 where
       step_at book text scope step x ≡ Taken.unopened y → Place y
   pub names_from : (scope : Scope) (step : Step) (x close M y : ℕ) → Place x →
       step_at book text scope step x ≡ Taken.names close M y → Place y
-  pub declares : (x : ℕ) (d : Read Entry) → Place x → declaration_at book text x ≡ some d → Place d.end
+  pub declares : (x : ℕ) (d : Read Entry) → Place x → declaration_at book text x ≡ Some d → Place d.end
   pub goes_on_lem : (comma : Bool) (x y : ℕ) → Place x → after_element text comma x ≡ goes y → Place y
   pub halts_at : (comma : Bool) (x y : ℕ) → Place x → after_element text comma x ≡ halts y → Place y
-  pub closes_at : (close : Option ℕ) (x y : ℕ) → Place x → closed text close x ≡ some y → Place y
+  pub closes_at : (close : Option ℕ) (x y : ℕ) → Place x → closed text close x ≡ Some y → Place y
 
 -- ---- Sets
 module _ (Place : ℕ → Type 0) where
@@ -251,10 +251,10 @@ module _ {book : Book} {text : List ℕ} (L : Laws book text) where
 
   -- the runners one level further in, if there are any
   abbrev pub AlikeInner : Option Runner → Option Runner → Type 0
-  AlikeInner none none = Unit {0}
-  AlikeInner none (some g) = L.Deeper
-  AlikeInner (some f) none = ⊥
-  AlikeInner (some f) (some g) = AlikeRunner f g
+  AlikeInner None None = Unit {0}
+  AlikeInner None (Some g) = L.Deeper
+  AlikeInner (Some f) None = ⊥
+  AlikeInner (Some f) (Some g) = AlikeRunner f g
 
   abbrev pub AlikeGo : ℕ → Go → Go → Type 0
   AlikeGo k f g =

@@ -3,7 +3,7 @@
 use Rattle.std.specs.Prelude.{◌≡◌, Bool, leb, get_or}
 use Rattle.std.proofs.Math.Bool.{true}
 use mathlib.Core.List.{List, [], ◌∷◌}
-use Rattle.std.proofs.Math.Option.{Option, none, some}
+use Rattle.std.specs.Prelude.{Option, None, Some}
 use Prim.Native.Nat.{ℕ, zero, suc, ◌≤◌}
 use Rattle.std.proofs.Common.{arith}
 use Rattle.characters.specs.Cases.{by_test}
@@ -59,9 +59,9 @@ module _ {book : Book} {text : List ℕ} (L : Laws book text) where
         Alike L of_set s (ok (chosen (first_call L c) at a (parsed set e s.first)))
         (ok (chosen (second_call L c) at a (parsed set e s.second)))
     unfolding chosen
-    chosen_alike at none set e s good = set_done L s set none good
-    chosen_alike at (some d) set none s good = set_done L s set none good
-    chosen_alike at (some d) set (some e) s good = set_done L s set _ good
+    chosen_alike at None set e s good = set_done L s set None good
+    chosen_alike at (Some d) set None s good = set_done L s set None good
+    chosen_alike at (Some d) set (Some e) s good = set_done L s set _ good
 
   stops_alike : {k : ℕ} (j values : ℕ) (close : Option ℕ) (f g : Go) → AlikeGo L k f g →
       AlikeGo L k (stops book text j values close f) (stops book text j values close g)
@@ -77,8 +77,8 @@ module _ {book : Book} {text : List ℕ} (L : Laws book text) where
   open_scope_alike : {k : ℕ} (opening : Option (List Entry)) (scope : Scope) (s : Pair L k) →
       Alike L of_state s (open_scope opening scope s.first) (open_scope opening scope s.second)
   unfolding open_scope
-  open_scope_alike none scope s = state_done L s
-  open_scope_alike {k} (some names) scope s =
+  open_scope_alike None scope s = state_done L s
+  open_scope_alike {k} (Some names) scope s =
       by_test (leb (declared_names (names ∷ scope)) most_declared)
       (λ t. rw t (state_done L s))
       (λ t. rw t (L.limit k of_state too_many_names _ _ s.alike))
@@ -88,17 +88,17 @@ module _ {book : Book} {text : List ℕ} (L : Laws book text) where
       (f₁ f₂ : Runner → Result Parsed) → ((f g : Runner) → AlikeRunner L f g → Alike L of_set s (f₁ f) (f₂ g)) →
       Alike L of_set s (nested book text i₁ s.first f₁) (nested book text i₂ s.second f₂)
   unfolding nested
-  nested_alike none none i {k} s f₁ f₂ h = L.limit k of_set too_deep _ _ s.alike
-  nested_alike none (some g) i {k} s f₁ f₂ h = L.deeper i k of_set _ _ _ s.alike
-  nested_alike (some f) none i s f₁ f₂ h = absurd i
-  nested_alike (some f) (some g) i s f₁ f₂ h = h f g i
+  nested_alike None None i {k} s f₁ f₂ h = L.limit k of_set too_deep _ _ s.alike
+  nested_alike None (Some g) i {k} s f₁ f₂ h = L.deeper i k of_set _ _ _ s.alike
+  nested_alike (Some f) None i s f₁ f₂ h = absurd i
+  nested_alike (Some f) (Some g) i s f₁ f₂ h = h f g i
 
   module _ (i₁ i₂ : Option Runner) (inner : AlikeInner L i₁ i₂) where
     reentry_alike : {k : ℕ} (l : List (Parse ℕ)) (e : Error) (s : Pair L k) → Good L.Place l →
         Alike L of_set s (ok (reentry book text i₁ l e s.first)) (ok (reentry book text i₂ l e s.second))
     unfolding reentry
-    reentry_alike [] e s good = set_done L s [] (some e) good
-    reentry_alike (p ∷ ps) e s good = set_done L s (p ∷ ps) none good
+    reentry_alike [] e s good = set_done L s [] (Some e) good
+    reentry_alike (p ∷ ps) e s good = set_done L s (p ∷ ps) None good
 
     pub enter_alike : {k : ℕ} (A₁ A₂ : Context) (N u : ℕ) → L.Around k A₁ A₂ → L.Place u → (s : Pair L k) →
         Alike L of_set s (enter book text i₁ A₁.path A₁.stored N u s.first)
@@ -147,7 +147,7 @@ module _ {book : Book} {text : List ℕ} (L : Laws book text) where
       follow_alike : (qs set : List (Parse ℕ)) (s : Pair L k) → Good L.Place qs → Good L.Place set →
           Alike L of_set s (follow book text i₁ n₁ qs set s.first) (follow book text i₂ n₂ qs set s.second)
       unfolding follow Good
-      follow_alike [] set s places good = set_done L s set none good
+      follow_alike [] set s places good = set_done L s set None good
       follow_alike (q ∷ qs) set s places good =
           set_then L s _ _ (nested_alike i₁ i₂ inner s _ _ (λ f g i. h q s f g set i places.0 good))
           (λ more e t good_all. follow_more_alike qs more e t places.1 good_all)
@@ -157,8 +157,8 @@ module _ {book : Book} {text : List ℕ} (L : Laws book text) where
           Alike L of_set s (followed book text i₁ n₁ set (parsed found e s.first))
           (followed book text i₂ n₂ set (parsed found e s.second))
       unfolding followed
-      followed_alike set found none s good places = follow_alike found set s places good
-      followed_alike set found (some e) s good places = set_done L s set (some e) good
+      followed_alike set found None s good places = follow_alike found set s places good
+      followed_alike set found (Some e) s good places = set_done L s set (Some e) good
 
     step_unit_alike : {k : ℕ} (step : Step) (s : Pair L k) →
         Alike L of_state s (step_unit book text i₁ step s.first) (step_unit book text i₂ step s.second)
@@ -180,7 +180,7 @@ module _ {book : Book} {text : List ℕ} (L : Laws book text) where
           cell_then L s _ _ (make_alike L s Cell.absent) (λ absent t.
           cell_then L t _ _ (with_cell_alike L j items absent t) (λ m v.
           set_then L v _ _ (h x m set v place good) (λ without d a good_a.
-          set_then L a _ _ (enter_child_alike none c j M x a place) (λ found e r good_r.
+          set_then L a _ _ (enter_child_alike None c j M x a place) (λ found e r good_r.
           set_then L r _ _ (followed_alike _ _ (plain_next_alike c j rest items) without found e r good_a good_r)
           (λ all i b good_b. chosen_alike c (skip_from text x) d all i b good_b)))))
 
@@ -192,7 +192,7 @@ module _ {book : Book} {text : List ℕ} (L : Laws book text) where
       choice_alike comma M values close rest f g h x items set s place good =
           state_then L s _ _ (spend_alike L s) (λ t.
           set_then L t _ _ (stops_alike j values close f g h x items set t place good) (λ stopped d a good_a.
-          set_then L a _ _ (enter_child_alike none c j M x a place) (λ found e r good_r.
+          set_then L a _ _ (enter_child_alike None c j M x a place) (λ found e r good_r.
           set_then L r _ _
           (followed_alike _ _ (list_next_alike c j comma M values close rest items) stopped found e r good_a good_r)
           (λ all i b good_b. chosen_alike c (skip_from text x) d all i b good_b))))
@@ -227,7 +227,7 @@ module _ {book : Book} {text : List ℕ} (L : Laws book text) where
             option_cases (character_end text close x)
             (λ unclosed. rw unclosed (set_done L t set _ good))
             (λ y ends. rw ends
-            (body_after_alike (some names) M l rest y items set t (L.closes_at (some close) x y place ends) good)))
+            (body_after_alike (Some names) M l rest y items set t (L.closes_at (Some close) x y place ends) good)))
 
         declares_alike :
             AlikeGo L (suc k) (declares book text i₁ (first_call L c) j names kinds close M rest)
@@ -269,18 +269,18 @@ module _ {book : Book} {text : List ℕ} (L : Laws book text) where
           (λ is. rw (same_scope, is, same_scope) (set_done L t set _ good))
           (λ a is. rw (same_scope, is) (cell_then L t _ _ (with_token_alike L j items a.item t)
           (λ n r. h a.next n set r (L.takes scope step x a place is) good)))
-          (λ M is. rw (same_scope, is) (set_then L t _ _ (enter_child_alike none c j M x t place)
+          (λ M is. rw (same_scope, is) (set_then L t _ _ (enter_child_alike None c j M x t place)
           (λ found e r good_r. followed_alike _ _ (plain_next_alike c j rest items) set found e r good good_r)))
           (λ M is. rw (same_scope, is) (or_absent_alike M rest _ _ h x items set t place good))
           (λ comma M close y is. rw (same_scope, is)
           (listing_alike comma M close rest _ _ h y items set t (L.lists scope step x comma M close y place is) good))
           (λ y is. rw (same_scope, is) (cell_then L t _ _ (make_alike L t Cell.empty)
-          (λ e r. stops_alike j e none _ _ h y items set r (L.unopens scope step x y place is) good)))
+          (λ e r. stops_alike j e None _ _ h y items set r (L.unopens scope step x y place is) good)))
           (λ close M y is. rw (same_scope, is) (cell_then L t _ _ (make_alike L t Cell.empty)
           (λ e r. name_choice_alike [] e close M rest y items set r (L.names_from scope step x close M y place is)
           good)))
           (λ M is. rw (same_scope, is) (cell_then L t _ _ (make_alike L t Cell.absent)
-          (λ absent r. body_after_alike none M absent rest x items set r place good))))
+          (λ absent r. body_after_alike None M absent rest x items set r place good))))
 
       todo_alike : (todo : List (Todo ℕ)) → StepsAlike todo
       unfolding steps

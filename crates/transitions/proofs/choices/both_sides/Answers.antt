@@ -1,17 +1,14 @@
 -- `transitions::both_sides` meets its contract.
-use Rattle.calls.specs.Table.{table}
-use Rattle.transitions.specs.NextLaws.{both_limit, both_chosen}
+use Rattle.std.proofs.Common.{refl, sym}
+use Rattle.transitions.specs.OutcomeLaws.{failure_done}
+use Rattle.transitions.specs.Results.{done_with}
+use Rattle.transitions.specs.NextLaws.{both_chosen}
 use Rattle.transitions.proofs.choices.both_sides.Goals as goal
 
-pub returns-then-b-ne0 : goal.returns-then-b-ne0
-returns-then-b-ne0 c =
-    both_limit c.args.text.now (table c.args.rows.now) c.args.here.call c.args.here.place c.args.a
-    c.args.b c.if-b-ne0.true
-
 pub returns : goal.returns
-returns c =
-    both_chosen c.args.text.now (table c.args.rows.now) c.args.here.call c.args.here.place
-    _ _ c.args.a c.args.b _
-    c.failure_of-first.result c.failure_of-second.result c.chosen.result c.if-b-ne0.false
-    c.nonterminal_of-nonterminal.ensures c.skipped-at.ensures c.failure_of-first.ensures
-    c.failure_of-second.ensures c.chosen.ensures c.done.ensures
+returns c = λ s t.
+    both_chosen c.args.text.now c.args.rows.now c.args.here.call c.args.here.place
+    _ _ (done_with c.args.first s) (done_with c.args.second t) _
+    c.args.first c.args.second c.chosen.result refl
+    c.nonterminal_of.ensures c.skipped-at.ensures (sym (failure_done c.args.first s))
+    (sym (failure_done c.args.second t)) c.chosen.ensures refl

@@ -1,19 +1,21 @@
 -- `transitions::first_stop` meets its contract.
-use Rattle.book.specs.Index.{book_in}
+use Rattle.std.proofs.Common.{refl}
+use Rattle.std.proofs.lemmas.Result.{err_from_is_err_and}
+use Rattle.transitions.specs.OutcomeLaws.{number_there}
 use Rattle.transitions.specs.NextLaws.{side_limit, side_stops}
 use Rattle.transitions.proofs.choices.first_stop.Goals as goal
 
-pub returns-then-spent-ne0 : goal.returns-then-spent-ne0
-returns-then-spent-ne0 c =
-    let book = book_in c.args.book.now c.args.index.now in
-    side_limit book c.args.text.now c.args.store.now c.args.here.variant c.args.here.place c.args.here.items
-    c.args.list c.args.state _ c.spend-spent.ensures _ c.if-spent-ne0.true c.ended.ensures
+pub returns-in_err-spend : goal.returns-in_err-spend
+returns-in_err-spend c =
+    let p = err_from_is_err_and c.from_residual.result c.from_residual.ensures.1 in
+    rw (p.1, p.2)
+    (side_limit c.args.book.now c.args.text.now c.args.store.now c.args.here.variant c.args.here.place
+    c.args.here.items c.args.list c.args.state.now _ (rw c.in_err-spend.was at c.spend.ensures) _ (number_there _) refl)
 
 pub stop-requires : goal.stop-requires
 stop-requires c = c.requires
 
 pub returns : goal.returns
 returns c =
-    let book = book_in c.args.book.now c.args.index.now in
-    side_stops book c.args.text.now c.args.store.now c.args.here.variant c.args.here.place c.args.here.items
-    c.args.list c.args.state _ c.spend-spent.ensures _ _ c.if-spent-ne0.false c.stop.ensures
+    side_stops c.args.book.now c.args.text.now c.args.store.now c.args.here.variant c.args.here.place
+    c.args.here.items c.args.list c.args.state.now _ (rw c.in_ok-spend.was at c.spend.ensures) _ _ refl c.stop.ensures

@@ -1,25 +1,33 @@
 -- `transitions::open` meets its contract.
 use Rattle.std.proofs.Common.{refl}
-use Rattle.book.specs.Index.{book_in}
-use Rattle.calls.specs.Table.{table}
+use Rattle.std.proofs.lemmas.Result.{err_from_is_err_and}
 use Rattle.transitions.specs.EnteringLaws.{opens_deep, opens_identifier, opens_runs}
 use Rattle.transitions.proofs.entering.open.Goals as goal
 
 pub returns-then-row-eq0 : goal.returns-then-row-eq0
 returns-then-row-eq0 c =
-    opens_deep (book_in c.args.book.now c.args.index.now) c.args.text.now c.args.row c.args.binder
-    c.args.nonterminal c.args.at c.args.minimum c.args.state _
-    c.args.store.now (table c.args.rows.now) _ c.if-row-eq0.true c.without_failure.ensures c.without_runs.ensures
+    opens_deep c.args.book.now c.args.text.now c.args.row c.args.binder
+    c.args.nonterminal c.args.at c.args.minimum c.args.state.now _ c.args.store.now c.args.rows.now _
+    c.if-row-eq0.true refl refl
+
+pub returns-in_err-failure : goal.returns-in_err-failure
+returns-in_err-failure c =
+    let p = err_from_is_err_and c.from_residual.result c.from_residual.ensures.1 in
+    rw (p.1, p.2)
+    (opens_identifier c.args.book.now c.args.text.now c.args.row c.args.binder
+    c.args.nonterminal c.args.at c.args.minimum c.args.state.now _ c.args.store.now _ c.args.rows.now _ _ _
+    c.if-row-eq0.false c.is_identifier.ensures c.if-is_identifier.true
+    (rw c.in_err-failure.was at c.run_identifier.ensures) refl)
 
 pub returns-then-is_identifier : goal.returns-then-is_identifier
 returns-then-is_identifier c =
-    opens_identifier (book_in c.args.book.now c.args.index.now) c.args.text.now c.args.row c.args.binder
-    c.args.nonterminal c.args.at c.args.minimum c.args.state _ c.args.store.now _ (table c.args.rows.now) _ _ _
-    c.if-row-eq0.false c.is_identifier.ensures c.if-is_identifier.true c.run_identifier.ensures
-    c.without_runs-then-is_identifier.ensures
+    opens_identifier c.args.book.now c.args.text.now c.args.row c.args.binder
+    c.args.nonterminal c.args.at c.args.minimum c.args.state.now _ c.args.store.now _ c.args.rows.now _ _ _
+    c.if-row-eq0.false c.is_identifier.ensures c.if-is_identifier.true
+    (rw c.in_ok-failure.was at c.run_identifier.ensures) refl
 
 pub returns : goal.returns
 returns c =
-    opens_runs (book_in c.args.book.now c.args.index.now) c.args.text.now c.args.row c.args.binder
-    c.args.nonterminal c.args.at c.args.minimum c.args.state _ c.args.store.now (table c.args.rows.now) _ _
-    c.if-row-eq0.false c.is_identifier.ensures c.if-is_identifier.false c.done-outcome.ensures refl
+    opens_runs c.args.book.now c.args.text.now c.args.row c.args.binder
+    c.args.nonterminal c.args.at c.args.minimum c.args.state.now _ c.args.store.now c.args.rows.now _ _
+    c.if-row-eq0.false c.is_identifier.ensures c.if-is_identifier.false refl refl

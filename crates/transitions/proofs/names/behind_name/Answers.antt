@@ -1,5 +1,5 @@
 -- `transitions::behind_name` meets its contract.
-use Rattle.std.proofs.Common.{ap, arith, sym, true, ◌∙◌}
+use Rattle.std.proofs.Common.{refl, ap, arith, sym, true, ◌∙◌}
 use Rattle.tokens.specs.Maps.{after_of}
 use Rattle.transitions.specs.TakenLaws.{goes_fits, halts_fits}
 use Rattle.transitions.specs.NamesLaws.{behind_goes, behind_halts}
@@ -22,7 +22,7 @@ overflow_cast-result-in-Halts c =
     )
 
 pub returns-in-Goes : goal.returns-in-Goes
-returns-in-Goes c = behind_goes _ _ _ _ _ c.done-outcome.ensures _ c.after_element.ensures _ c.in-Goes.is
+returns-in-Goes c = λ s. behind_goes _ _ _ s _ refl _ c.after_element.ensures _ c.in-Goes.is
 
 pub returns-in-Halts : goal.returns-in-Halts
-returns-in-Halts c = behind_halts _ _ _ _ _ c.done-outcome.ensures _ c.after_element.ensures _ c.in-Halts.is
+returns-in-Halts c = λ s. behind_halts _ _ _ s _ refl _ c.after_element.ensures _ c.in-Halts.is

@@ -1,71 +1,62 @@
 -- `transitions::declare_name` meets its contract.
-use Rattle.std.proofs.Common.{arith}
-use Rattle.book.specs.Index.{book_in}
+use Rattle.std.proofs.Common.{refl, arith}
+use Rattle.std.proofs.lemmas.Result.{err_from_is_err_and}
 use Rattle.semantics.specs.Cells.{Cell}
-use Rattle.calls.specs.Table.{table}
-use Rattle.calls.specs.TableLaws.{table_length}
-use Rattle.transitions.specs.NamesLaws.{kind_cell, kind_few, place_inside, end_inside, declares_there}
-use Rattle.transitions.specs.NamesLaws.{name_there, declare_missing, declare_limit, declare_chain_limit}
-use Rattle.transitions.specs.NamesLaws.{declare_on}
+use Rattle.transitions.specs.OutcomeLaws.{number_there}
+use Rattle.transitions.specs.NamesLaws.{kind_few, place_inside, end_inside, declare_missing, declare_limit}
+use Rattle.transitions.specs.NamesLaws.{declare_chain_limit, declare_on}
 use Rattle.transitions.proofs.names.declare_name.Goals as goal
 
-pub overflow_cast-kind : goal.overflow_cast-kind
-overflow_cast-kind c = omega (arith, kind_few _ _ _ _ c.declaration_at.ensures _ _ _ c.in-Name.is)
+pub overflow_cast-name : goal.overflow_cast-name
+overflow_cast-name c = omega (arith, kind_few _ _ _ _ c.declaration_at.ensures _ c.in_ok-name.was)
 
-pub overflow_cast-place : goal.overflow_cast-place
-overflow_cast-place c =
-    omega (arith, c.requires.0.2.short, place_inside _ _ _ _ c.declaration_at.ensures _ _ _ c.in-Name.is)
+pub overflow_cast-name-2 : goal.overflow_cast-name-2
+overflow_cast-name-2 c =
+    omega (arith, c.requires.0.1.short, place_inside _ _ _ _ c.declaration_at.ensures _ c.in_ok-name.was)
 
 pub overflow_cast-size : goal.overflow_cast-size
 overflow_cast-size c = omega (
   arith,
   c.span_length-size.ensures,
-  c.requires.0.2.short,
-  end_inside _ _ _ _ c.declaration_at.ensures _ _ _ c.in-Name.is,
+  c.requires.0.1.short,
+  end_inside _ _ _ _ c.declaration_at.ensures _ c.in_ok-name.was,
 )
 
-pub returns-then-k-ne0 : goal.returns-then-k-ne0
-returns-then-k-ne0 c =
-    let book = book_in c.args.book.now c.args.index.now in
-    let there = declares_there book c.args.text.now _ _ c.declaration_at.ensures _ _ _ c.in-Name.is in
-    let stands = name_there book c.args.text.now _ _ c.declaration_at.ensures _ _ _ c.in-Name.is in
-    let few = kind_few book c.args.text.now _ _ c.declaration_at.ensures _ _ _ c.in-Name.is in
-    declare_limit book c.args.text.now c.args.store.now _ (table c.args.rows.now) _ c.args.free c.args.here
-    c.args.names c.args.state _ _ _ (rw c.skipped-at.ensures at there) (rw c.skipped-at.ensures at stands) (rw
-    c.span_length-size.ensures at c.declare.ensures) _ (c.make-k.ensures (Cell.number 0 _) (kind_cell _ _ few
-    c.number.ensures)) _ _ c.if-k-ne0.true c.without_failure.ensures c.not_named-then-k-ne0.ensures
+pub returns-in_err-name : goal.returns-in_err-name
+returns-in_err-name c = λ rows.
+    let p = err_from_is_err_and c.from_residual.result c.from_residual.ensures.1 in
+    rw (p.1, p.2)
+    (declare_missing c.args.book.now c.args.text.now c.args.store.now c.args.rows.now c.args.free c.args.here
+    c.args.names c.args.state.now _ _ _ _ _ c.skipped-at.ensures c.declaration_at.ensures c.in_err-name.was refl refl)
 
-pub returns-then-m-ne0 : goal.returns-then-m-ne0
-returns-then-m-ne0 c =
-    let book = book_in c.args.book.now c.args.index.now in
-    let there = declares_there book c.args.text.now _ _ c.declaration_at.ensures _ _ _ c.in-Name.is in
-    let stands = name_there book c.args.text.now _ _ c.declaration_at.ensures _ _ _ c.in-Name.is in
-    let few = kind_few book c.args.text.now _ _ c.declaration_at.ensures _ _ _ c.in-Name.is in
-    declare_chain_limit book c.args.text.now c.args.store.now _ (table c.args.rows.now) _ c.args.free c.args.here
-    c.args.names c.args.state _ _ _ (rw c.skipped-at.ensures at there) (rw c.skipped-at.ensures at stands) (rw
-    c.span_length-size.ensures at c.declare.ensures) _ (c.make-k.ensures (Cell.number 0 _) (kind_cell _ _ few
-    c.number.ensures)) _ c.if-k-ne0.false _ (c.make-m.ensures (Cell.chain c.args.names.kinds _) c.chain.ensures) _
-    _ c.if-m-ne0.true c.without_failure-then-m-ne0.ensures c.not_named-then-m-ne0.ensures
+pub returns-in_err-cell : goal.returns-in_err-cell
+returns-in_err-cell c = λ rows.
+    let p = err_from_is_err_and c.from_residual-in_err-cell.result c.from_residual-in_err-cell.ensures.1 in
+    rw (p.1, p.2)
+    (declare_limit c.args.book.now c.args.text.now c.args.store.now _ c.args.rows.now _ c.args.free c.args.here
+    c.args.names c.args.state.now _ c.skipped-at.ensures _ c.declaration_at.ensures _ c.in_ok-name.was _
+    c.span_length-size.ensures c.declare.ensures _ _ c.number.ensures (rw c.in_err-cell.was at c.make.ensures) _ _
+    (number_there _) refl refl)
+
+pub returns-in_err-kinds : goal.returns-in_err-kinds
+returns-in_err-kinds c = λ rows.
+    let p = err_from_is_err_and c.from_residual-in_err-kinds.result c.from_residual-in_err-kinds.ensures.1 in
+    rw (p.1, p.2)
+    (declare_chain_limit c.args.book.now c.args.text.now c.args.store.now _ c.args.rows.now _ c.args.free c.args.here
+    c.args.names c.args.state.now _ c.skipped-at.ensures _ c.declaration_at.ensures _ c.in_ok-name.was _
+    c.span_length-size.ensures c.declare.ensures _ _ c.number.ensures (rw c.in_ok-cell.was at c.make.ensures) _ refl _
+    (rw c.in_err-kinds.was at (c.make-2.ensures (Cell.chain c.args.names.kinds _) c.chain.ensures)) _ _
+    (number_there _) refl refl)
 
 pub behind_name-requires : goal.behind_name-requires
 behind_name-requires c =
-    let inside = end_inside _ _ _ _ c.declaration_at.ensures _ _ _ c.in-Name.is in
-    (c.requires.0.2.short, omega (arith, c.requires.0.2.short, inside))
+    let inside = end_inside _ _ _ _ c.declaration_at.ensures _ c.in_ok-name.was in
+    (c.requires.0.1.short, omega (arith, c.requires.0.1.short, inside))
 
-pub returns-in-Missing : goal.returns-in-Missing
-returns-in-Missing c =
-    declare_missing (book_in c.args.book.now c.args.index.now) c.args.text.now c.args.store.now
-    (table c.args.rows.now) c.args.free c.args.here c.args.names c.args.state _ _ _ _ _ c.skipped-at.ensures
-    c.declaration_at.ensures c.in-Missing.is c.done.ensures c.not_named.ensures
-
-pub returns-else-m-ne0 : goal.returns-else-m-ne0
-returns-else-m-ne0 c =
-    let book = book_in c.args.book.now c.args.index.now in
-    let there = declares_there book c.args.text.now _ _ c.declaration_at.ensures _ _ _ c.in-Name.is in
-    let stands = name_there book c.args.text.now _ _ c.declaration_at.ensures _ _ _ c.in-Name.is in
-    let few = kind_few book c.args.text.now _ _ c.declaration_at.ensures _ _ _ c.in-Name.is in
-    declare_on book c.args.text.now c.args.store.now _ (table c.args.rows.now) _ c.args.free c.args.here
-    c.args.names c.args.state _ _ _ (rw c.skipped-at.ensures at there) (rw c.skipped-at.ensures at stands) (rw
-    c.span_length-size.ensures at c.declare.ensures) _ (c.make-k.ensures (Cell.number 0 _) (kind_cell _ _ few
-    c.number.ensures)) _ c.if-k-ne0.false _ (c.make-m.ensures (Cell.chain c.args.names.kinds _) c.chain.ensures)
-    c.if-m-ne0.false c.requires.1 c.requires.0.0 (table_length _) _ c.behind_name.ensures
+pub returns : goal.returns
+returns c = λ rows.
+    declare_on c.args.book.now c.args.text.now c.args.store.now _ c.args.rows.now _ c.args.free c.args.here
+    c.args.names c.args.state.now _ c.skipped-at.ensures _ c.declaration_at.ensures _ c.in_ok-name.was _
+    c.span_length-size.ensures c.declare.ensures _ _ c.number.ensures (rw c.in_ok-cell.was at c.make.ensures) _ refl _
+    (rw c.in_ok-kinds.was at (c.make-2.ensures (Cell.chain c.args.names.kinds _) c.chain.ensures)) refl
+    c.requires.1 c.requires.0.0 rows _ (c.behind_name.ensures _)

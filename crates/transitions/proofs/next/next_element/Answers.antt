@@ -1,19 +1,23 @@
 -- `transitions::next_element` meets its contract.
-use Rattle.std.proofs.Common.{ap, arith, sym, ◌∙◌}
-use Rattle.book.specs.Index.{book_in}
+use Rattle.std.proofs.Common.{refl, ap, arith, sym, ◌∙◌}
+use Rattle.std.proofs.lemmas.Result.{err_from_is_err_and}
 use Rattle.semantics.specs.Cells.{Cell}
 use Rattle.sets.specs.Sets.{parse_of}
 use Rattle.tokens.specs.Maps.{after_of}
+use Rattle.transitions.specs.OutcomeLaws.{number_there}
 use Rattle.transitions.specs.TakenLaws.{goes_fits, halts_fits}
 use Rattle.transitions.specs.NextLaws.{element_limit, element_on, element_last}
 use Rattle.transitions.proofs.next.next_element.Goals as goal
 
-pub returns-then-m-ne0 : goal.returns-then-m-ne0
-returns-then-m-ne0 c =
-    let book = book_in c.args.book.now c.args.index.now in
-    element_limit book c.args.text.now c.args.store.now _ c.args.here.variant c.args.here.items c.args.list
-    (parse_of c.args.q) c.args.state _ (c.make-m.ensures (Cell.chain c.args.list.values c.args.q.value)
-    c.chain.ensures) _ _ c.if-m-ne0.true c.reached_with.ensures c.then_steps.ensures
+pub returns-in_err-values : goal.returns-in_err-values
+returns-in_err-values c =
+    let p = err_from_is_err_and c.from_residual.result c.from_residual.ensures.1 in
+    rw (p.1, p.2)
+    (element_limit c.args.book.now c.args.text.now c.args.store.now _ c.args.here.variant c.args.here.items c.args.list
+    (parse_of c.args.q) c.args.state.now _
+    (rw c.in_err-values.was at (c.make.ensures (Cell.chain c.args.list.values c.args.q.value) c.chain.ensures)) _ _
+    (number_there _)
+    refl refl)
 
 pub overflow_cast-result : goal.overflow_cast-result
 overflow_cast-result c = omega (
@@ -34,15 +38,24 @@ stop-requires c = c.requires
 
 pub returns-in-Goes : goal.returns-in-Goes
 returns-in-Goes c =
-    let book = book_in c.args.book.now c.args.index.now in
-    element_on book c.args.text.now c.args.store.now _ c.args.here.variant c.args.here.items c.args.list (parse_of
-    c.args.q) c.args.state _ (c.make-m.ensures (Cell.chain c.args.list.values c.args.q.value) c.chain.ensures)
-    c.if-m-ne0.false _ c.after_element.ensures _ _ c.in-Goes.is c.done-outcome.ensures
+    element_on c.args.book.now c.args.text.now c.args.store.now _ c.args.here.variant c.args.here.items c.args.list
+    (parse_of c.args.q) c.args.state.now _
+    (rw c.in_ok-values.was at (c.make.ensures (Cell.chain c.args.list.values c.args.q.value) c.chain.ensures))
+    refl _ c.after_element.ensures _ _ c.in-Goes.is refl
 
-pub returns-in-Halts : goal.returns-in-Halts
-returns-in-Halts c =
-    let book = book_in c.args.book.now c.args.index.now in
-    element_last book c.args.text.now c.args.store.now _ c.args.here.variant c.args.here.items c.args.list
-    (parse_of c.args.q) c.args.state _ (c.make-m.ensures (Cell.chain c.args.list.values c.args.q.value)
-    c.chain.ensures) c.if-m-ne0.false _ c.after_element.ensures _ _ _ _ c.in-Halts.is c.stop.ensures
-    c.then_steps-in-Halts.ensures
+pub returns-in_err-r-in-Halts : goal.returns-in_err-r-in-Halts
+returns-in_err-r-in-Halts c =
+    let p = err_from_is_err_and c.from_residual-in_err-r-in-Halts.result c.from_residual-in_err-r-in-Halts.ensures.1 in
+    rw (p.1, p.2)
+    (element_last c.args.book.now c.args.text.now c.args.store.now _ c.args.here.variant c.args.here.items c.args.list
+    (parse_of c.args.q) c.args.state.now _
+    (rw c.in_ok-values.was at (c.make.ensures (Cell.chain c.args.list.values c.args.q.value) c.chain.ensures))
+    refl _ c.after_element.ensures _ _ _ _ c.in-Halts.is (rw c.in_err-r-in-Halts.was at c.stop.ensures) refl)
+
+pub returns-in_ok-r-in-Halts : goal.returns-in_ok-r-in-Halts
+returns-in_ok-r-in-Halts c =
+    rw c.then_steps.ensures (element_last c.args.book.now c.args.text.now c.args.store.now _ c.args.here.variant
+    c.args.here.items c.args.list
+    (parse_of c.args.q) c.args.state.now _
+    (rw c.in_ok-values.was at (c.make.ensures (Cell.chain c.args.list.values c.args.q.value) c.chain.ensures))
+    refl _ c.after_element.ensures _ _ _ _ c.in-Halts.is (rw c.in_ok-r-in-Halts.was at c.stop.ensures) refl)

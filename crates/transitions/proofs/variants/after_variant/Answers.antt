@@ -1,17 +1,13 @@
 -- `transitions::after_variant` meets its contract.
-use Rattle.std.proofs.Common.{refl}
-use Rattle.book.specs.Index.{book_in}
-use Rattle.transitions.specs.EndingLaws.{variant_limit, variant_done}
+use Rattle.std.proofs.Common.{refl, sym}
+use Rattle.transitions.specs.OutcomeLaws.{failure_done}
+use Rattle.transitions.specs.Results.{done_with}
+use Rattle.transitions.specs.EndingLaws.{variant_done}
 use Rattle.transitions.proofs.variants.after_variant.Goals as goal
 
-pub returns-then-o-ne0 : goal.returns-then-o-ne0
-returns-then-o-ne0 c =
-    variant_limit (book_in c.args.book.now c.args.index.now) c.args.j c.args.start c.args.before
-    c.args.o _ c.if-o-ne0.true refl
-
 pub returns : goal.returns
-returns c =
-    variant_done (book_in c.args.book.now c.args.index.now) c.args.j c.args.start c.args.before c.args.o _ _
-    c.failure_of-first.result c.failure_of-second.result c.counted.result c.join_with.result c.if-o-ne0.false
-    c.failure_of-first.ensures c.failure_of-second.ensures c.variant-variant.ensures c.counted.ensures
-    c.join_with.ensures c.done.ensures
+returns c = λ s t.
+    variant_done c.args.book.now c.args.j c.args.start (done_with c.args.before s) (done_with c.args.failure t) _ _
+    c.args.before c.args.failure c.counted.result c.join_with.result refl
+    (sym (failure_done c.args.before s)) (sym (failure_done c.args.failure t)) c.variant-variant.ensures
+    c.counted.ensures c.join_with.ensures refl

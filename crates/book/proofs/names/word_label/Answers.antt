@@ -1,7 +1,0 @@
--- `book::word_label` meets its contract.
-use Rattle.book.specs.Index.{book_in}
-use Rattle.book.proofs.names.word_label.Goals as goal
-
-pub returns : goal.returns
-unfolding book_in
-returns c = c.label.ensures

@@ -1,8 +1,0 @@
--- `cells::chain` meets its contract.
-use Rattle.std.proofs.Common.{refl}
-use Rattle.semantics.specs.Cells.{numbers_of}
-use Rattle.cells.proofs.numbers.chain.Goals as goal
-
-pub returns : goal.returns
-unfolding numbers_of
-returns c = refl

@@ -1,0 +1,2 @@
+-- Laws that no proof of a function needs.
+pub mod CopyingLaws
