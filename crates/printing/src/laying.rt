@@ -35,12 +35,23 @@ impl<'a> Part<'a> {
         }
     }
 
+    // What `byte` does with each, with the counts in locals: read from the part anew at each byte, long spellings take twice
+    // the time.
     pub fn bytes(&mut self, bytes: &[u8])
         ensures { Lays self.old self.new bytes.now }
     {
+        let mut skip = self.skip;
+        let mut size = self.size;
         for each in bytes {
-            self.byte(*each);
+            if 0 < skip {
+                skip -= 1;
+            } else if size < self.out.len() {
+                self.out[size] = *each;
+                size += 1;
+            }
         }
+        self.skip = skip;
+        self.size = size;
     }
 
     // A number, in decimal. No `Display`: the contract names each byte, and a part may begin within the number.
