@@ -77,8 +77,8 @@ module _ {at : Laid} {out : List ℕ} where
       (λ u. record { is = sym (laid_full at out w (ltb-false 0 at.skip t) (leb-true (length out) at.size u)) })
       (λ u. clash e (rw (t, u))))
 
-  pub then_in : {v w out' out'' : List ℕ} {at' at'' : Laid} → LaysIn at out v out' at' → LaysIn at' out' w out'' at'' →
-      LaysIn at out (v ++ w) out'' at''
+  pub then_in : {v w out' out'' : List ℕ} {at' at'' : Laid} →
+      LaysIn at out v out' at' → LaysIn at' out' w out'' at'' → LaysIn at out (v ++ w) out'' at''
   then_in {v} {w} p q =
       record { is = q.is ∙ ap (λ (s : Filling). laid s w) p.is ∙ sym (laid_append (at, out) v w) }
 
