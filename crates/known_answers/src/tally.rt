@@ -4,6 +4,9 @@ use crate::difference::Difference;
 use std::io;
 use std::io::Stdout;
 
+// No list has more; so the counts fit.
+pub const MOST_CASES: u32 = 1000000;
+
 #[derive(Clone, Copy)]
 pub struct Tally {
     cases: u32,
@@ -12,6 +15,10 @@ pub struct Tally {
     name: &'static str,
     // Where the cases that differ are written.
     out: Stdout,
+}
+
+fn one_more(n: u32) -> u32 {
+    n.saturating_add(1).min(MOST_CASES)
 }
 
 impl Tally {
@@ -25,11 +32,11 @@ impl Tally {
     }
 
     pub fn case(&mut self, difference: Option<Difference>) -> io::Result<()> {
-        self.cases = self.cases.saturating_add(1);
+        self.cases = one_more(self.cases);
         let Some(difference) = difference else {
             return Ok(());
         };
-        self.differ = self.differ.saturating_add(1);
+        self.differ = one_more(self.differ);
         println!(self.out; "{} {}: {difference}", self.name, self.cases)
     }
 
