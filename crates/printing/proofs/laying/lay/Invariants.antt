@@ -5,4 +5,5 @@ use Rattle.printing.proofs.laying.lay.Given as goal
 
 abbrev pub invariant-loop-byte : goal.invariant-loop-byte
 invariant-loop-byte l =
-    LaysIn (laid_at l.initial.skip l.initial.size) l.initial.out (take l.byte-index l.bytes) l.out (laid_at l.skip l.size)
+    let at = laid_at l.initial.skip l.initial.size in
+    LaysIn at l.initial.out (take l.byte-index l.bytes) l.out (laid_at l.skip l.size)

@@ -12,8 +12,8 @@ loop-i-preserved c =
     let loop = c.loop-i in
     let numbers = c.args.numbers.now in
     λ lent e. ap (λ (m : List ℕ). set m loop.i (get_or numbers loop.i 0)) (loop.invariant lent e)
-        ∙ copy_again _ lent numbers loop.i (omega (arith, c.loop-i-test.true, c.requires))
-        (omega (arith, c.loop-i-test.true))
+    ∙ copy_again _ lent numbers loop.i (omega (arith, c.loop-i-test.true, c.requires))
+    (omega (arith, c.loop-i-test.true))
 
 pub returns : goal.returns
 returns c =
