@@ -1,5 +1,5 @@
 // Counts cases, and writes those that differ. `layer_cases` counts its own, which have no differences to write: a
-// library for both would be no more than these two counters.
+// library for both would be no more than these two counters and a loop that reads.
 use crate::difference::Difference;
 use std::io;
 use std::io::Stdout;

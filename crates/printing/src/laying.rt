@@ -17,7 +17,7 @@ pub struct Part<'a> {
 }
 
 // Bytes one after the other, and how many are then still to be skipped and how many stored. Slice and counts are values
-// here: read from a part anew at each byte, long spellings take twice the time.
+// here: read from a part anew at each byte, a long spelling takes half as much time again.
 fn lay(out: &mut [u8], skip: usize, size: usize, bytes: &[u8]) -> (usize, usize)
     ensures { LaysIn (laid_at skip size) out.old bytes.now out.new (laid_at result.0 result.1) }
 {
