@@ -14,7 +14,7 @@ import sys
 CELLS, PARSES = 12288, 256  # how many numbers of each list a call writes
 BEYOND = 3  # how many more are lent, to see that they stay
 ROOM = 12  # how many more the crate known_answers has room for
-LONGEST = 131072  # the bytes of the longest line that it has room for; a record holds its line
+LONGEST = 131072  # the bytes of its longest record
 REFUSAL, PLACE, KIND, ARGUMENT, WORK, NUMBER_OF_PARSES, VALUE = range(7)  # of an answer
 
 

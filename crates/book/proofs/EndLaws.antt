@@ -1,13 +1,14 @@
 -- Laws of what comes after the five sections.
 --
 --   pass-            the loop over the variants: those before a number pass
---   says-            a verdict that is an outcome's has its numbers
+--   says-            a verdict that is an outcome's (IsVerdict) has its numbers, and is the one that `verdict` gives
 --   passes-          whether one variant passes
 --   into-            the check with an index that is long enough, and with one that isn't
 --   checks-          the check: refused in a section, at a passing variant, for bytes left over; or accepted
 --
 -- Not here: the sections (SectionLaws, WholeLaws).
-use Rattle.std.specs.Prelude.{◌≡◌, Ok, Err, true, false, List, [], ◌∷◌, ◌++◌, map, ℕ, zero, suc, ◌+◌, ◌≤◌, ◌<◌, drop}
+use Rattle.std.specs.Prelude.{◌≡◌, Ok, Err, IsErrAnd, true, false, List, [], ◌∷◌, ◌++◌, map, ℕ, zero, suc, ◌+◌, ◌≤◌}
+use Rattle.std.specs.Prelude.{◌<◌, drop}
 use Rattle.std.proofs.Math.Path.{refl}
 use Rattle.std.proofs.Common.{ap, ◌∙◌, drop_of_length-le}
 use native.Mathlib.Omega.{arith}
@@ -117,17 +118,29 @@ fault_back Fault.BadField = refl
 fault_back Fault.BadPassing = refl
 fault_back Fault.BytesLeftOver = refl
 
--- of an outcome whose number is a fault's
-pub says_case : (o : Outcome) (r : Verdict) → refusal_of (verdict o) ≡ outcome_refusal o → r ≡ verdict o → Says o r
-says_case (Outcome.book b) r n e = record { refusal = ap refusal_of e; place = ap place_of e; case = e }
-says_case (Outcome.refusal number place) r n e =
-    record { refusal = ap refusal_of e ∙ n; place = ap place_of e; case = e }
+-- A verdict is an outcome's: it accepts a book, or refuses with the number and the place. By `verdict` alone this can't
+-- be said, which of a number that is no fault's makes a fault with another number
+abbrev pub IsVerdict : Outcome → Verdict → Type 0
+IsVerdict (Outcome.book b) r = r ≡ Ok tt
+IsVerdict (Outcome.refusal number place) r = IsErrAnd r (λ d. (fault_number d.fault ≡ number) × (d.place ≡ place))
+
+pub says_case : (o : Outcome) (r : Verdict) → IsVerdict o r → Says o r
+says_case (Outcome.book b) r e = record { refusal = ap refusal_of e; place = ap place_of e; case = e }
+says_case (Outcome.refusal number place) (Ok u) h = absurd h
+says_case (Outcome.refusal number place) (Err d) h =
+    record { refusal = h.0; place = h.1; case = rw (← h.0, ← h.1, fault_back d.fault) }
+
+-- where an outcome's number is a fault's, its verdict is the one that `verdict` gives
+pub verdict_is : (o : Outcome) (r : Verdict) → refusal_of (verdict o) ≡ outcome_refusal o → r ≡ verdict o →
+    IsVerdict o r
+verdict_is (Outcome.book b) r n e = e
+verdict_is (Outcome.refusal number place) r n e = rw e (n, refl)
 
 pub says_refused : (d : Refusal) {o : Outcome} → o ≡ Outcome.refusal (fault_number d.fault) d.place → Says o (Err d)
-says_refused d e = rw e (says_case _ _ (ap fault_number (fault_back d.fault)) (rw (fault_back d.fault)))
+says_refused d e = rw e (says_case _ (Err d) (refl, refl))
 
 pub says_book : {b : Book} {o : Outcome} → o ≡ Outcome.book b → Says o (Ok tt)
-says_book e = rw e (says_case _ _ refl refl)
+says_book e = rw e (says_case _ _ refl)
 
 refused_checks : (book f g : List ℕ) (d : Refusal) → entire_book book 0 ≡ refused_as d → KeptOutside 0 1091 f g →
     Checks book f g (Err d)
@@ -145,7 +158,7 @@ module _ (book f g : List ℕ) (part : Part) (s : SectionsRead book f g part) wh
   checks_sections {d} told = refused_checks book f g d (entire_is book ∙ s.reads (rest book) ∙ rw told) s.kept
 
   module _ (r : Read) (told : part ≡ Ok r) (passed : Verdict)
-      (p_is : (next : ℕ) → all_pass (book_in book g).steps (placed_in book g) book next ≡ passed_of passed next) where
+      (p_is : all_pass (book_in book g).steps (placed_in book g) book r.next ≡ passed_of passed r.next) where
     the_rest : entire_book book 0 ≡ rest book (entries_in book g 0) (entries_in book g 129) (nonterminals_in book g)
         (placed_in book g) (steps_in book g) r.next
     the_rest = entire_is book ∙ s.reads (rest book) ∙ follow_read part _ told
@@ -155,7 +168,7 @@ module _ (book f g : List ℕ) (part : Part) (s : SectionsRead book f g part) wh
     steps_are = refl
 
     pass_is : all_pass (steps_in book g) (placed_in book g) book r.next ≡ passed_of passed r.next
-    pass_is = rw steps_are at (p_is r.next)
+    pass_is = rw steps_are at p_is
 
     -- a variant doesn't pass
     pub checks_passing : {d : Refusal} → passed ≡ Err d → Checks book f g (Err d)

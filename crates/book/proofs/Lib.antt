@@ -6,4 +6,5 @@ pub mod ReadingLaws
 pub mod BinderLaws
 pub mod WholeLaws
 pub mod EndLaws
+pub mod FaultLaws
 pub mod BoundLaws

@@ -225,13 +225,15 @@ module _ (names : List Entry) (wanted : List ℕ) (i : ℕ) where
         (take-suc names (i - 1) (record { label = 0; spelling = [] }) (omega arith))
         ∙ lookup_snoc None 0 (take (i - 1) names) (nth_entry names (i - 1)) wanted ∙ rw l
 
-    pub last_hit : (kind : ℕ) → same wanted (nth_entry names (i - 1)).spelling ≡ true →
-        kind ≡ (nth_entry names (i - 1)).label → lookup_name (take i names) wanted ≡ Some (named (i - 1) kind)
-    last_hit kind e k = one_name_less ∙ rw (e, k)
+    -- the name that is looked at has the number i - 1
+    module _ (last : ℕ) (last_is : last ≡ i - 1) where
+      pub last_hit : (kind : ℕ) → same wanted (nth_entry names last).spelling ≡ true →
+          kind ≡ (nth_entry names last).label → lookup_name (take i names) wanted ≡ Some (named last kind)
+      last_hit kind e k = one_name_less ∙ rw (← last_is, e, k)
 
-    pub last_on : same wanted (nth_entry names (i - 1)).spelling ≡ false →
-        lookup_name (take i names) wanted ≡ lookup_name (take (i - 1) names) wanted
-    last_on e = one_name_less ∙ rw e
+      pub last_on : same wanted (nth_entry names last).spelling ≡ false →
+          lookup_name (take i names) wanted ≡ lookup_name (take (i - 1) names) wanted
+      last_on e = one_name_less ∙ rw (rw last_is at e)
 
 module _ (book index wanted : List ℕ) where
   abbrev name_from : ℕ → Entry

@@ -55,7 +55,7 @@ fn label(book: &[u8], index: &[usize], base: usize, i: usize) -> usize
     }
 }
 
-impl<'a> Book<'a> {
+impl<'a> Book<'a, '_> {
     #[tactic(auto, using(crate::proofs::ReadingLaws::words_length))]
     fn words(&self) -> usize
         ensures { result ≡ length self.now.words }

@@ -8,14 +8,15 @@ use crate::records::{Associativity, Mark, Nonterminal, Step, Variant, step_of};
 use characters::byte_at;
 use std::marker::Model;
 
-// A book's bytes and its index. In a contract it is the book of the definitions.
+// A book's bytes and its index. In a contract it is the book of the definitions. Each is lent for a time of its own:
+// a word or a name is a part of the bytes, and outlives the index by which it was found.
 #[derive(Drop)]
-pub struct Book<'a> {
+pub struct Book<'a, 'i> {
     pub(crate) bytes: &'a [u8],
-    pub(crate) index: &'a [usize],
+    pub(crate) index: &'i [usize],
 }
 
-impl<'a> Model for Book<'a> {
+impl<'a, 'i> Model for Book<'a, 'i> {
     ghost use Rattle.book.specs.Book as value;
 
     ghost Value = { value.Book };
@@ -51,8 +52,8 @@ fn argument_after(book: &[u8], at: usize, k: usize) -> u32
     byte_after(book, at, k) as u32
 }
 
-impl<'a> Book<'a> {
-    pub fn new(bytes: &'a [u8], index: &'a [usize]) -> Book<'a>
+impl<'a, 'i> Book<'a, 'i> {
+    pub fn new(bytes: &'a [u8], index: &'i [usize]) -> Book<'a, 'i>
         ensures { result ≡ book_in bytes.now index.now }
     {
         Book { bytes, index }

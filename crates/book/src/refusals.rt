@@ -2,6 +2,21 @@
 ghost use Rattle.std.specs.Prelude.{◌≡◌};
 ghost use Rattle.book.specs.Numbers.{fault_number};
 
+// Their numbers in document 01's table.
+const SHORT_LISTS: usize = 1;
+
+const BOOK_ENDS_EARLY: usize = 3;
+
+const BAD_COUNT: usize = 4;
+
+const BAD_SPELLING: usize = 5;
+
+const BAD_FIELD: usize = 6;
+
+const BAD_PASSING: usize = 7;
+
+const BYTES_LEFT_OVER: usize = 8;
+
 // What is wrong with a book, or with the index that is lent with it.
 #[derive(Clone, Copy, PartialEq, Eq, Debug)]
 pub enum Fault {
@@ -27,13 +42,13 @@ impl Fault {
         ensures { result ≡ fault_number self }
     {
         match self {
-            Fault::ShortIndex => 1,
-            Fault::EndsEarly => 3,
-            Fault::BadCount => 4,
-            Fault::BadSpelling => 5,
-            Fault::BadField => 6,
-            Fault::BadPassing => 7,
-            Fault::BytesLeftOver => 8,
+            Fault::ShortIndex => SHORT_LISTS,
+            Fault::EndsEarly => BOOK_ENDS_EARLY,
+            Fault::BadCount => BAD_COUNT,
+            Fault::BadSpelling => BAD_SPELLING,
+            Fault::BadField => BAD_FIELD,
+            Fault::BadPassing => BAD_PASSING,
+            Fault::BytesLeftOver => BYTES_LEFT_OVER,
         }
     }
 }

@@ -18,7 +18,7 @@ pub fn part(bytes: &[u8], start: usize, size: usize) -> &[u8]
 }
 
 // `==`, in the definitions' words.
-#[tactic(auto, using(crate::proofs::SpellingLaws::same_pointwise))]
+#[tactic(auto, using(crate::proofs::SpellingLaws::same_pointwise, crate::proofs::SpellingLaws::same_lengths))]
 pub fn same_bytes(a: &[u8], b: &[u8]) -> bool
     ensures { result ≡ same a.now b.now }
 {

@@ -21,7 +21,7 @@ pub enum Difference {
         wanted: u64,
         got: u64,
     },
-    // The record ends too early.
+    // The record ends too early, or is too long.
     Unreadable,
 }
 

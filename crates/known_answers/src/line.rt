@@ -1,15 +1,12 @@
 // The printed line compared with the known one.
 use crate::difference::{Difference, Part, of_list, of_number};
-use crate::record::Texts;
+use crate::record::{RECORD_ROOM, Texts};
 use book::{Book, INDEX_SIZE, check_into};
 use printing::print;
 use run::Answer;
 
 // What the room for a line holds before it is printed: a byte that no line has.
 const FILL: u8 = 7;
-
-// The bytes of the longest line.
-const LINE_ROOM: usize = 131072;
 
 // How many bytes were printed: none if the room is too little, which for C is 0 too.
 fn printed(texts: &Texts, cells: &[u32], answer: Answer, out: &mut [u8]) -> usize {
@@ -23,7 +20,7 @@ fn printed(texts: &Texts, cells: &[u32], answer: Answer, out: &mut [u8]) -> usiz
 // In exactly enough room.
 fn in_enough(texts: &Texts, cells: &[u32], answer: Answer) -> Option<Difference> {
     let wanted = texts.line;
-    let mut space = [FILL; LINE_ROOM];
+    let mut space = [FILL; RECORD_ROOM];
     let Some(out) = space.get_mut(..wanted.len()) else {
         return Some(Difference::Unreadable);
     };
@@ -34,8 +31,8 @@ fn in_enough(texts: &Texts, cells: &[u32], answer: Answer) -> Option<Difference>
 
 // In one byte too few, which stay as they are.
 fn in_too_few(texts: &Texts, cells: &[u32], answer: Answer) -> Option<Difference> {
-    let untouched = [FILL; LINE_ROOM];
-    let mut space = [FILL; LINE_ROOM];
+    let untouched = [FILL; RECORD_ROOM];
+    let mut space = [FILL; RECORD_ROOM];
     let Some(out) = space.get_mut(..texts.line.len().saturating_sub(1)) else {
         return Some(Difference::Unreadable);
     };

@@ -14,6 +14,7 @@
 mod difference;
 mod line;
 mod reader;
+mod reading;
 mod record;
 mod replay;
 mod rust;
@@ -22,10 +23,11 @@ mod vector;
 
 use replay::replay;
 use rust::RustAnswer;
-use std::{fs, io};
+use std::fs::File;
+use std::io;
 use vector::Vector;
 
 fn main(rt: HostRuntime) -> io::Result<()> {
-    replay::<Vector>(rt.stdout(), &fs::read(&rt, "vectors.bin")?)?;
-    replay::<RustAnswer>(rt.stdout(), &fs::read(&rt, "rust.bin")?)
+    replay::<Vector>(rt.stdout(), &mut File::open(&rt, "vectors.bin")?)?;
+    replay::<RustAnswer>(rt.stdout(), &mut File::open(&rt, "rust.bin")?)
 }

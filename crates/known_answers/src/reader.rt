@@ -1,4 +1,4 @@
-// The bytes of a list, read from the start on.
+// The bytes of a record, read from the start on.
 #[derive(Clone, Copy)]
 pub struct Reader<'a> {
     rest: &'a [u8],
@@ -7,10 +7,6 @@ pub struct Reader<'a> {
 impl<'a> Reader<'a> {
     pub fn new(rest: &'a [u8]) -> Reader<'a> {
         Reader { rest }
-    }
-
-    pub fn is_empty(&self) -> bool {
-        self.rest.is_empty()
     }
 
     pub fn bytes(&mut self, size: usize) -> Option<&'a [u8]> {

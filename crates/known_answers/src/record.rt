@@ -3,6 +3,9 @@
 use crate::difference::Difference;
 use crate::reader::Reader;
 
+// The bytes of the longest record.
+pub const RECORD_ROOM: usize = 131072;
+
 // The lengths, in bytes.
 #[derive(Clone, Copy)]
 pub struct Lengths {
@@ -17,6 +20,13 @@ pub struct Texts<'a> {
     pub book: &'a [u8],
     pub text: &'a [u8],
     pub line: &'a [u8],
+}
+
+// What stands behind a head.
+#[derive(Clone, Copy)]
+pub struct Body<'a> {
+    pub texts: Texts<'a>,
+    pub numbers: &'a [[u8; 4]],
 }
 
 impl Lengths {
@@ -39,16 +49,43 @@ impl<'a> Texts<'a> {
     }
 }
 
-// A call with its known answer.
-pub trait Record<'a>: Copy {
+impl<'a> Body<'a> {
+    pub fn read<R: Record>(list: &mut Reader<'a>, record: &R) -> Option<Body<'a>> {
+        Some(Body {
+            texts: Texts::read(list, record.lengths())?,
+            numbers: list.numbers(record.count())?,
+        })
+    }
+}
+
+// A call with its known answer: the head of a record, which tells what stands behind it.
+pub trait Record: Copy {
     // What a record is called, and what several are.
     const NAME: &'static str;
 
     const NAMES: &'static str;
 
-    // The next record of a list.
-    fn read(list: &mut Reader<'a>) -> Option<Self>;
+    // The bytes of a head.
+    const HEAD_SIZE: usize;
+
+    // None if the head is cut short.
+    fn read(head: &mut Reader) -> Option<Self>;
+
+    fn lengths(&self) -> Lengths;
+
+    // How many numbers stand behind the line.
+    fn count(&self) -> usize;
 
     // The first difference of what the call answers.
-    fn difference(&self) -> Option<Difference>;
+    fn difference(&self, body: &Body) -> Option<Difference>;
+}
+
+// The bytes of a whole record.
+pub fn size_of<R: Record>(record: &R) -> usize {
+    let lengths = record.lengths();
+    R::HEAD_SIZE
+        .saturating_add(lengths.book)
+        .saturating_add(lengths.text)
+        .saturating_add(lengths.line)
+        .saturating_add(record.count().saturating_mul(4))
 }

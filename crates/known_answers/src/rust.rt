@@ -4,7 +4,7 @@
 use crate::difference::{Difference, Part, of_list, of_number};
 use crate::line::of_line;
 use crate::reader::{Reader, write_numbers};
-use crate::record::{Lengths, Record, Texts};
+use crate::record::{Body, Lengths, Record, Texts};
 use cells::CELLS_SIZE;
 use run::{Answer, MOST_UNITS, NO_PARSE, read};
 use sets::{PARSE_SIZE, PARSES_SIZE};
@@ -20,20 +20,19 @@ const ANSWER_PLACE: usize = 1;
 const ANSWER_PARSES: usize = 5;
 
 #[derive(Clone, Copy)]
-pub struct RustAnswer<'a> {
+pub struct RustAnswer {
+    lengths: Lengths,
     start: u32,
     refusal: u32,
     place: u32,
-    count: u32,
-    texts: Texts<'a>,
-    parses: &'a [[u8; 4]],
+    parses: u32,
 }
 
 fn of_answer_number(place: usize, wanted: u32, got: u32) -> Option<Difference> {
     of_number(Part::Answer, place, u64::from(wanted), u64::from(got))
 }
 
-impl<'a> RustAnswer<'a> {
+impl RustAnswer {
     // The place is compared where there is no parse.
     fn of_place(&self, answer: Answer) -> Option<Difference> {
         if answer.refusal != NO_PARSE {
@@ -45,62 +44,66 @@ impl<'a> RustAnswer<'a> {
     fn of_answer(&self, answer: Answer) -> Option<Difference> {
         of_answer_number(ANSWER_REFUSAL, self.refusal, answer.refusal)
             .or(self.of_place(answer))
-            .or(of_answer_number(ANSWER_PARSES, self.count, answer.parses))
-    }
-
-    // Of each parse that is given, all but the cell.
-    fn of_parses(&self, parses: &[u32; PARSES_SIZE]) -> Option<Difference> {
-        let mut wanted = *parses;
-        let given = self.parses.chunks_exact(RUST_PARSE_SIZE);
-        for (parse, numbers) in wanted.chunks_exact_mut(PARSE_SIZE).zip(given) {
-            write_numbers(parse, numbers);
-        }
-        of_list(Part::Parses, &wanted, parses)
-    }
-
-    // The line of a value; a refusal has none in the list.
-    fn of_value(&self, cells: &[u32], answer: Answer) -> Option<Difference> {
-        if answer.refusal != 0 {
-            return of_number(Part::LineSize, 0, self.texts.line.len() as u64, 0);
-        }
-        of_line(&self.texts, cells, answer)
+            .or(of_answer_number(ANSWER_PARSES, self.parses, answer.parses))
     }
 }
 
-impl<'a> Record<'a> for RustAnswer<'a> {
+// Of each parse that is given, all but the cell.
+fn of_parses(given: &[[u8; 4]], parses: &[u32; PARSES_SIZE]) -> Option<Difference> {
+    let mut wanted = *parses;
+    let given = given.chunks_exact(RUST_PARSE_SIZE);
+    for (parse, numbers) in wanted.chunks_exact_mut(PARSE_SIZE).zip(given) {
+        write_numbers(parse, numbers);
+    }
+    of_list(Part::Parses, &wanted, parses)
+}
+
+// The line of a value; a refusal has none in the list.
+fn of_value(texts: &Texts, cells: &[u32], answer: Answer) -> Option<Difference> {
+    if answer.refusal != 0 {
+        return of_number(Part::LineSize, 0, texts.line.len() as u64, 0);
+    }
+    of_line(texts, cells, answer)
+}
+
+impl Record for RustAnswer {
     const NAME: &'static str = "answer of the Rust";
 
     const NAMES: &'static str = "answers of the Rust";
 
-    fn read(list: &mut Reader<'a>) -> Option<RustAnswer<'a>> {
-        let lengths = Lengths::read(list)?;
-        let start = list.number()?;
-        let refusal = list.number()?;
-        let place = list.number()?;
-        let count = list.number()?;
+    const HEAD_SIZE: usize = 4 * 7;
+
+    fn read(head: &mut Reader) -> Option<RustAnswer> {
         Some(RustAnswer {
-            start,
-            refusal,
-            place,
-            count,
-            texts: Texts::read(list, lengths)?,
-            parses: list.numbers((count as usize).checked_mul(RUST_PARSE_SIZE)?)?,
+            lengths: Lengths::read(head)?,
+            start: head.number()?,
+            refusal: head.number()?,
+            place: head.number()?,
+            parses: head.number()?,
         })
     }
 
-    fn difference(&self) -> Option<Difference> {
+    fn lengths(&self) -> Lengths {
+        self.lengths
+    }
+
+    fn count(&self) -> usize {
+        (self.parses as usize).saturating_mul(RUST_PARSE_SIZE)
+    }
+
+    fn difference(&self, body: &Body) -> Option<Difference> {
         let mut cells = [0u32; CELLS_SIZE];
         let mut parses = [0u32; PARSES_SIZE];
         let answer = read(
-            self.texts.book,
-            self.texts.text,
+            body.texts.book,
+            body.texts.text,
             self.start,
             MOST_UNITS,
             &mut cells,
             &mut parses,
         );
         self.of_answer(answer)
-            .or(self.of_parses(&parses))
-            .or(self.of_value(&cells, answer))
+            .or(of_parses(body.numbers, &parses))
+            .or(of_value(&body.texts, &cells, answer))
     }
 }

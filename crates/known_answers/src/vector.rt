@@ -4,7 +4,7 @@
 use crate::difference::{Difference, Part, of_list};
 use crate::line::of_line;
 use crate::reader::{Reader, write_numbers};
-use crate::record::{Lengths, Record, Texts};
+use crate::record::{Body, Lengths, Record, Texts};
 use cells::CELLS_SIZE;
 use run::{Answer, read};
 use sets::PARSES_SIZE;
@@ -20,7 +20,8 @@ const CELLS_ROOM: usize = CELLS_SIZE + BEYOND;
 const PARSES_ROOM: usize = PARSES_SIZE + BEYOND;
 
 #[derive(Clone, Copy)]
-pub struct Vector<'a> {
+pub struct Vector {
+    lengths: Lengths,
     start: u32,
     allowance: u32,
     cells_lent: usize,
@@ -28,9 +29,8 @@ pub struct Vector<'a> {
     answer: Answer,
     // whether the call writes the lists
     written: bool,
-    texts: Texts<'a>,
-    cells: &'a [[u8; 4]],
-    parses: &'a [[u8; 4]],
+    cells_given: usize,
+    parses_given: usize,
 }
 
 fn read_answer(list: &mut Reader) -> Option<Answer> {
@@ -51,13 +51,13 @@ fn numbers_of(a: Answer) -> [u32; 7] {
     ]
 }
 
-impl<'a> Vector<'a> {
-    fn call(&self, cells: &mut [u32], parses: &mut [u32]) -> Answer {
+impl Vector {
+    fn call(&self, texts: &Texts, cells: &mut [u32], parses: &mut [u32]) -> Answer {
         let cells_lent = self.cells_lent.min(cells.len());
         let parses_lent = self.parses_lent.min(parses.len());
         read(
-            self.texts.book,
-            self.texts.text,
+            texts.book,
+            texts.text,
             self.start,
             self.allowance,
             &mut cells[..cells_lent],
@@ -65,8 +65,8 @@ impl<'a> Vector<'a> {
         )
     }
 
-    // A list after the call: if it is written, the numbers that are given and zeros behind them; the rest as it was
-    // before.
+    // A list after the call: if it is written, the numbers that are given, as many as it has room for, and zeros behind
+    // them up to what a call writes; the rest as it was before.
     fn of_lent<const ROOM: usize>(
         &self,
         part: Part,
@@ -75,50 +75,53 @@ impl<'a> Vector<'a> {
     ) -> Option<Difference> {
         let mut wanted = [FILL; ROOM];
         if self.written {
-            let written = &mut wanted[..ROOM.saturating_sub(BEYOND)];
-            written.fill(0);
-            write_numbers(written, given);
+            wanted[..ROOM.saturating_sub(BEYOND)].fill(0);
+            write_numbers(&mut wanted, given);
         }
         of_list(part, &wanted, list)
     }
 }
 
-impl<'a> Record<'a> for Vector<'a> {
+impl Record for Vector {
     const NAME: &'static str = "vector";
 
     const NAMES: &'static str = "vectors";
 
-    fn read(list: &mut Reader<'a>) -> Option<Vector<'a>> {
-        let lengths = Lengths::read(list)?;
-        let start = list.number()?;
-        let allowance = list.number()?;
-        let cells_lent = list.count()?;
-        let parses_lent = list.count()?;
-        let answer = read_answer(list)?;
-        let written = list.number()? != 0;
-        let cells_given = list.count()?;
-        let parses_given = list.count()?;
+    const HEAD_SIZE: usize = 4 * 17;
+
+    fn read(head: &mut Reader) -> Option<Vector> {
         Some(Vector {
-            start,
-            allowance,
-            cells_lent,
-            parses_lent,
-            answer,
-            written,
-            texts: Texts::read(list, lengths)?,
-            cells: list.numbers(cells_given)?,
-            parses: list.numbers(parses_given)?,
+            lengths: Lengths::read(head)?,
+            start: head.number()?,
+            allowance: head.number()?,
+            cells_lent: head.count()?,
+            parses_lent: head.count()?,
+            answer: read_answer(head)?,
+            written: head.number()? != 0,
+            cells_given: head.count()?,
+            parses_given: head.count()?,
         })
     }
 
+    fn lengths(&self) -> Lengths {
+        self.lengths
+    }
+
+    fn count(&self) -> usize {
+        self.cells_given.saturating_add(self.parses_given)
+    }
+
     // The answer first, then the cells and the parses, then the line.
-    fn difference(&self) -> Option<Difference> {
+    fn difference(&self, body: &Body) -> Option<Difference> {
+        let (cells_given, parses_given) = body
+            .numbers
+            .split_at(self.cells_given.min(body.numbers.len()));
         let mut cells = [FILL; CELLS_ROOM];
         let mut parses = [FILL; PARSES_ROOM];
-        let answer = self.call(&mut cells, &mut parses);
+        let answer = self.call(&body.texts, &mut cells, &mut parses);
         of_list(Part::Answer, &numbers_of(self.answer), &numbers_of(answer))
-            .or(self.of_lent(Part::Cells, self.cells, &cells))
-            .or(self.of_lent(Part::Parses, self.parses, &parses))
-            .or(of_line(&self.texts, &cells, answer))
+            .or(self.of_lent(Part::Cells, cells_given, &cells))
+            .or(self.of_lent(Part::Parses, parses_given, &parses))
+            .or(of_line(&body.texts, &cells, answer))
     }
 }

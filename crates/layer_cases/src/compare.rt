@@ -3,25 +3,33 @@ use crate::tally::Tally;
 use book::{Book, INDEX_SIZE, Step, check_into, step_number};
 
 // What is left of the file, and whether all before it was as expected. No Option: the books behind a difference are
-// compared too.
+// compared too. Where a file is cut short, what was cut off counts as bytes of 0, of a book or a spelling as nothing.
 #[derive(Clone, Copy)]
 struct Cursor<'a> {
     rest: &'a [u8],
     same: bool,
 }
 
+// The first byte, and what is behind it.
+fn first_byte(file: &[u8]) -> (u8, &[u8]) {
+    match file.split_first() {
+        Some((byte, rest)) => (*byte, rest),
+        None => (0, file),
+    }
+}
+
+// The first bytes, so many or all that are there, and what is behind them.
+fn first_bytes(file: &[u8], size: usize) -> (&[u8], &[u8]) {
+    file.split_at(size.min(file.len()))
+}
+
 impl<'a> Cursor<'a> {
     // The next byte is `value`.
     fn is(self, value: usize) -> Cursor<'a> {
-        match self.rest.split_first() {
-            Some((byte, rest)) => Cursor {
-                rest,
-                same: self.same && usize::from(*byte) == value,
-            },
-            None => Cursor {
-                rest: self.rest,
-                same: false,
-            },
+        let (byte, rest) = first_byte(self.rest);
+        Cursor {
+            rest,
+            same: self.same && usize::from(byte) == value,
         }
     }
 
@@ -33,16 +41,18 @@ impl<'a> Cursor<'a> {
     // The next bytes are a length and `bytes`.
     fn is_spelling(self, bytes: &[u8]) -> Cursor<'a> {
         let start = self.is(bytes.len());
-        bytes
-            .iter()
-            .fold(start, |cursor, byte| cursor.is(usize::from(*byte)))
+        let (spelling, rest) = first_bytes(start.rest, bytes.len());
+        Cursor {
+            rest,
+            same: start.same && spelling == bytes,
+        }
     }
 
     // The next bytes are a count and so many records.
     fn is_section<F: Fn(Cursor<'a>, usize) -> Cursor<'a>>(self, is_record: F) -> Cursor<'a>
         requires { F.IsAlwaysCallable is_record }
     {
-        let count = self.rest.first().map_or(0, |count| usize::from(*count));
+        let count = usize::from(first_byte(self.rest).0);
         let mut cursor = self.is(count);
         for i in 0..count {
             cursor = is_record(cursor, i);
@@ -122,13 +132,13 @@ fn compare<'a>(book: &[u8], behind: &'a [u8]) -> Cursor<'a> {
 
 // The case at the start of the file: the length of a book in two bytes, the high one first, the book, and what the
 // check answers.
-fn case(file: &[u8]) -> Option<Cursor<'_>> {
-    let (size, rest) = file.split_first_chunk::<2>()?;
-    let (book, rest) = rest.split_at_checked(usize::from(u16::from_be_bytes(*size)))?;
-    Some(compare(book, rest))
+fn case(file: &[u8]) -> Cursor<'_> {
+    let (high, rest) = first_byte(file);
+    let (low, rest) = first_byte(rest);
+    let (book, rest) = first_bytes(rest, usize::from(u16::from_be_bytes([high, low])));
+    compare(book, rest)
 }
 
-// A case that the file cuts short differs, and is the last.
 pub fn cases(tally: &mut Tally, file: &[u8]) {
     let mut rest = file;
     // no more cases than bytes: with this bound the loop ends whatever the comparison leaves of the file
@@ -136,10 +146,7 @@ pub fn cases(tally: &mut Tally, file: &[u8]) {
         if rest.is_empty() {
             return;
         }
-        let Some(cursor) = case(rest) else {
-            tally.case(false);
-            return;
-        };
+        let cursor = case(rest);
         tally.case(cursor.same);
         rest = cursor.rest;
     }

@@ -9,13 +9,19 @@
 mod classes;
 mod compare;
 mod questions;
+mod reading;
 mod skipping;
 mod spellings;
 mod tally;
 mod tokens;
 
-use std::{fs, io};
+use reading::read_full;
+use std::fs::File;
+use std::io;
 use tally::Tally;
+
+// The bytes of the longest file. No list has more, and what a file has beyond them is not read.
+const FILE_ROOM: usize = 262144;
 
 fn main(rt: HostRuntime) -> io::Result<()> {
     let mut characters = Tally::new(rt.stdout());
@@ -26,7 +32,9 @@ fn main(rt: HostRuntime) -> io::Result<()> {
     characters.write("characters")?;
 
     let mut books = Tally::new(rt.stdout());
-    compare::cases(&mut books, &fs::read(&rt, "books.bin")?);
+    let mut space = [0u8; FILE_ROOM];
+    let size = read_full(&mut File::open(&rt, "books.bin")?, &mut space)?;
+    compare::cases(&mut books, &space[..size]);
     books.write("books")?;
 
     let mut questions = Tally::new(rt.stdout());

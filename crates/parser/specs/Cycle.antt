@@ -1,7 +1,7 @@
 -- What the cycle's functions ask and equal. Scaffolding: no definition of document 01.
 --
 -- First what the model of the crate run_model has no function of its own for; then what the contracts ask (CanRun,
--- CanTry, OnPath, OnNames) and which part of the model each function is; then the measure's rank.
+-- OnPath, OnNames) and which part of the model each function is; then the measure's rank.
 use Rattle.std.specs.Prelude.{◌≡◌, List, ℕ, ◌+◌, ◌≤◌, ◌<◌, leb, length}
 use Rattle.std.specs.Prelude.{Option, None}
 use Rattle.characters.specs.Slices.{Slice}

@@ -74,8 +74,6 @@ fn declare(
     if free == 0 {
         return Err(Limit::TooDeep);
     }
-    // The table has row `free`, which keeps the name.
-    prove!(MOST_NESTING < rows.len());
     let name = match declare_name(book, text, store, rows, free, here, names, state) {
         Ok(name) => name,
         Err(ended) => return ended.outcome(),

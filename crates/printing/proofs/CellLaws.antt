@@ -87,7 +87,7 @@ read_none numbers n c e h =
     let form : c.form ≡ 7 = cc in
     record { is = rw form (sym (cell_none numbers n h)); placed = λ other. absurd (other form) }
 
-read_some : (numbers : List ℕ) (n : ℕ) → 0 < n → n * 3 ≤ length numbers
+pub read_some : (numbers : List ℕ) (n : ℕ) → 0 < n → n * 3 ≤ length numbers
     → cell_of (get_or numbers (n * 3 - 3) 0) (get_or numbers (n * 3 - 3 + 1) 0) (get_or numbers (n * 3 - 3 + 2) 0)
     ≡ cell_in numbers n
 read_some numbers n some h =

@@ -1,6 +1,7 @@
 -- Laws of bytes that are laid into a slice.
 --
---   lays_none, lays_then, lays_as    one part of the line after the other
+--   none_in, then_in, as_in          one part of the line after the other
+--   lays_none, lays_then, lays_as    the same of a part of the code's
 --   lays_full                        a full slice stays as it is
 --   byte-                            one byte: skipped, stored, dropped
 --   laid_short, laid_skip            a line that ends before the part that is asked for, and one that doesn't
@@ -64,7 +65,7 @@ laid_full at out [] h l = refl
 laid_full at out (b ∷ w) h l = rw (lay_full at out b h l) (laid_full at out w h l)
 
 module _ {at : Laid} {out : List ℕ} where
-  none_in : LaysIn at out [] out at
+  pub none_in : LaysIn at out [] out at
   unfolding laid
   none_in = record { is = refl }
 
@@ -76,12 +77,12 @@ module _ {at : Laid} {out : List ℕ} where
       (λ u. record { is = sym (laid_full at out w (ltb-false 0 at.skip t) (leb-true (length out) at.size u)) })
       (λ u. clash e (rw (t, u))))
 
-  then_in : {v w out' out'' : List ℕ} {at' at'' : Laid} → LaysIn at out v out' at' → LaysIn at' out' w out'' at'' →
-      LaysIn at out (v ++ w) out'' at''
+  pub then_in : {v w out' out'' : List ℕ} {at' at'' : Laid} →
+      LaysIn at out v out' at' → LaysIn at' out' w out'' at'' → LaysIn at out (v ++ w) out'' at''
   then_in {v} {w} p q =
       record { is = q.is ∙ ap (λ (s : Filling). laid s w) p.is ∙ sym (laid_append (at, out) v w) }
 
-  as_in : {v w out' : List ℕ} {at' : Laid} → LaysIn at out v out' at' → v ≡ w → LaysIn at out w out' at'
+  pub as_in : {v w out' : List ℕ} {at' : Laid} → LaysIn at out v out' at' → v ≡ w → LaysIn at out w out' at'
   as_in p e = rw e at p
 
 module _ {part : Part} where

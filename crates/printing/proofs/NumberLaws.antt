@@ -1,7 +1,7 @@
 -- Laws of numbers.
 --
 --   decimal_digit, decimal_digits     a number in decimal: its last digit, and those before
---   feeds_counted                     line feeds, as the code counts them
+--   feeds_counted                     line feeds, as the library counts what passes a test
 --   column_step, column_end           the loop for the column of a place
 --   after-, column_bounds             the column after a byte
 use Rattle.std.specs.Prelude.{◌≡◌, refl, List, [], ◌∷◌, ◌++◌, ℕ, zero, suc, ◌+◌, ◌/◌, ◌%◌, ◌≤◌, ◌<◌, ltb, eqb, length}

@@ -8,6 +8,9 @@ pub record Laid : Type 0 where
   pub skip : ℕ
   pub size : ℕ
 
+abbrev pub laid_at : ℕ → ℕ → Laid
+laid_at skip size = record { skip = skip; size = size }
+
 -- how far the line has come, and the slice
 abbrev pub Filling : Type 0
 Filling = Laid × List ℕ

@@ -34,7 +34,7 @@ pub fn older(n: u32, cell: u32) -> u32
 
 // The part of the text, or of the book, that a name or a variable is spelled by; of any other cell, a declared variable
 // among them, nothing.
-pub fn spelling<'a>(book: &Book<'a>, text: &'a [u8], cell: CellNumbers) -> &'a [u8]
+pub fn spelling<'a>(book: &Book<'a, '_>, text: &'a [u8], cell: CellNumbers) -> &'a [u8]
     ensures { result.now ≡ spelling_of book.now.names text.now
         (cell_of cell.form cell.a cell.b) }
 {

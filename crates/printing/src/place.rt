@@ -11,7 +11,13 @@ fn line_feeds(bytes: &[u8]) -> usize
     ensures is { result ≡ line_feeds bytes.now }
     ensures most { result ≤ length bytes.now }
 {
-    bytes.iter().filter(|byte| **byte == b'\n').count()
+    let mut found = 0;
+    for byte in bytes {
+        if *byte == b'\n' {
+            found += 1;
+        }
+    }
+    found
 }
 
 // The column behind a byte: a tab moves to the next of 9, 17, 25 and so on. A byte moves by at most 8 and a place has
@@ -22,7 +28,7 @@ fn next_column(column: usize, byte: u8) -> usize
 {
     match byte {
         b'\n' => 1,
-        b'\t' => column.div_ceil(TAB_SIZE) * TAB_SIZE + 1,
+        b'\t' => (column + TAB_SIZE - 1) / TAB_SIZE * TAB_SIZE + 1,
         _ => column + 1,
     }
 }

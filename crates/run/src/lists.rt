@@ -16,13 +16,16 @@ fn clear(lent: &mut [u32], size: usize)
     lent[..size].fill(0);
 }
 
-// The first `size` numbers of a lent list become these, and zeros.
+// The first `size` numbers of a lent list become these, and zeros. Number by number: the library's copy would make the
+// archive for C need `memmove`.
 fn write(lent: &mut [u32], size: usize, numbers: &[u32])
     requires { (size ≤ length lent.old) × (length numbers.now ≤ size) }
     ensures { Writes lent.old lent.new size numbers.now }
 {
     clear(lent, size);
-    lent[..numbers.len()].copy_from_slice(numbers);
+    for i in 0..numbers.len() {
+        lent[i] = numbers[i];
+    }
 }
 
 // The first 256 numbers of a lent list become the parses that the outermost row found, and zeros. By number: the rows

@@ -5,7 +5,7 @@
 -- one that goes on from an outcome, BeginsUse and Opens of a use, Begins of a variant, Stages, StagesIn, StagesAll,
 -- Reaches and GoesOn of a part that calls nothing, OpensBody and DeclaresName of the names of an opening. Then the
 -- parts of the model, from where a path is.
-use Rattle.std.specs.Prelude.{◌≡◌, Bool, List, ◌∷◌, ℕ, ◌≤◌, length}
+use Rattle.std.specs.Prelude.{Bool, List, ◌∷◌, ℕ, ◌≤◌, length}
 use Rattle.std.specs.Prelude.{Option}
 use Rattle.characters.specs.Slices.{Slice}
 use Rattle.book.specs.Book.{Book, nth_step}
@@ -18,7 +18,6 @@ use Rattle.semantics.specs.Run.{Result}
 use Rattle.run_model.specs.Rows.{Row}
 use Rattle.run_model.specs.Model.{RowState, row_state, Outcome, run_identifier_rows, complete_rows}
 use Rattle.run_model.specs.Model.{stops_rows, steps_rows}
-use Rattle.calls.specs.Table.{row_count}
 use Rattle.transitions.specs.Results.{CellOutcome, Entered, Named, Reached, Stage}
 use Rattle.transitions.specs.Results as code
 use Rattle.transitions.specs.declared.outcomes.State.{State}
@@ -112,11 +111,11 @@ GoesOn book text store store' here s g part = steps.GoneFrom text store s store'
 abbrev pub OpensBody : Book → Slice → Slice → Slice → List Row → Progress → Names → State → Reached → Type 0
 OpensBody book text store store' rows here names s r = opening.OpensFrom book text store store' rows here names s r
 
--- a name is declared, and row n of a table with all its rows keeps it
+-- a name is declared, and row n keeps it
 abbrev pub DeclaresName : Book → Slice → Slice → Slice → List Row → List Row → ℕ → Progress → Names → State → Named →
     Type 0
 DeclaresName book text store store' rows rows' n here names s r =
-    length rows ≡ row_count → opening.DeclaresFrom book text store store' rows rows' n here names s r
+    opening.DeclaresFrom book text store store' rows rows' n here names s r
 
 -- ---- Parts of the model
 -- a use of mark 2, in row n and with a binder

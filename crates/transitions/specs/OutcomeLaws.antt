@@ -7,8 +7,8 @@
 -- - cells: cell_ok, cell_met, cells_held, now_held, got_in, makes_at, makes_full
 -- - the cells of a variant: begin_passing, begin_made, with_passing, with_made, value_passing, value_made
 -- - the code's results: number_there, cell_there, spent_there, outcome_there
--- - what a token adds: name_fit, variable_fit, item_nothing, item_cell_lem, item_name, item_number, item_variable,
---   item_declared, token_nothing, token_limit, token_made
+-- - what a token adds: name_fit, variable_fit, item_cell_lem, item_name, item_number, item_variable, item_declared,
+--   token_nothing, token_limit, token_made
 use Rattle.std.specs.Prelude.{◌≡◌, refl, Bool, true, false, List, ℕ, ◌-◌, ◌/◌, ◌%◌, ◌^◌, eqb, length}
 use Rattle.std.proofs.Math.Path.{sym}
 use Rattle.std.proofs.Common.{ap, ◌∙◌, arith, eq-eqb, ne_eqb, lt-ltb}

@@ -16,7 +16,7 @@ use crate::places::skipped;
 use crate::stages::{List, Names, Progress, Reached};
 use crate::steps::stop;
 use book::Book;
-use calls::Rows;
+use calls::{MOST_NESTING, Rows};
 use tokens::After;
 
 // A list of names from its beginning: none is read yet.
@@ -107,6 +107,8 @@ pub fn declare_name(
     let at = skipped(text, here.place);
     let name = tokens::declaration_at(book, text, at)?;
     let size = tokens::span_length(name.place, name.end);
+    // The table has row `free`, which keeps the name.
+    prove!(MOST_NESTING < rows.len());
     rows.declare(free, name.kind as u32, name.place as u32, size as u32);
     let cell = make(text, store, cells::number(name.kind as u64), state)?;
     let kinds = make(text, store, cells::chain(names.kinds, cell), state)?;

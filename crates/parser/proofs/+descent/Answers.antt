@@ -167,18 +167,18 @@ names::declare-returns-in-Err t c =
     rw (c.outcome.ensures c.declare_name.new.state)
     (declare_ended _ _ _ c.args.here _ _ _ _ _ _ (rw c.in_ok-spend.was at c.spend.ensures) refl c.if-free-eq0.false _
     _ _
-    (rw c.in-Err.is at (c.declare_name.ensures (sym c.len.ensures.0 ∙ c.len.ensures.1))) (ended_stops _ _))
+    (rw c.in-Err.is at c.declare_name.ensures) (ended_stops _ _))
 
 pub names::declare-returns-then-name : goal.names::declare-returns-then-name
 names::declare-returns-then-name t c =
     declare_more _ _ _ c.args.here _ _ _ _ _ _ (rw c.in_ok-spend.was at c.spend.ensures) refl c.if-free-eq0.false _ _ _
-    (rw c.in-Ok.is at (c.declare_name.ensures (sym c.len.ensures.0 ∙ c.len.ensures.1))) (goes_done _) _ _ _
+    (rw c.in-Ok.is at c.declare_name.ensures) (goes_done _) _ _ _
     c.if-name.true c.choose.ensures
 
 pub names::declare-returns-else-name : goal.names::declare-returns-else-name
 names::declare-returns-else-name t c =
     declare_last _ _ _ c.args.here _ _ _ _ _ _ (rw c.in_ok-spend.was at c.spend.ensures) refl c.if-free-eq0.false _ _ _
-    (rw c.in-Ok.is at (c.declare_name.ensures (sym c.len.ensures.0 ∙ c.len.ensures.1))) (goes_done _) _ _ _
+    (rw c.in-Ok.is at c.declare_name.ensures) (goes_done _) _ _ _
     c.if-name.false c.close.ensures
 
 pub parser::choice-returns-in_err-first : goal.parser::choice-returns-in_err-first

@@ -1,0 +1,9 @@
+-- `layer_cases::read_full` ends: each turn leaves fewer bytes to be filled, which keep their number.
+use Rattle.std.proofs.Common.{length, ◌-◌, ◌≤◌}
+use Rattle.layer_cases.proofs.reading.read_full.Given as goal
+
+abbrev pub invariant-loop-done : goal.invariant-loop-done
+invariant-loop-done g l = l.done ≤ length l.initial.bytes
+
+abbrev pub decreases-loop-done : goal.decreases-loop-done
+decreases-loop-done g l = length l.initial.bytes - l.done
