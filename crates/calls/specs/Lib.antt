@@ -5,3 +5,4 @@ pub mod CallLaws
 pub mod NamesLaws
 pub mod SettlingLaws
 pub mod View
+pub mod Lent

@@ -6,9 +6,9 @@ ghost use Rattle.run_model.specs.Rows as model;
 ghost use Rattle.run_model.specs.Rows.{row_of};
 ghost use Rattle.calls.specs.Table.{governor_in, governor_row, with_stored_in};
 
-use crate::Rows;
 use crate::openings::is_body;
 use crate::rows::{ASSOCIATIVITY, CHILD, LEVEL, ROW_COUNT, START};
+use crate::{Rows, RowsMut};
 use book::Associativity;
 
 // What the governor of a use says: the minimum, or, for a child at the governor's own start, the governor's row.
@@ -75,12 +75,16 @@ impl<'a> Rows<'a> {
         let associativity = sets::associativity_of(self.get(governor, ASSOCIATIVITY));
         Governor::Minimum(minimum_of(associativity, self.get(governor, LEVEL)))
     }
+}
+
+impl<'a> RowsMut<'a> {
+    ghost use Rattle.calls.specs.Lent.{table_in, SameSlice};
 
     // What a row found are the parses that its governor has stored, filtered; the governor is asked.
     #[tactic(auto, using(crate::specs::SettlingLaws::stored_law))]
     pub fn take_stored(&mut self, row: usize, governor: usize)
         requires { (row < governor) × (governor ≤ most_nesting) }
-        ensures { self.new ≡ with_stored_in self.old row governor }
+        ensures { (table_in self.new ≡ with_stored_in (table_in self.old) row governor) × SameSlice self.old self.new }
     {
         self.put_asked(governor);
         self.put_kept(row, governor);

@@ -1,8 +1,8 @@
-// The table of rows in a lent slice. Only this file and rows/parses.rt read and write the slice.
+// The table of rows in a lent slice, read. Only this file and rows/parses.rt read the slice.
 ghost use Rattle.std.specs.Prelude.{◌≡◌, ◌<◌, ◌≤◌, eqb, length};
 ghost use Rattle.semantics.specs.Numbers.{most_nesting};
 ghost use Rattle.run_model.specs.Rows.{row_of};
-ghost use Rattle.calls.specs.Table.{HasTable, Changed, table, row_count, field_count, field, field_of};
+ghost use Rattle.calls.specs.Table.{HasTable, table, row_count, field_count, field_of};
 
 mod parses;
 
@@ -48,10 +48,10 @@ pub(crate) const RUN_SET: usize = STORED_SET + SET_SIZE;
 
 pub(crate) const ROW_SIZE: usize = RUN_SET + SET_SIZE;
 
-// The table. In a contract it is the list of its rows.
+// The table of a shared slice. In a contract it is the list of its rows.
 #[derive(Drop)]
 pub struct Rows<'a> {
-    numbers: &'a mut [u32],
+    numbers: &'a [u32],
 }
 
 impl<'a> Model for Rows<'a> {
@@ -69,9 +69,9 @@ impl<'a> Model for Rows<'a> {
 
 impl<'a> Rows<'a> {
     // The table that a slice holds, whatever its numbers are.
-    pub fn new(numbers: &'a mut [u32]) -> Rows<'a>
-        requires { HasTable numbers.old }
-        ensures { result ≡ table numbers.old }
+    pub fn new(numbers: &'a [u32]) -> Rows<'a>
+        requires { HasTable numbers.now }
+        ensures { result ≡ table numbers.now }
     {
         Rows { numbers }
     }
@@ -108,14 +108,6 @@ impl<'a> Rows<'a> {
         } else {
             0
         }
-    }
-
-    #[tactic(auto, using(crate::specs::TableLaws::table_field))]
-    pub(crate) fn put(&mut self, row: usize, column: usize, x: u32)
-        requires { (row ≤ most_nesting) × (column < field_count) }
-        ensures { Changed self.old self.new row (field column x) }
-    {
-        self.numbers[row * ROW_SIZE + column] = x;
     }
 
     // The call of a row is open.

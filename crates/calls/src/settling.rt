@@ -3,7 +3,7 @@ ghost use Rattle.std.specs.Prelude.{◌≤◌};
 ghost use Rattle.semantics.specs.Numbers.{most_nesting};
 ghost use Rattle.calls.specs.Table.{SettledFirst, SettledNext};
 
-use crate::Rows;
+use crate::RowsMut;
 use crate::rows::ASKED;
 
 // How a run leaves its call.
@@ -19,20 +19,22 @@ pub enum Settled {
     Full,
 }
 
-impl<'a> Rows<'a> {
+impl<'a> RowsMut<'a> {
+    ghost use Rattle.calls.specs.Lent.{table_in, SameSlice};
+
     // After the first run: its set is the call's. "If a first run found parses and asked for the call's stored ones, ..
     // it is run again"
     #[tactic(auto, using(crate::specs::SettlingLaws::first_run))]
     pub fn settle_first(&mut self, row: usize) -> Settled
         requires { row ≤ most_nesting }
-        ensures { SettledFirst result self.old self.new row }
+        ensures { SettledFirst result (table_in self.old) (table_in self.new) row × SameSlice self.old self.new }
     {
         self.copy_run(row);
-        if self.parse_count(row) == 0 {
+        if self.shared().parse_count(row) == 0 {
             self.end_call(row);
             return Settled::Failed;
         }
-        if self.get(row, ASKED) == 1 {
+        if self.shared().get(row, ASKED) == 1 {
             return Settled::Again;
         }
         self.end_call(row);
@@ -43,9 +45,9 @@ impl<'a> Rows<'a> {
     #[tactic(auto, using(crate::specs::SettlingLaws::further_run))]
     pub fn settle(&mut self, row: usize) -> Settled
         requires { row ≤ most_nesting }
-        ensures { SettledNext result self.old self.new row }
+        ensures { SettledNext result (table_in self.old) (table_in self.new) row × SameSlice self.old self.new }
     {
-        if self.run_in_set(row) {
+        if self.shared().run_in_set(row) {
             self.end_call(row);
             Settled::Over
         } else if self.add_run_to_set(row) {

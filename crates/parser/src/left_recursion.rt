@@ -4,13 +4,14 @@
 // `E = E + E | number` on `1+2`: the first run of E at 0 meets E at 0, which has stored nothing, so that only `number`
 // gives a parse, `1`. The call's parses were asked for, so `1` is stored, and a second run finds `1+2` through it. A
 // third finds nothing new, and the call is over.
+ghost use Rattle.calls.specs.Lent.{table_in, SameSlice};
 ghost use Rattle.transitions.specs.Results.{outcome_of};
 ghost use Rattle.transitions.specs.LayerContracts.{Ready, Does};
 ghost use Rattle.parser.specs.Cycle.{CanRun, runs_again, runs_call, enters};
 
 use crate::parser::one_run;
 use book::Book;
-use calls::Rows;
+use calls::RowsMut;
 use errors::Error;
 use transitions::{Entered, Limit, RunEnd, State, after_first, after_round, begin_use};
 
@@ -23,14 +24,15 @@ fn rounds(
     book: &Book,
     text: &[u8],
     store: &mut [u32],
-    rows: &mut Rows,
+    rows: &mut RowsMut,
     row: usize,
     minimum: usize,
     state: &mut State,
 ) -> Result<Option<Error>, Limit>
     requires { CanRun book.now text.now row }
-    ensures { Does book.now text.now store.old store.new rows.old rows.new state.old (outcome_of result state.new)
-        (runs_again row minimum) }
+    ensures does { Does book.now text.now store.old store.new (table_in rows.old) (table_in rows.new) state.old
+        (outcome_of result state.new) (runs_again row minimum) }
+    ensures slice { SameSlice rows.old rows.new }
 {
     for _round in 0..MOST_ROUNDS {
         let failure = one_run(book, text, store, rows, row, minimum, state)?;
@@ -48,7 +50,7 @@ fn call(
     book: &Book,
     text: &[u8],
     store: &mut [u32],
-    rows: &mut Rows,
+    rows: &mut RowsMut,
     row: usize,
     binder: u32,
     nonterminal: u32,
@@ -57,8 +59,9 @@ fn call(
     state: &mut State,
 ) -> Result<Option<Error>, Limit>
     requires { CanRun book.now text.now row }
-    ensures { Does book.now text.now store.old store.new rows.old rows.new state.old (outcome_of result state.new)
-        (runs_call row binder nonterminal at minimum) }
+    ensures does { Does book.now text.now store.old store.new (table_in rows.old) (table_in rows.new) state.old
+        (outcome_of result state.new) (runs_call row binder nonterminal at minimum) }
+    ensures slice { SameSlice rows.old rows.new }
 {
     rows.open_call(row, binder, nonterminal, at);
     let failure = one_run(book, text, store, rows, row, minimum, state)?;
@@ -75,7 +78,7 @@ pub fn enter(
     book: &Book,
     text: &[u8],
     store: &mut [u32],
-    rows: &mut Rows,
+    rows: &mut RowsMut,
     row: usize,
     binder: u32,
     nonterminal: u32,
@@ -83,8 +86,9 @@ pub fn enter(
     state: &mut State,
 ) -> Result<Option<Error>, Limit>
     requires { Ready book.now text.now row }
-    ensures { Does book.now text.now store.old store.new rows.old rows.new state.old (outcome_of result state.new)
-        (enters row binder nonterminal at) }
+    ensures does { Does book.now text.now store.old store.new (table_in rows.old) (table_in rows.new) state.old
+        (outcome_of result state.new) (enters row binder nonterminal at) }
+    ensures slice { SameSlice rows.old rows.new }
 {
     match begin_use(book, text, store, rows, row, binder, nonterminal, at, state)? {
         Entered::Over(failure) => Ok(failure),

@@ -1,5 +1,6 @@
 // The names of an opening, and the body behind them. Document 02 d, "an opening character, a comma list of names, a
 // closing character, and a body".
+ghost use Rattle.calls.specs.Lent.{table_in, SameSlice};
 ghost use Rattle.transitions.specs.Results.{outcome_of};
 ghost use Rattle.transitions.specs.LayerContracts.{Does};
 ghost use Rattle.parser.specs.Cycle.{OnNames, closes_names, declares_one, chooses_names};
@@ -7,7 +8,7 @@ ghost use Rattle.parser.specs.Cycle.{OnNames, closes_names, declares_one, choose
 use crate::left_recursion::enter;
 use crate::parser::follow;
 use book::Book;
-use calls::{MOST_NESTING, Rows};
+use calls::RowsMut;
 use errors::Error;
 use transitions::{
     Limit, Names, Next, Progress, State, begin_child, both_sides, declare_name, open_body, spend,
@@ -19,17 +20,18 @@ fn close(
     book: &Book,
     text: &[u8],
     store: &mut [u32],
-    rows: &mut Rows,
+    rows: &mut RowsMut,
     free: usize,
     here: Progress,
     names: Names,
     state: &mut State,
 ) -> Result<Option<Error>, Limit>
     requires { OnNames book.now text.now free here names }
-    ensures { Does book.now text.now store.old store.new rows.old rows.new state.old (outcome_of result state.new)
-        (closes_names free here names) }
+    ensures does { Does book.now text.now store.old store.new (table_in rows.old) (table_in rows.new) state.old
+        (outcome_of result state.new) (closes_names free here names) }
+    ensures slice { SameSlice rows.old rows.new }
 {
-    let r = match open_body(book, text, store, rows, here, names, state) {
+    let r = match open_body(book, text, store, &rows.shared(), here, names, state) {
         Ok(r) => r,
         Err(ended) => return ended.outcome(),
     };
@@ -60,15 +62,16 @@ fn declare(
     book: &Book,
     text: &[u8],
     store: &mut [u32],
-    rows: &mut Rows,
+    rows: &mut RowsMut,
     free: usize,
     here: Progress,
     names: Names,
     state: &mut State,
 ) -> Result<Option<Error>, Limit>
     requires { OnNames book.now text.now free here names }
-    ensures { Does book.now text.now store.old store.new rows.old rows.new state.old (outcome_of result state.new)
-        (declares_one free here names) }
+    ensures does { Does book.now text.now store.old store.new (table_in rows.old) (table_in rows.new) state.old
+        (outcome_of result state.new) (declares_one free here names) }
+    ensures slice { SameSlice rows.old rows.new }
 {
     spend(state)?;
     if free == 0 {
@@ -100,20 +103,19 @@ pub fn choose(
     book: &Book,
     text: &[u8],
     store: &mut [u32],
-    rows: &mut Rows,
+    rows: &mut RowsMut,
     free: usize,
     here: Progress,
     names: Names,
     state: &mut State,
 ) -> Result<Option<Error>, Limit>
     requires { OnNames book.now text.now free here names }
-    ensures { Does book.now text.now store.old store.new rows.old rows.new state.old (outcome_of result state.new)
-        (chooses_names free here names) }
+    ensures does { Does book.now text.now store.old store.new (table_in rows.old) (table_in rows.new) state.old
+        (outcome_of result state.new) (chooses_names free here names) }
+    ensures slice { SameSlice rows.old rows.new }
 {
     spend(state)?;
-    // The table has the rows of the names, which `close` leaves as they are.
-    prove!(MOST_NESTING < rows.len());
     let first = close(book, text, store, rows, free, here, names, state)?;
     let second = declare(book, text, store, rows, free, here, names, state)?;
-    Ok(both_sides(text, rows, here, first, second))
+    Ok(both_sides(text, &rows.shared(), here, first, second))
 }

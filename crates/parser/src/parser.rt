@@ -7,6 +7,7 @@
 //
 // What ends the cycle: a call runs its variants, a parse is followed, and what stands behind a declared name is read,
 // with one level less; on one level the steps that remain become fewer.
+ghost use Rattle.calls.specs.Lent.{table_in, SameSlice};
 ghost use Rattle.transitions.specs.Results.{outcome_of, stage_of, done_with};
 ghost use Rattle.transitions.specs.LayerContracts.{Does, Continues};
 ghost use Rattle.parser.specs.Cycle.{CanRun, OnPath};
@@ -15,7 +16,7 @@ ghost use Rattle.parser.specs.Cycle.{runs_once, tries, descends, follows_each, c
 use crate::left_recursion::enter;
 use crate::names::choose;
 use book::Book;
-use calls::Rows;
+use calls::RowsMut;
 use errors::Error;
 use transitions::{
     Doing, Ended, Limit, Next, Progress, Stage, State, after_parse, after_variant, begin_child,
@@ -30,7 +31,7 @@ fn variant(
     book: &Book,
     text: &[u8],
     store: &mut [u32],
-    rows: &mut Rows,
+    rows: &mut RowsMut,
     row: usize,
     minimum: usize,
     j: u32,
@@ -38,14 +39,15 @@ fn variant(
     state: &mut State,
 ) -> Result<Option<Error>, Limit>
     requires { CanRun book.now text.now row }
-    ensures { Does book.now text.now store.old store.new rows.old rows.new state.old (outcome_of result state.new)
-        (tries row minimum j (done_with before state.old)) }
+    ensures does { Does book.now text.now store.old store.new (table_in rows.old) (table_in rows.new) state.old
+        (outcome_of result state.new) (tries row minimum j (done_with before state.old)) }
+    ensures slice { SameSlice rows.old rows.new }
 {
     let variant = book.variant(j as usize);
     if variant.level < minimum {
         return Ok(before);
     }
-    let start = rows.start_of(row);
+    let start = rows.shared().start_of(row);
     let items = begin_variant(book, text, store, rows, row, j, state)?;
     let here = Progress {
         call: row,
@@ -70,16 +72,17 @@ pub fn one_run(
     book: &Book,
     text: &[u8],
     store: &mut [u32],
-    rows: &mut Rows,
+    rows: &mut RowsMut,
     row: usize,
     minimum: usize,
     state: &mut State,
 ) -> Result<Option<Error>, Limit>
     requires { CanRun book.now text.now row }
-    ensures { Does book.now text.now store.old store.new rows.old rows.new state.old (outcome_of result state.new)
-        (runs_once row minimum) }
+    ensures does { Does book.now text.now store.old store.new (table_in rows.old) (table_in rows.new) state.old
+        (outcome_of result state.new) (runs_once row minimum) }
+    ensures slice { SameSlice rows.old rows.new }
 {
-    let nonterminal = rows.nonterminal_of(row);
+    let nonterminal = rows.shared().nonterminal_of(row);
     rows.clear_run(row);
     let called = book.nonterminal(nonterminal as usize);
     let mut failure = None;
@@ -97,7 +100,7 @@ fn descend(
     book: &Book,
     text: &[u8],
     store: &mut [u32],
-    rows: &mut Rows,
+    rows: &mut RowsMut,
     free: usize,
     here: Progress,
     next: Next,
@@ -105,10 +108,11 @@ fn descend(
     state: &mut State,
 ) -> Result<Option<Error>, Limit>
     requires { OnPath book.now text.now free here }
-    ensures { Does book.now text.now store.old store.new rows.old rows.new state.old (outcome_of result state.new)
-        (descends free here next nonterminal) }
+    ensures does { Does book.now text.now store.old store.new (table_in rows.old) (table_in rows.new) state.old
+        (outcome_of result state.new) (descends free here next nonterminal) }
+    ensures slice { SameSlice rows.old rows.new }
 {
-    let binder = rows.inherited_binder(here.call);
+    let binder = rows.shared().inherited_binder(here.call);
     let at = begin_child(text, rows, here);
     let failure = enter(
         book,
@@ -130,7 +134,7 @@ pub fn follow(
     book: &Book,
     text: &[u8],
     store: &mut [u32],
-    rows: &mut Rows,
+    rows: &mut RowsMut,
     free: usize,
     here: Progress,
     next: Next,
@@ -138,19 +142,20 @@ pub fn follow(
     state: &mut State,
 ) -> Result<Option<Error>, Limit>
     requires { OnPath book.now text.now free here }
-    ensures { Continues book.now text.now store.old store.new rows.old rows.new (done_with child state.old)
-        (outcome_of result state.new) (follows_each free here next) }
+    ensures continues { Continues book.now text.now store.old store.new (table_in rows.old) (table_in rows.new)
+        (done_with child state.old) (outcome_of result state.new) (follows_each free here next) }
+    ensures slice { SameSlice rows.old rows.new }
 {
     if child.is_some() {
         return Ok(child);
     }
-    let parses = rows.parse_count(free);
+    let parses = rows.shared().parse_count(free);
     let mut all = child;
     for i in 0..parses {
         if free == 0 {
             return Err(Limit::TooDeep);
         }
-        let q = rows.nth_parse(free, i);
+        let q = rows.shared().nth_parse(free, i);
         let begun = next_of(book, text, store, here, next, q, state);
         let failure = steps(book, text, store, rows, free - 1, here, begun, state)?;
         all = after_parse(i, all, failure);
@@ -165,7 +170,7 @@ fn choice(
     book: &Book,
     text: &[u8],
     store: &mut [u32],
-    rows: &mut Rows,
+    rows: &mut RowsMut,
     free: usize,
     here: Progress,
     next: Next,
@@ -173,8 +178,9 @@ fn choice(
     state: &mut State,
 ) -> Result<Option<Error>, Limit>
     requires { OnPath book.now text.now free here }
-    ensures { Does book.now text.now store.old store.new rows.old rows.new state.old (outcome_of result state.new)
-        (chooses free here next nonterminal) }
+    ensures does { Does book.now text.now store.old store.new (table_in rows.old) (table_in rows.new) state.old
+        (outcome_of result state.new) (chooses free here next nonterminal) }
+    ensures slice { SameSlice rows.old rows.new }
 {
     let begun = first_side(book, text, store, here, next, state);
     let first = steps(book, text, store, rows, free, here, begun, state)?;
@@ -189,7 +195,7 @@ fn choice(
         nonterminal,
         state,
     )?;
-    Ok(both_sides(text, rows, here, first, second))
+    Ok(both_sides(text, &rows.shared(), here, first, second))
 }
 
 // ---- Steps
@@ -201,15 +207,17 @@ fn steps(
     book: &Book,
     text: &[u8],
     store: &mut [u32],
-    rows: &mut Rows,
+    rows: &mut RowsMut,
     free: usize,
     from: Progress,
     begun: Result<Stage, Ended>,
     state: &mut State,
 ) -> Result<Option<Error>, Limit>
     requires { OnPath book.now text.now free from }
-    ensures { Continues book.now text.now store.old store.new rows.old rows.new (stage_of begun state.old).outcome
-        (outcome_of result state.new) (resumes_from free from (stage_of begun state.old)) }
+    ensures continues { Continues book.now text.now store.old store.new (table_in rows.old) (table_in rows.new)
+        (stage_of begun state.old).outcome (outcome_of result state.new)
+        (resumes_from free from (stage_of begun state.old)) }
+    ensures slice { SameSlice rows.old rows.new }
 {
     let mut stage = match begun {
         Ok(stage) => stage,
@@ -232,7 +240,7 @@ fn steps(
                     finish(book, text, store, rows, here, state)?;
                     return Ok(None);
                 }
-                stage = match take_step(book, text, store, rows, here, state) {
+                stage = match take_step(book, text, store, &rows.shared(), here, state) {
                     Ok(stage) => stage,
                     Err(ended) => return ended.outcome(),
                 };

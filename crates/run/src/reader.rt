@@ -7,6 +7,7 @@ ghost use Rattle.book.specs.Numbers.{fault_number};
 ghost use Rattle.semantics.specs.Numbers.{no_parse, first_high_byte};
 ghost use Rattle.semantics.specs.Answer as answers;
 ghost use Rattle.semantics.specs.Answer.{answer, answer_of};
+ghost use Rattle.calls.specs.Lent.{table_in, SameSlice};
 ghost use Rattle.transitions.specs.Fit.{Fits};
 ghost use Rattle.transitions.specs.Results.{outcome_of};
 ghost use Rattle.run.specs.Promise.{answer_in, no_room, Read, ReadIn};
@@ -20,7 +21,7 @@ use crate::refusals::{
 };
 use crate::whole::{Values, whole_values};
 use book::{Book, INDEX_SIZE, Refusal, check_into};
-use calls::{MOST_NESTING, OUTSIDE, ROWS_SIZE, Rows};
+use calls::{MOST_NESTING, OUTSIDE, ROWS_SIZE, Rows, RowsMut};
 use cells::{CELLS_SIZE, STORE_SIZE};
 use characters::skip;
 use errors::Error;
@@ -131,15 +132,14 @@ fn run(
     book: &Book,
     text: &[u8],
     store: &mut [u32],
-    rows: &mut Rows,
+    rows: &mut RowsMut,
     start: u32,
     units: u32,
 ) -> (Result<Option<Error>, Limit>, State)
     requires { CanStart book.now text.now store.old }
-    ensures { RunsText book.now text.now units start store.new rows.new (outcome_of result.0 result.1) }
+    ensures runs { RunsText book.now text.now units start store.new (table_in rows.new) (outcome_of result.0 result.1) }
+    ensures slice { SameSlice rows.old rows.new }
 {
-    // The table has the outermost call's row.
-    prove!(MOST_NESTING < rows.len());
     cells::clear(store);
     let mut state = State { units, cells: 0 };
     let first = skip(text, 0) as u32;
@@ -174,7 +174,7 @@ fn on_book(
     cells: &mut [u32],
     parses: &mut [u32],
     store: &mut [u32],
-    rows: &mut Rows,
+    rows: &mut RowsMut,
 ) -> Answer
     requires { CanRead book.now cells.old parses.old store.old }
     ensures { Gives cells.old cells.new parses.old parses.new result (λ cells parses.
@@ -190,7 +190,16 @@ fn on_book(
         return refused(HIGH_BYTE, high as u32);
     }
     let (found, state) = run(book, text, store, rows, start, allowance);
-    ending(text, allowance, cells, parses, store, rows, found, state)
+    ending(
+        text,
+        allowance,
+        cells,
+        parses,
+        store,
+        &rows.shared(),
+        found,
+        state,
+    )
 }
 
 // ---- The call
@@ -231,7 +240,7 @@ fn in_room(
     parses: &mut [u32],
     index: &mut [usize],
     store: &mut [u32],
-    rows: &mut Rows,
+    rows: &mut RowsMut,
 ) -> Answer
     requires { HasRoom index.old store.old }
     ensures { Gives cells.old cells.new parses.old parses.new result (λ cells parses.
@@ -271,7 +280,7 @@ pub fn read_in(
     if no_room(index, store, rows) {
         return refused(SHORT_LISTS, 0);
     }
-    let mut rows = Rows::new(rows);
+    let mut rows = RowsMut::new(rows);
     in_room(
         book, text, start, allowance, cells, parses, index, store, &mut rows,
     )

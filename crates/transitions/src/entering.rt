@@ -6,6 +6,7 @@ ghost use Rattle.semantics.specs.Numbers.{nonterminal_wanted, most_nesting};
 ghost use Rattle.semantics.specs.Uses.{has_mark};
 ghost use Rattle.semantics.specs.Errors.{error};
 ghost use Rattle.run_model.specs.Model.{claimed_rows};
+ghost use Rattle.calls.specs.Lent.{table_in, SameSlice};
 ghost use Rattle.errors.specs.Maps.{failure_of};
 ghost use Rattle.transitions.specs.Results.{outcome_of, entered_of, done_with};
 ghost use Rattle.transitions.specs.declared.outcomes.State as code;
@@ -15,7 +16,7 @@ ghost use Rattle.transitions.specs.LayerContracts.{Ready, Does, Opens, BeginsUse
 use crate::items::make;
 use crate::outcomes::{Limit, State, spend};
 use book::{Associativity, Book, DEFAULT_LEVEL, Mark};
-use calls::{Governor, Rows};
+use calls::{Governor, Rows, RowsMut};
 use errors::Error;
 use sets::Parse;
 
@@ -35,12 +36,20 @@ fn no_parse(nonterminal: u32, at: u32) -> Option<Error>
 }
 
 // "Re-entry at its start gives its stored parses, filtered; none is a failure".
-fn stored(rows: &mut Rows, governor: usize, row: usize, nonterminal: u32, at: u32) -> Option<Error>
+fn stored(
+    rows: &mut RowsMut,
+    governor: usize,
+    row: usize,
+    nonterminal: u32,
+    at: u32,
+) -> Option<Error>
     requires { (row < governor) × (governor ≤ most_nesting) }
-    ensures { (s : code.State) → Stores rows.old rows.new governor row nonterminal at s (done_with result s) }
+    ensures stores { (s : code.State) → Stores (table_in rows.old) (table_in rows.new) governor row nonterminal at s
+        (done_with result s) }
+    ensures slice { SameSlice rows.old rows.new }
 {
     rows.take_stored(row, governor);
-    if rows.parse_count(row) == 0 {
+    if rows.shared().parse_count(row) == 0 {
         no_parse(nonterminal, at)
     } else {
         None
@@ -61,7 +70,7 @@ fn run_identifier(
     book: &Book,
     text: &[u8],
     store: &mut [u32],
-    rows: &mut Rows,
+    rows: &mut RowsMut,
     row: usize,
     binder: u32,
     nonterminal: u32,
@@ -69,12 +78,13 @@ fn run_identifier(
     state: &mut State,
 ) -> Result<Option<Error>, Limit>
     requires { Ready book.now text.now row }
-    ensures { Does book.now text.now store.old store.new rows.old rows.new state.old (outcome_of result state.new)
-        (identifies row binder nonterminal at) }
+    ensures does { Does book.now text.now store.old store.new (table_in rows.old) (table_in rows.new) state.old
+        (outcome_of result state.new) (identifies row binder nonterminal at) }
+    ensures slice { SameSlice rows.old rows.new }
 {
     rows.clear_set(row);
     rows.end_call(row);
-    if claimed(book, text, rows, row, binder, at) {
+    if claimed(book, text, &rows.shared(), row, binder, at) {
         return Ok(no_parse(nonterminal, at));
     }
     let Some(end) = tokens::free_end(book, text, at as usize) else {
@@ -105,7 +115,7 @@ fn open(
     book: &Book,
     text: &[u8],
     store: &mut [u32],
-    rows: &mut Rows,
+    rows: &mut RowsMut,
     row: usize,
     binder: u32,
     nonterminal: u32,
@@ -114,8 +124,9 @@ fn open(
     state: &mut State,
 ) -> Result<Entered, Limit>
     requires { Ready book.now text.now row }
-    ensures { Opens book.now text.now store.old store.new rows.old rows.new row binder nonterminal at minimum
-        state.old (entered_of result state.new) }
+    ensures opens { Opens book.now text.now store.old store.new (table_in rows.old) (table_in rows.new) row binder
+        nonterminal at minimum state.old (entered_of result state.new) }
+    ensures slice { SameSlice rows.old rows.new }
 {
     if row == 0 {
         return Err(Limit::TooDeep);
@@ -132,7 +143,7 @@ pub fn begin_use(
     book: &Book,
     text: &[u8],
     store: &mut [u32],
-    rows: &mut Rows,
+    rows: &mut RowsMut,
     row: usize,
     binder: u32,
     nonterminal: u32,
@@ -140,11 +151,13 @@ pub fn begin_use(
     state: &mut State,
 ) -> Result<Entered, Limit>
     requires { Ready book.now text.now row }
-    ensures { BeginsUse book.now text.now store.old store.new rows.old rows.new row binder nonterminal at
-        state.old (entered_of result state.new) }
+    ensures begins { BeginsUse book.now text.now store.old store.new (table_in rows.old) (table_in rows.new) row binder
+        nonterminal at state.old (entered_of result state.new) }
+    ensures slice { SameSlice rows.old rows.new }
 {
     spend(state)?;
-    match rows.governor_of(row, binder, nonterminal, at) {
+    let governor = rows.shared().governor_of(row, binder, nonterminal, at);
+    match governor {
         Governor::SameStart(governor) => {
             let failure = stored(rows, governor, row, nonterminal, at);
             Ok(Entered::Over(failure))

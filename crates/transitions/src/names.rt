@@ -4,6 +4,7 @@
 // opening are those of the rows next above the first free one (`names_above` of run_model's Rows), and only their
 // number is handed on.
 ghost use Rattle.std.specs.Prelude.{◌≡◌, ◌<◌};
+ghost use Rattle.calls.specs.Lent.{table_in, SameSlice};
 ghost use Rattle.transitions.specs.Fit.{Fits};
 ghost use Rattle.transitions.specs.Results.{reached_of, named_of};
 ghost use Rattle.transitions.specs.declared.outcomes.State as code;
@@ -16,7 +17,7 @@ use crate::places::skipped;
 use crate::stages::{List, Names, Progress, Reached};
 use crate::steps::stop;
 use book::Book;
-use calls::{MOST_NESTING, Rows};
+use calls::{Rows, RowsMut};
 use tokens::After;
 
 // A list of names from its beginning: none is read yet.
@@ -94,21 +95,20 @@ pub fn declare_name(
     book: &Book,
     text: &[u8],
     store: &mut [u32],
-    rows: &mut Rows,
+    rows: &mut RowsMut,
     free: usize,
     here: Progress,
     names: Names,
     state: &mut State,
 ) -> Result<Named, Ended>
     requires { Ready book.now text.now free × (0 < free) }
-    ensures { DeclaresName book.now text.now store.old store.new rows.old rows.new free here names state.old
-        (named_of result state.new) }
+    ensures declares { DeclaresName book.now text.now store.old store.new (table_in rows.old) (table_in rows.new) free
+        here names state.old (named_of result state.new) }
+    ensures slice { SameSlice rows.old rows.new }
 {
     let at = skipped(text, here.place);
     let name = tokens::declaration_at(book, text, at)?;
     let size = tokens::span_length(name.place, name.end);
-    // The table has row `free`, which keeps the name.
-    prove!(MOST_NESTING < rows.len());
     rows.declare(free, name.kind as u32, name.place as u32, size as u32);
     let cell = make(text, store, cells::number(name.kind as u64), state)?;
     let kinds = make(text, store, cells::chain(names.kinds, cell), state)?;

@@ -1,12 +1,13 @@
 // How a call stands after one of its runs.
 ghost use Rattle.std.specs.Prelude.{◌≡◌, ◌≤◌, false};
 ghost use Rattle.semantics.specs.Numbers.{most_nesting};
+ghost use Rattle.calls.specs.Lent.{table_in, SameSlice};
 ghost use Rattle.transitions.specs.Results.{end_of, done_with};
 ghost use Rattle.transitions.specs.declared.outcomes.State as code;
 ghost use Rattle.transitions.specs.Entering.{SettledAs, FirstEnded, RoundEnded};
 
 use crate::outcomes::Limit;
-use calls::{Rows, Settled};
+use calls::{Rows, RowsMut, Settled};
 use errors::Error;
 
 // How a call stands after a run: it is to be run again, or it is over, with a failure or none.
@@ -38,19 +39,23 @@ fn settled_as(
 }
 
 // After the first run of the call of a row. `after_first` and `after_round` are two, as the model's definitions are.
-pub fn after_first(rows: &mut Rows, row: usize, failure: Option<Error>) -> Result<RunEnd, Limit>
+pub fn after_first(rows: &mut RowsMut, row: usize, failure: Option<Error>) -> Result<RunEnd, Limit>
     requires { row ≤ most_nesting }
-    ensures { (s : code.State) → FirstEnded rows.old rows.new row (done_with failure s) (end_of result s) }
+    ensures ends { (s : code.State) → FirstEnded (table_in rows.old) (table_in rows.new) row (done_with failure s)
+        (end_of result s) }
+    ensures slice { SameSlice rows.old rows.new }
 {
     let how = rows.settle_first(row);
-    settled_as(rows, row, how, failure)
+    settled_as(&rows.shared(), row, how, failure)
 }
 
 // After a further run.
-pub fn after_round(rows: &mut Rows, row: usize, failure: Option<Error>) -> Result<RunEnd, Limit>
+pub fn after_round(rows: &mut RowsMut, row: usize, failure: Option<Error>) -> Result<RunEnd, Limit>
     requires { row ≤ most_nesting }
-    ensures { (s : code.State) → RoundEnded rows.old rows.new row (done_with failure s) (end_of result s) }
+    ensures ends { (s : code.State) → RoundEnded (table_in rows.old) (table_in rows.new) row (done_with failure s)
+        (end_of result s) }
+    ensures slice { SameSlice rows.old rows.new }
 {
     let how = rows.settle(row);
-    settled_as(rows, row, how, failure)
+    settled_as(&rows.shared(), row, how, failure)
 }

@@ -1,6 +1,7 @@
 // What a variant and its steps do that calls nothing.
 ghost use Rattle.std.specs.Prelude.{◌≡◌, ◌<◌};
 ghost use Rattle.sets.specs.Sets.{parse, parse_of};
+ghost use Rattle.calls.specs.Lent.{table_in, SameSlice};
 ghost use Rattle.tokens.specs.Maps.{item_of};
 ghost use Rattle.transitions.specs.Fit.{Fits, ItemFits};
 ghost use Rattle.transitions.specs.Results.{spent_of, reached_of, reached_at, stage_of, stage_with};
@@ -14,7 +15,7 @@ use crate::outcomes::{Ended, Limit, State, spend};
 use crate::places::skipped;
 use crate::stages::{Doing, List, Progress, Reached, Stage, then_steps};
 use book::{Book, Step, Variant};
-use calls::Rows;
+use calls::{Rows, RowsMut};
 use sets::Parse;
 use tokens::{Item, Taken};
 
@@ -36,13 +37,14 @@ pub fn finish(
     book: &Book,
     text: &[u8],
     store: &mut [u32],
-    rows: &mut Rows,
+    rows: &mut RowsMut,
     here: Progress,
     state: &mut State,
 ) -> Result<(), Limit>
     requires { Ready book.now text.now here.call }
-    ensures { Does book.now text.now store.old store.new rows.old rows.new state.old (spent_of result state.new)
-        (completes here) }
+    ensures does { Does book.now text.now store.old store.new (table_in rows.old) (table_in rows.new) state.old
+        (spent_of result state.new) (completes here) }
+    ensures slice { SameSlice rows.old rows.new }
 {
     let cell = value(book, text, store, here.variant, here.items, state)?;
     let variant = book.variant(here.variant as usize);

@@ -4,6 +4,7 @@ ghost use Rattle.characters.specs.Skipping.{skip_from};
 ghost use Rattle.run_model.specs.Rows.{with_child, row_of};
 ghost use Rattle.semantics.specs.Numbers.{most_nesting};
 ghost use Rattle.calls.specs.Table.{Changed};
+ghost use Rattle.calls.specs.Lent.{table_in, SameSlice};
 ghost use Rattle.transitions.specs.Results.{cell_of, done_with};
 ghost use Rattle.transitions.specs.declared.outcomes.State as code;
 ghost use Rattle.transitions.specs.Steps.{reached_with};
@@ -15,7 +16,7 @@ use crate::outcomes::{Limit, State};
 use crate::places::skipped;
 use crate::stages::Progress;
 use book::Book;
-use calls::Rows;
+use calls::RowsMut;
 use errors::Error;
 
 // The call of a row takes variant j, from its start: the chain of its items, still empty.
@@ -23,14 +24,15 @@ pub fn begin_variant(
     book: &Book,
     text: &[u8],
     store: &mut [u32],
-    rows: &mut Rows,
+    rows: &mut RowsMut,
     row: usize,
     j: u32,
     state: &mut State,
 ) -> Result<u32, Limit>
     requires { Ready book.now text.now row }
-    ensures { Begins book.now text.now store.old store.new rows.old rows.new row j state.old
-        (reached_with (cell_of result state.new) (row_of rows.old row).start) }
+    ensures begins { Begins book.now text.now store.old store.new (table_in rows.old) (table_in rows.new) row j state.old
+        (reached_with (cell_of result state.new) (row_of (table_in rows.old) row).start) }
+    ensures slice { SameSlice rows.old rows.new }
 {
     let variant = book.variant(j as usize);
     rows.take_variant(row, variant.level as u32, variant.associativity);
@@ -53,9 +55,11 @@ pub fn after_variant(
 }
 
 // The child of the path's call begins where skipping leads.
-pub fn begin_child(text: &[u8], rows: &mut Rows, here: Progress) -> u32
+pub fn begin_child(text: &[u8], rows: &mut RowsMut, here: Progress) -> u32
     requires { (here.call ≤ most_nesting) × Short text.now }
-    ensures { (result ≡ skip_from text.now here.place) × Changed rows.old rows.new here.call (with_child result) }
+    ensures begins { (result ≡ skip_from text.now here.place)
+        × Changed (table_in rows.old) (table_in rows.new) here.call (with_child result) }
+    ensures slice { SameSlice rows.old rows.new }
 {
     let at = skipped(text, here.place);
     rows.put_child(here.call, at);

@@ -5,6 +5,8 @@
 use Rattle.std.proofs.Common.{arith, rules, refl, sym, ◌∙◌}
 use Rattle.std.proofs.Math.Nat.{sub-zero}
 use Rattle.std.proofs.lemmas.Result.{err_from_is_err_and}
+use Rattle.calls.specs.TableLaws.{table_length}
+use Rattle.calls.specs.Lent.{table_in}
 use Rattle.parser.specs.PathLaws.{choice_stopped, choice_both, path_ended, path_child, path_optional, path_elements}
 use Rattle.parser.specs.PathLaws.{path_names, path_end, path_step, rank_few, resume_ended}
 use Rattle.parser.specs.NameLaws.{names_binder, close_ended, close_body, declare_unpaid, declare_deep, declare_ended}
@@ -26,67 +28,97 @@ use Rattle.parser.proofs.+descent.Goals as goal
 
 pub left_recursion::call-returns-in_err-failure : goal.left_recursion::call-returns-in_err-failure
 left_recursion::call-returns-in_err-failure t c =
-    let p = err_from_is_err_and c.from_residual.result c.from_residual.ensures.1 in
-    rw (p.1, p.2)
-    (run_call_over _ _ _ _ _ _ _ _ _ _ _ _ _ _ _ _ _ c.open_call.ensures
-    (rw c.in_err-failure.was at c.one_run.ensures) (first_limit _ _ _ _ (number_there _) refl) refl)
+    record {
+      does = let p = err_from_is_err_and c.from_residual.result c.from_residual.ensures.1 in
+          rw (p.1, p.2)
+          (run_call_over _ _ _ _ _ _ _ _ _ _ _ _ _ _ _ _ _ c.open_call.ensures.0
+          (rw c.in_err-failure.was at c.one_run.ensures.does) (first_limit _ _ _ _ (number_there _) refl) refl);
+      slice = c.one_run.ensures.slice ∙ c.open_call.ensures.1;
+    }
 
 pub left_recursion::call-returns-in_err-failure-2 : goal.left_recursion::call-returns-in_err-failure-2
 left_recursion::call-returns-in_err-failure-2 t c =
-    let p = err_from_is_err_and c.from_residual-in_err-failure-2.result c.from_residual-in_err-failure-2.ensures.1 in
-    rw (p.1, p.2)
-    (run_call_over _ _ _ _ _ _ _ _ _ _ _ _ _ _ _ _ _ c.open_call.ensures
-    (rw c.in_ok-failure.was at c.one_run.ensures)
-    (rw c.in_err-failure-2.was at (c.after_first.ensures c.one_run.new.state)) refl)
+    record {
+      does = let p = err_from_is_err_and c.from_residual-in_err-failure-2.result c.from_residual-in_err-failure-2.ensures.1 in
+          rw (p.1, p.2)
+          (run_call_over _ _ _ _ _ _ _ _ _ _ _ _ _ _ _ _ _ c.open_call.ensures.0
+          (rw c.in_ok-failure.was at c.one_run.ensures.does)
+          (rw c.in_err-failure-2.was at (c.after_first.ensures.ends c.one_run.new.state)) refl);
+      slice = c.after_first.ensures.slice ∙ c.one_run.ensures.slice ∙ c.open_call.ensures.1;
+    }
 
 pub left_recursion::call-returns-in-Over : goal.left_recursion::call-returns-in-Over
 left_recursion::call-returns-in-Over t c =
-    run_call_over _ _ _ _ _ _ _ _ _ _ _ _ _ _ _ _ _ c.open_call.ensures
-    (rw c.in_ok-failure.was at c.one_run.ensures)
-    (rw c.in-Over.is at (rw c.in_ok-failure-2.was at (c.after_first.ensures c.one_run.new.state))) refl
+    record {
+      does = run_call_over _ _ _ _ _ _ _ _ _ _ _ _ _ _ _ _ _ c.open_call.ensures.0
+          (rw c.in_ok-failure.was at c.one_run.ensures.does)
+          (rw c.in-Over.is at (rw c.in_ok-failure-2.was at (c.after_first.ensures.ends c.one_run.new.state))) refl;
+      slice = c.after_first.ensures.slice ∙ c.one_run.ensures.slice ∙ c.open_call.ensures.1;
+    }
 
 pub left_recursion::call-returns-in-Again : goal.left_recursion::call-returns-in-Again
 left_recursion::call-returns-in-Again t c =
-    run_call_rounds _ _ _ _ _ _ _ _ _ _ _ _ _ _ _ _ _ c.open_call.ensures
-    (rw c.in_ok-failure.was at c.one_run.ensures)
-    (rw c.in-Again.is at (rw c.in_ok-failure-2.was at (c.after_first.ensures c.one_run.new.state)))
-    _ _ _ refl c.rounds.ensures
+    record {
+      does = run_call_rounds _ _ _ _ _ _ _ _ _ _ _ _ _ _ _ _ _ c.open_call.ensures.0
+          (rw c.in_ok-failure.was at c.one_run.ensures.does)
+          (rw c.in-Again.is at (rw c.in_ok-failure-2.was at (c.after_first.ensures.ends c.one_run.new.state)))
+          _ _ _ refl c.rounds.ensures.does;
+      slice = c.rounds.ensures.slice ∙ c.after_first.ensures.slice ∙ c.one_run.ensures.slice ∙ c.open_call.ensures.1;
+    }
 
 pub left_recursion::enter-returns-in_err-failure : goal.left_recursion::enter-returns-in_err-failure
 left_recursion::enter-returns-in_err-failure t c =
-    let p = err_from_is_err_and c.from_residual.result c.from_residual.ensures.1 in
-    rw (p.1, p.2)
-    (enter_over _ _ _ _ _ _ _ _ _ _ _ _ (rw c.in_err-failure.was at c.begin_use.ensures) refl)
+    record {
+      does = let p = err_from_is_err_and c.from_residual.result c.from_residual.ensures.1 in
+          rw (p.1, p.2)
+          (enter_over _ _ _ _ _ _ _ _ _ _ _ _ (rw c.in_err-failure.was at c.begin_use.ensures.begins) refl);
+      slice = c.begin_use.ensures.slice;
+    }
 
 pub left_recursion::enter-returns-in-Over : goal.left_recursion::enter-returns-in-Over
 left_recursion::enter-returns-in-Over t c =
-    enter_over _ _ _ _ _ _ _ _ _ _ _ _ (rw c.in-Over.is at (rw c.in_ok-failure.was at c.begin_use.ensures)) refl
+    record {
+      does = enter_over _ _ _ _ _ _ _ _ _ _ _ _ (rw c.in-Over.is at (rw c.in_ok-failure.was at c.begin_use.ensures.begins)) refl;
+      slice = c.begin_use.ensures.slice;
+    }
 
 pub left_recursion::enter-returns-in-Runs : goal.left_recursion::enter-returns-in-Runs
 left_recursion::enter-returns-in-Runs t c =
-    enter_runs _ _ _ _ _ _ _ _ _ _ _ _ (rw c.in-Runs.is at (rw c.in_ok-failure.was at c.begin_use.ensures))
-    _ _ _ refl c.call.ensures
+    record {
+      does = enter_runs _ _ _ _ _ _ _ _ _ _ _ _ (rw c.in-Runs.is at (rw c.in_ok-failure.was at c.begin_use.ensures.begins))
+          _ _ _ refl c.call.ensures.does;
+      slice = c.call.ensures.slice ∙ c.begin_use.ensures.slice;
+    }
 
 pub left_recursion::rounds-returns-in_err-failure : goal.left_recursion::rounds-returns-in_err-failure
 left_recursion::rounds-returns-in_err-failure t c =
-    let p = err_from_is_err_and c.from_residual.result c.from_residual.ensures.1 in
-    rw (p.1, p.2)
-    (rounds_over _ _ _ _ _ _ _ _ _ _ _ _ c.loop-round.invariant.left _ _ _ _ _ c.loop-round-test.true
-    (rw c.in_err-failure.was at c.one_run.ensures) (round_limit _ _ _ _ (number_there _) refl) refl)
+    record {
+      does = let p = err_from_is_err_and c.from_residual.result c.from_residual.ensures.1 in
+          rw (p.1, p.2)
+          (rounds_over _ _ _ _ _ _ _ _ _ _ _ _ c.loop-round.invariant.left _ _ _ _ _ c.loop-round-test.true
+          (rw c.in_err-failure.was at c.one_run.ensures.does) (round_limit _ _ _ _ (number_there _) refl) refl);
+      slice = c.one_run.ensures.slice ∙ c.loop-round.invariant.same;
+    }
 
 pub left_recursion::rounds-returns-in_err-failure-2 : goal.left_recursion::rounds-returns-in_err-failure-2
 left_recursion::rounds-returns-in_err-failure-2 t c =
-    let p = err_from_is_err_and c.from_residual-in_err-failure-2.result c.from_residual-in_err-failure-2.ensures.1 in
-    rw (p.1, p.2)
-    (rounds_over _ _ _ _ _ _ _ _ _ _ _ _ c.loop-round.invariant.left _ _ _ _ _ c.loop-round-test.true
-    (rw c.in_ok-failure.was at c.one_run.ensures)
-    (rw c.in_err-failure-2.was at (c.after_round.ensures c.one_run.new.state)) refl)
+    record {
+      does = let p = err_from_is_err_and c.from_residual-in_err-failure-2.result c.from_residual-in_err-failure-2.ensures.1 in
+          rw (p.1, p.2)
+          (rounds_over _ _ _ _ _ _ _ _ _ _ _ _ c.loop-round.invariant.left _ _ _ _ _ c.loop-round-test.true
+          (rw c.in_ok-failure.was at c.one_run.ensures.does)
+          (rw c.in_err-failure-2.was at (c.after_round.ensures.ends c.one_run.new.state)) refl);
+      slice = c.after_round.ensures.slice ∙ c.one_run.ensures.slice ∙ c.loop-round.invariant.same;
+    }
 
 pub left_recursion::rounds-returns-in-Over : goal.left_recursion::rounds-returns-in-Over
 left_recursion::rounds-returns-in-Over t c =
-    rounds_over _ _ _ _ _ _ _ _ _ _ _ _ c.loop-round.invariant.left _ _ _ _ _ c.loop-round-test.true
-    (rw c.in_ok-failure.was at c.one_run.ensures)
-    (rw c.in-Over.is at (rw c.in_ok-failure-2.was at (c.after_round.ensures c.one_run.new.state))) refl
+    record {
+      does = rounds_over _ _ _ _ _ _ _ _ _ _ _ _ c.loop-round.invariant.left _ _ _ _ _ c.loop-round-test.true
+          (rw c.in_ok-failure.was at c.one_run.ensures.does)
+          (rw c.in-Over.is at (rw c.in_ok-failure-2.was at (c.after_round.ensures.ends c.one_run.new.state))) refl;
+      slice = c.after_round.ensures.slice ∙ c.one_run.ensures.slice ∙ c.loop-round.invariant.same;
+    }
 
 pub left_recursion::rounds-loop-round-preserved : goal.left_recursion::rounds-loop-round-preserved
 left_recursion::rounds-loop-round-preserved t c =
@@ -94,229 +126,318 @@ left_recursion::rounds-loop-round-preserved t c =
       few = omega (arith, c.loop-round-test.true);
       left =
           rounds_again _ _ _ _ _ _ _ _ _ _ _ _ c.loop-round.invariant.left _ _ _ _ _ c.loop-round-test.true
-          (rw c.in_ok-failure.was at c.one_run.ensures)
-          (rw c.in-Again.is at (rw c.in_ok-failure-2.was at (c.after_round.ensures c.one_run.new.state))) refl;
+          (rw c.in_ok-failure.was at c.one_run.ensures.does)
+          (rw c.in-Again.is at (rw c.in_ok-failure-2.was at (c.after_round.ensures.ends c.one_run.new.state))) refl;
+      same = c.after_round.ensures.slice ∙ c.one_run.ensures.slice ∙ c.loop-round.invariant.same;
     }
 
 pub left_recursion::rounds-returns : goal.left_recursion::rounds-returns
 left_recursion::rounds-returns t c =
-    rounds_none _ _ _ _ _ _ _ _ _ _ _ _ c.loop-round.invariant.left _ refl c.loop-round-test.false
+    record {
+      does = rounds_none _ _ _ _ _ _ _ _ _ _ _ _ c.loop-round.invariant.left _ refl c.loop-round-test.false;
+      slice = c.loop-round.invariant.same;
+    }
 
 pub names::choose-returns-in_err-spend : goal.names::choose-returns-in_err-spend
 names::choose-returns-in_err-spend t c =
-    let p = err_from_is_err_and c.from_residual.result c.from_residual.ensures.1 in
-    rw (p.1, p.2)
-    (names_unpaid _ _ _ c.args.here _ _ _ _ _ _ (rw c.in_err-spend.was at c.spend.ensures) (number_there _))
+    record {
+      does = let p = err_from_is_err_and c.from_residual.result c.from_residual.ensures.1 in
+          rw (p.1, p.2)
+          (names_unpaid _ _ _ c.args.here _ _ _ _ _ _ (rw c.in_err-spend.was at c.spend.ensures) (number_there _));
+      slice = refl;
+    }
 
 pub names::choose-returns-in_err-first : goal.names::choose-returns-in_err-first
 names::choose-returns-in_err-first t c =
-    let p = err_from_is_err_and c.from_residual-in_err-first.result c.from_residual-in_err-first.ensures.1 in
-    rw (p.1, p.2)
-    (names_stopped _ _ _ c.args.here _ _ _ _ _ _ (rw c.in_ok-spend.was at c.spend.ensures) refl _ _ _
-    (rw c.in_err-first.was at c.close.ensures) (number_there _))
+    record {
+      does = let p = err_from_is_err_and c.from_residual-in_err-first.result c.from_residual-in_err-first.ensures.1 in
+          rw (p.1, p.2)
+          (names_stopped _ _ _ c.args.here _ _ _ _ _ _ (rw c.in_ok-spend.was at c.spend.ensures) refl _ _ _
+          (rw c.in_err-first.was at c.close.ensures.does) (number_there _));
+      slice = c.close.ensures.slice;
+    }
 
 pub names::choose-returns-in_err-second : goal.names::choose-returns-in_err-second
 names::choose-returns-in_err-second t c =
-    let p = err_from_is_err_and c.from_residual-in_err-second.result c.from_residual-in_err-second.ensures.1 in
-    rw (p.1, p.2)
-    (names_both _ _ _ c.args.here _ _ _ _ _ _ (rw c.in_ok-spend.was at c.spend.ensures) refl _ _ _
-    (rw c.in_ok-first.was at c.close.ensures) refl c.requires.0.3 c.requires.0.2.0 (sym c.len.ensures.0 ∙
-    c.len.ensures.1)
-    _ _ _ _ (rw c.in_err-second.was at c.declare.ensures) (both_limit _ _ _ _ _ _ (number_there _)))
+    record {
+      does = let p = err_from_is_err_and c.from_residual-in_err-second.result c.from_residual-in_err-second.ensures.1 in
+          rw (p.1, p.2)
+          (names_both _ _ _ c.args.here _ _ _ _ _ _ (rw c.in_ok-spend.was at c.spend.ensures) refl _ _ _
+          (rw c.in_ok-first.was at c.close.ensures.does) refl c.requires.0.3 c.requires.0.2.0 (table_length _)
+          _ _ _ _ (rw c.in_err-second.was at c.declare.ensures.does) (both_limit _ _ _ _ _ _ (number_there _)));
+      slice = c.declare.ensures.slice ∙ c.close.ensures.slice;
+    }
 
 pub names::choose-returns : goal.names::choose-returns
 names::choose-returns t c =
-    names_both _ _ _ c.args.here _ _ _ _ _ _ (rw c.in_ok-spend.was at c.spend.ensures) refl _ _ _
-    (rw c.in_ok-first.was at c.close.ensures) refl c.requires.0.3 c.requires.0.2.0 (sym c.len.ensures.0 ∙
-    c.len.ensures.1)
-    _ _ _ _ (rw c.in_ok-second.was at c.declare.ensures) (c.both_sides.ensures _ _)
+    record {
+      does = names_both _ _ _ c.args.here _ _ _ _ _ _ (rw c.in_ok-spend.was at c.spend.ensures) refl _ _ _
+          (rw c.in_ok-first.was at c.close.ensures.does) refl c.requires.0.3 c.requires.0.2.0 (table_length _)
+          _ _ _ _ (rw c.in_ok-second.was at c.declare.ensures.does) (rw c.shared.ensures at (c.both_sides.ensures _ _));
+      slice = c.declare.ensures.slice ∙ c.close.ensures.slice;
+    }
 
 pub names::close-returns-in-Err : goal.names::close-returns-in-Err
 names::close-returns-in-Err t c =
-    rw (c.outcome.ensures c.open_body.new.state)
-    (close_ended _ _ _ _ _ _ _ _ _ _ _ (rw c.in-Err.is at c.open_body.ensures) (ended_stops _ _))
+    record {
+      does = rw (c.outcome.ensures c.open_body.new.state)
+          (close_ended _ _ _ _ _ _ _ _ _ _ _ (rw c.in-Err.is at (rw c.shared.ensures at c.open_body.ensures)) (ended_stops _ _));
+      slice = refl;
+    }
 
 pub names::close-returns-in_err-failure : goal.names::close-returns-in_err-failure
 names::close-returns-in_err-failure t c =
-    let p = err_from_is_err_and c.from_residual.result c.from_residual.ensures.1 in
-    rw (p.1, p.2)
-    (close_body _ _ _ _ _ _ _ _ _ _ _ (rw c.in-Ok.is at c.open_body.ensures) (goes_done _) _ _ _
-    (descended _ _ _ _ _ _ _ _ _ _ _ _ _ _ _ _ _ _ _ _ _ _ _ _ (names_binder c.args.text.now c.args.rows.now
-    c.args.free c.args.names.count _ c.args.here.call c.body_binder-binder.ensures) c.begin_child-at.ensures
-    (rw c.in_err-failure.was at c.enter.ensures) (follow_ended _ _ _ _ _ _ _ _ _ _ _ _ (limit_stops_path _ _))))
+    record {
+      does = let p = err_from_is_err_and c.from_residual.result c.from_residual.ensures.1 in
+          rw (p.1, p.2)
+          (close_body _ _ _ _ _ _ _ _ _ _ _ (rw c.in-Ok.is at (rw c.shared.ensures at c.open_body.ensures)) (goes_done _) _ _ _
+          (descended _ _ _ _ _ _ _ _ _ _ _ _ _ _ _ _ _ _ _ _ _ _ _ _ (names_binder c.args.text.now (table_in c.args.rows.now)
+          c.args.free c.args.names.count _ c.args.here.call c.body_binder-binder.ensures) c.begin_child-at.ensures.begins
+          (rw c.in_err-failure.was at c.enter.ensures.does) (follow_ended _ _ _ _ _ _ _ _ _ _ _ _ (limit_stops_path _ _))));
+      slice = c.enter.ensures.slice ∙ c.begin_child-at.ensures.slice;
+    }
 
 pub names::close-returns : goal.names::close-returns
 names::close-returns t c =
-    close_body _ _ _ _ _ _ _ _ _ _ _ (rw c.in-Ok.is at c.open_body.ensures) (goes_done _) _ _ _
-    (descended _ _ _ _ _ _ _ _ _ _ _ _ _ _ _ _ _ _ _ _ _ _ _ _ (names_binder c.args.text.now c.args.rows.now
-    c.args.free c.args.names.count _ c.args.here.call c.body_binder-binder.ensures) c.begin_child-at.ensures
-    (rw c.in_ok-failure.was at c.enter.ensures) c.follow.ensures)
+    record {
+      does = close_body _ _ _ _ _ _ _ _ _ _ _ (rw c.in-Ok.is at (rw c.shared.ensures at c.open_body.ensures)) (goes_done _) _ _ _
+          (descended _ _ _ _ _ _ _ _ _ _ _ _ _ _ _ _ _ _ _ _ _ _ _ _ (names_binder c.args.text.now (table_in c.args.rows.now)
+          c.args.free c.args.names.count _ c.args.here.call c.body_binder-binder.ensures) c.begin_child-at.ensures.begins
+          (rw c.in_ok-failure.was at c.enter.ensures.does) c.follow.ensures.continues);
+      slice = c.follow.ensures.slice ∙ c.enter.ensures.slice ∙ c.begin_child-at.ensures.slice;
+    }
 
 pub names::declare-returns-in_err-spend : goal.names::declare-returns-in_err-spend
 names::declare-returns-in_err-spend t c =
-    let p = err_from_is_err_and c.from_residual.result c.from_residual.ensures.1 in
-    rw (p.1, p.2)
-    (declare_unpaid _ _ _ c.args.here _ _ _ _ _ _ (rw c.in_err-spend.was at c.spend.ensures) (number_there _))
+    record {
+      does = let p = err_from_is_err_and c.from_residual.result c.from_residual.ensures.1 in
+          rw (p.1, p.2)
+          (declare_unpaid _ _ _ c.args.here _ _ _ _ _ _ (rw c.in_err-spend.was at c.spend.ensures) (number_there _));
+      slice = refl;
+    }
 
 pub names::declare-returns-then-free-eq0 : goal.names::declare-returns-then-free-eq0
 names::declare-returns-then-free-eq0 t c =
-    declare_deep _ _ _ c.args.here _ _ _ _ _ _ (rw c.in_ok-spend.was at c.spend.ensures) refl _ c.if-free-eq0.true refl
+    record {
+      does = declare_deep _ _ _ c.args.here _ _ _ _ _ _ (rw c.in_ok-spend.was at c.spend.ensures) refl _ c.if-free-eq0.true refl;
+      slice = refl;
+    }
 
 pub names::declare-returns-in-Err : goal.names::declare-returns-in-Err
 names::declare-returns-in-Err t c =
-    rw (c.outcome.ensures c.declare_name.new.state)
-    (declare_ended _ _ _ c.args.here _ _ _ _ _ _ (rw c.in_ok-spend.was at c.spend.ensures) refl c.if-free-eq0.false _
-    _ _
-    (rw c.in-Err.is at c.declare_name.ensures) (ended_stops _ _))
+    record {
+      does = rw (c.outcome.ensures c.declare_name.new.state)
+          (declare_ended _ _ _ c.args.here _ _ _ _ _ _ (rw c.in_ok-spend.was at c.spend.ensures) refl c.if-free-eq0.false _
+          _ _
+          (rw c.in-Err.is at c.declare_name.ensures.declares) (ended_stops _ _));
+      slice = c.declare_name.ensures.slice;
+    }
 
 pub names::declare-returns-then-name : goal.names::declare-returns-then-name
 names::declare-returns-then-name t c =
-    declare_more _ _ _ c.args.here _ _ _ _ _ _ (rw c.in_ok-spend.was at c.spend.ensures) refl c.if-free-eq0.false _ _ _
-    (rw c.in-Ok.is at c.declare_name.ensures) (goes_done _) _ _ _
-    c.if-name.true c.choose.ensures
+    record {
+      does = declare_more _ _ _ c.args.here _ _ _ _ _ _ (rw c.in_ok-spend.was at c.spend.ensures) refl c.if-free-eq0.false _ _ _
+          (rw c.in-Ok.is at c.declare_name.ensures.declares) (goes_done _) _ _ _
+          c.if-name.true c.choose.ensures.does;
+      slice = c.choose.ensures.slice ∙ c.declare_name.ensures.slice;
+    }
 
 pub names::declare-returns-else-name : goal.names::declare-returns-else-name
 names::declare-returns-else-name t c =
-    declare_last _ _ _ c.args.here _ _ _ _ _ _ (rw c.in_ok-spend.was at c.spend.ensures) refl c.if-free-eq0.false _ _ _
-    (rw c.in-Ok.is at c.declare_name.ensures) (goes_done _) _ _ _
-    c.if-name.false c.close.ensures
+    record {
+      does = declare_last _ _ _ c.args.here _ _ _ _ _ _ (rw c.in_ok-spend.was at c.spend.ensures) refl c.if-free-eq0.false _ _ _
+          (rw c.in-Ok.is at c.declare_name.ensures.declares) (goes_done _) _ _ _
+          c.if-name.false c.close.ensures.does;
+      slice = c.close.ensures.slice ∙ c.declare_name.ensures.slice;
+    }
 
 pub parser::choice-returns-in_err-first : goal.parser::choice-returns-in_err-first
 parser::choice-returns-in_err-first t c =
-    let p = err_from_is_err_and c.from_residual.result c.from_residual.ensures.1 in
-    rw (p.1, p.2)
-    (choice_stopped _ _ _ _ _ _ _ _ _ _ _ _ _ _ _ _ _ _ _ (rw (side_steps c.first_side-begun.result
-    c.first_side-begun.new.state c.first_side-begun.ensures.steps) at
-    c.first_side-begun.ensures.does)
-    (rw (side_steps c.first_side-begun.result c.first_side-begun.new.state c.first_side-begun.ensures.steps) at
-    (rw c.in_err-first.was at c.steps.ensures)) (number_there _))
+    record {
+      does = let p = err_from_is_err_and c.from_residual.result c.from_residual.ensures.1 in
+          rw (p.1, p.2)
+          (choice_stopped _ _ _ _ _ _ _ _ _ _ _ _ _ _ _ _ _ _ _ (rw (side_steps c.first_side-begun.result
+          c.first_side-begun.new.state c.first_side-begun.ensures.steps) at
+          c.first_side-begun.ensures.does)
+          (rw (side_steps c.first_side-begun.result c.first_side-begun.new.state c.first_side-begun.ensures.steps) at
+          (rw c.in_err-first.was at c.steps.ensures.continues)) (number_there _));
+      slice = c.steps.ensures.slice;
+    }
 
 pub parser::choice-returns-in_err-second : goal.parser::choice-returns-in_err-second
 parser::choice-returns-in_err-second t c =
-    let p = err_from_is_err_and c.from_residual-in_err-second.result c.from_residual-in_err-second.ensures.1 in
-    rw (p.1, p.2)
-    (choice_both _ _ _ _ _ _ _ _ _ _ _ _ _ _ _ _ _ _ _ (rw (side_steps c.first_side-begun.result
-    c.first_side-begun.new.state c.first_side-begun.ensures.steps) at
-    c.first_side-begun.ensures.does)
-    (rw (side_steps c.first_side-begun.result c.first_side-begun.new.state c.first_side-begun.ensures.steps) at
-    (rw c.in_ok-first.was at c.steps.ensures)) refl _ _ _ _ (rw c.in_err-second.was at c.descend.ensures) (both_limit
-    _ _ _ _ _ _ (number_there _)))
+    record {
+      does = let p = err_from_is_err_and c.from_residual-in_err-second.result c.from_residual-in_err-second.ensures.1 in
+          rw (p.1, p.2)
+          (choice_both _ _ _ _ _ _ _ _ _ _ _ _ _ _ _ _ _ _ _ (rw (side_steps c.first_side-begun.result
+          c.first_side-begun.new.state c.first_side-begun.ensures.steps) at
+          c.first_side-begun.ensures.does)
+          (rw (side_steps c.first_side-begun.result c.first_side-begun.new.state c.first_side-begun.ensures.steps) at
+          (rw c.in_ok-first.was at c.steps.ensures.continues)) refl _ _ _ _ (rw c.in_err-second.was at c.descend.ensures.does) (both_limit
+          _ _ _ _ _ _ (number_there _)));
+      slice = c.descend.ensures.slice ∙ c.steps.ensures.slice;
+    }
 
 pub parser::choice-returns : goal.parser::choice-returns
 parser::choice-returns t c =
-    choice_both _ _ _ _ _ _ _ _ _ _ _ _ _ _ _ _ _ _ _ (rw (side_steps c.first_side-begun.result
-    c.first_side-begun.new.state c.first_side-begun.ensures.steps) at
-    c.first_side-begun.ensures.does)
-    (rw (side_steps c.first_side-begun.result c.first_side-begun.new.state c.first_side-begun.ensures.steps) at
-    (rw c.in_ok-first.was at c.steps.ensures)) refl _ _ _ _ (rw c.in_ok-second.was at c.descend.ensures)
-    (c.both_sides.ensures _ _)
+    record {
+      does = choice_both _ _ _ _ _ _ _ _ _ _ _ _ _ _ _ _ _ _ _ (rw (side_steps c.first_side-begun.result
+          c.first_side-begun.new.state c.first_side-begun.ensures.steps) at
+          c.first_side-begun.ensures.does)
+          (rw (side_steps c.first_side-begun.result c.first_side-begun.new.state c.first_side-begun.ensures.steps) at
+          (rw c.in_ok-first.was at c.steps.ensures.continues)) refl _ _ _ _ (rw c.in_ok-second.was at c.descend.ensures.does)
+          (rw c.shared.ensures at (c.both_sides.ensures _ _));
+      slice = c.descend.ensures.slice ∙ c.steps.ensures.slice;
+    }
 
 pub parser::descend-returns-in_err-failure : goal.parser::descend-returns-in_err-failure
 parser::descend-returns-in_err-failure t c =
-    let p = err_from_is_err_and c.from_residual.result c.from_residual.ensures.1 in
-    rw (p.1, p.2)
-    (descended _ _ _ _ _ _ _ _ _ _ _ _ _ _ _ _ _ _ _ _ _ _ _ _ c.inherited_binder-binder.ensures
-    c.begin_child-at.ensures
-    (rw c.in_err-failure.was at c.enter.ensures) (follow_ended _ _ _ _ _ _ _ _ _ _ _ _ (limit_stops_path _ _)))
+    record {
+      does = let p = err_from_is_err_and c.from_residual.result c.from_residual.ensures.1 in
+          rw (p.1, p.2)
+          (descended _ _ _ _ _ _ _ _ _ _ _ _ _ _ _ _ _ _ _ _ _ _ _ _ (rw c.shared.ensures at c.inherited_binder-binder.ensures)
+          c.begin_child-at.ensures.begins
+          (rw c.in_err-failure.was at c.enter.ensures.does) (follow_ended _ _ _ _ _ _ _ _ _ _ _ _ (limit_stops_path _ _)));
+      slice = c.enter.ensures.slice ∙ c.begin_child-at.ensures.slice;
+    }
 
 pub parser::descend-returns : goal.parser::descend-returns
 parser::descend-returns t c =
-    descended _ _ _ _ _ _ _ _ _ _ _ _ _ _ _ _ _ _ _ _ _ _ _ _ c.inherited_binder-binder.ensures c.begin_child-at.ensures
-    (rw c.in_ok-failure.was at c.enter.ensures) c.follow.ensures
+    record {
+      does = descended _ _ _ _ _ _ _ _ _ _ _ _ _ _ _ _ _ _ _ _ _ _ _ _ (rw c.shared.ensures at c.inherited_binder-binder.ensures) c.begin_child-at.ensures.begins
+          (rw c.in_ok-failure.was at c.enter.ensures.does) c.follow.ensures.continues;
+      slice = c.follow.ensures.slice ∙ c.enter.ensures.slice ∙ c.begin_child-at.ensures.slice;
+    }
 
 pub parser::follow-returns-then-is_some : goal.parser::follow-returns-then-is_some
 parser::follow-returns-then-is_some t c =
-    follow_ended _ _ _ _ _ _ _ _ _ _ _ _ (failure_stops _ _ (sym c.is_some.ensures ∙ c.if-is_some.true))
+    record {
+      continues = follow_ended _ _ _ _ _ _ _ _ _ _ _ _ (failure_stops _ _ (sym c.is_some.ensures ∙ c.if-is_some.true));
+      slice = refl;
+    }
 
 pub parser::follow-loop-i-init : goal.parser::follow-loop-i-init
 parser::follow-loop-i-init t c =
-    record { few = search rules; left = λ held. record { held = held; is = rw sub-zero } }
+    record {
+      few = search rules;
+      left = λ held. record { held = held; is = rw sub-zero };
+      same = refl;
+    }
 
 pub parser::follow-returns-then-free-eq0 : goal.parser::follow-returns-then-free-eq0
 parser::follow-returns-then-free-eq0 t c =
-    follow_whole _ _ _ _ _ _ _ _ _ _ _ _ _ _ _ _ (nothing_goes _ _ (sym c.is_some.ensures ∙ c.if-is_some.false))
-    c.parse_count-parses.ensures.count (follow_deep _ _ _ _ _ _ _ _ _ _ _ _ _ _ c.loop-i.rows (done_with c.loop-i.all
-    c.loop-i.state) c.loop-i.invariant.left
-    _ refl c.loop-i-test.true c.if-free-eq0.true)
+    record {
+      continues = follow_whole _ _ _ _ _ _ _ _ _ _ _ _ _ _ _ _ (nothing_goes _ _ (sym c.is_some.ensures ∙ c.if-is_some.false))
+          (rw c.shared.ensures at c.parse_count-parses.ensures.count) (follow_deep _ _ _ _ _ _ _ _ _ _ _ _ _ _ (table_in c.loop-i.rows) (done_with c.loop-i.all
+          c.loop-i.state) c.loop-i.invariant.left
+          _ refl c.loop-i-test.true c.if-free-eq0.true);
+      slice = c.loop-i.invariant.same;
+    }
 
 pub parser::follow-returns-in_err-failure : goal.parser::follow-returns-in_err-failure
 parser::follow-returns-in_err-failure t c =
-    let p = err_from_is_err_and c.from_residual.result c.from_residual.ensures.1 in
-    rw (p.1, p.2)
-    (follow_whole _ _ _ _ _ _ _ _ _ _ _ _ _ _ _ _ (nothing_goes _ _ (sym c.is_some.ensures ∙ c.if-is_some.false))
-    c.parse_count-parses.ensures.count (follow_stop _ _ _ _ _ _ _ _ _ _ _ _ _ _ c.loop-i.rows (done_with c.loop-i.all
-    c.loop-i.state) c.loop-i.invariant.left c.loop-i-test.true c.if-free-eq0.false _ c.nth_parse-q.ensures _ _ _ _ _ _
-    c.next_of-begun.ensures (rw c.in_err-failure.was at c.steps.ensures) (joined_limit _ _ _ (number_there _))
-    (number_there _)))
+    record {
+      continues = let p = err_from_is_err_and c.from_residual.result c.from_residual.ensures.1 in
+          rw (p.1, p.2)
+          (follow_whole _ _ _ _ _ _ _ _ _ _ _ _ _ _ _ _ (nothing_goes _ _ (sym c.is_some.ensures ∙ c.if-is_some.false))
+          (rw c.shared.ensures at c.parse_count-parses.ensures.count) (follow_stop _ _ _ _ _ _ _ _ _ _ _ _ _ _ (table_in c.loop-i.rows) (done_with c.loop-i.all
+          c.loop-i.state) c.loop-i.invariant.left c.loop-i-test.true c.if-free-eq0.false _ (rw c.shared-2.ensures at c.nth_parse-q.ensures) _ _ _ _ _ _
+          c.next_of-begun.ensures (rw c.in_err-failure.was at c.steps.ensures.continues) (joined_limit _ _ _ (number_there _))
+          (number_there _)));
+      slice = c.steps.ensures.slice ∙ c.loop-i.invariant.same;
+    }
 
 pub parser::follow-loop-i-preserved : goal.parser::follow-loop-i-preserved
 parser::follow-loop-i-preserved t c =
     record {
       few = omega (arith, c.loop-i-test.true);
-      left = follow_again _ _ _ _ _ _ _ _ _ _ _ _ _ _ c.loop-i.rows (done_with c.loop-i.all c.loop-i.state)
-          c.loop-i.invariant.left c.loop-i-test.true c.if-free-eq0.false _ c.nth_parse-q.ensures _ _ _ _ _ _
-          c.next_of-begun.ensures (rw c.in_ok-failure.was at c.steps.ensures) (c.after_parse-all.ensures _ _) refl;
+      left = follow_again _ _ _ _ _ _ _ _ _ _ _ _ _ _ (table_in c.loop-i.rows) (done_with c.loop-i.all c.loop-i.state)
+          c.loop-i.invariant.left c.loop-i-test.true c.if-free-eq0.false _ (rw c.shared-2.ensures at c.nth_parse-q.ensures) _ _ _ _ _ _
+          c.next_of-begun.ensures (rw c.in_ok-failure.was at c.steps.ensures.continues) (c.after_parse-all.ensures _ _) refl;
+      same = c.steps.ensures.slice ∙ c.loop-i.invariant.same;
     }
 
 pub parser::follow-returns : goal.parser::follow-returns
 parser::follow-returns t c =
-    follow_whole _ _ _ _ _ _ _ _ _ _ _ _ _ _ _ _ (nothing_goes _ _ (sym c.is_some.ensures ∙ c.if-is_some.false))
-    c.parse_count-parses.ensures.count (follow_end _ _ _ _ _ _ _ _ _ _ _ _ _ _ c.loop-i.rows (done_with c.loop-i.all
-    c.loop-i.state) c.loop-i.invariant.left c.loop-i-test.false refl)
+    record {
+      continues = follow_whole _ _ _ _ _ _ _ _ _ _ _ _ _ _ _ _ (nothing_goes _ _ (sym c.is_some.ensures ∙ c.if-is_some.false))
+          (rw c.shared.ensures at c.parse_count-parses.ensures.count) (follow_end _ _ _ _ _ _ _ _ _ _ _ _ _ _ (table_in c.loop-i.rows) (done_with c.loop-i.all
+          c.loop-i.state) c.loop-i.invariant.left c.loop-i-test.false refl);
+      slice = c.loop-i.invariant.same;
+    }
 
 pub parser::one_run-returns-in_err-failure : goal.parser::one_run-returns-in_err-failure
 parser::one_run-returns-in_err-failure t c =
-    let p = err_from_is_err_and c.from_residual.result c.from_residual.ensures.1 in
-    rw (p.1, p.2)
-    (one_run_whole _ _ _ _ _ _ _ _ _ _ _ _ _ _ _ c.nonterminal_of-nonterminal.ensures c.clear_run.ensures
-    c.nonterminal-called.ensures refl (variants_stop _ _ _ _ _ _ _ _ _ _ _ _ c.loop-k.rows (done_with
-    c.loop-k.failure c.loop-k.state) c.loop-k.invariant.left c.loop-k-test.true
-    _ refl _ _ _ (rw c.in_err-failure.was at c.variant.ensures) (number_there _)))
+    record {
+      does = let p = err_from_is_err_and c.from_residual.result c.from_residual.ensures.1 in
+          rw (p.1, p.2)
+          (one_run_whole _ _ _ _ _ _ _ _ _ _ _ _ _ _ _ (rw c.shared.ensures at c.nonterminal_of-nonterminal.ensures) c.clear_run.ensures.0
+          c.nonterminal-called.ensures refl (variants_stop _ _ _ _ _ _ _ _ _ _ _ _ (table_in c.loop-k.rows) (done_with
+          c.loop-k.failure c.loop-k.state) c.loop-k.invariant.left c.loop-k-test.true
+          _ refl _ _ _ (rw c.in_err-failure.was at c.variant.ensures.does) (number_there _)));
+      slice = c.variant.ensures.slice ∙ c.loop-k.invariant.same ∙ c.clear_run.ensures.1;
+    }
 
 pub parser::one_run-loop-k-preserved : goal.parser::one_run-loop-k-preserved
 parser::one_run-loop-k-preserved t c =
     record {
       few = omega (arith, c.loop-k-test.true);
-      left = variants_again _ _ _ _ _ _ _ _ _ _ _ _ c.loop-k.rows (done_with c.loop-k.failure c.loop-k.state)
+      left = variants_again _ _ _ _ _ _ _ _ _ _ _ _ (table_in c.loop-k.rows) (done_with c.loop-k.failure c.loop-k.state)
           c.loop-k.invariant.left c.loop-k-test.true
-          _ refl _ _ _ (rw c.in_ok-failure.was at c.variant.ensures) refl;
+          _ refl _ _ _ (rw c.in_ok-failure.was at c.variant.ensures.does) refl;
+      same = c.variant.ensures.slice ∙ c.loop-k.invariant.same;
     }
 
 pub parser::one_run-returns : goal.parser::one_run-returns
 parser::one_run-returns t c =
-    one_run_whole _ _ _ _ _ _ _ _ _ _ _ _ _ _ _ c.nonterminal_of-nonterminal.ensures c.clear_run.ensures
-    c.nonterminal-called.ensures refl (variants_end _ _ _ _ _ _ _ _ _ _ _ _ c.loop-k.rows (done_with c.loop-k.failure
-    c.loop-k.state) c.loop-k.invariant.left c.loop-k-test.false refl)
+    record {
+      does = one_run_whole _ _ _ _ _ _ _ _ _ _ _ _ _ _ _ (rw c.shared.ensures at c.nonterminal_of-nonterminal.ensures) c.clear_run.ensures.0
+          c.nonterminal-called.ensures refl (variants_end _ _ _ _ _ _ _ _ _ _ _ _ (table_in c.loop-k.rows) (done_with c.loop-k.failure
+          c.loop-k.state) c.loop-k.invariant.left c.loop-k-test.false refl);
+      slice = c.loop-k.invariant.same ∙ c.clear_run.ensures.1;
+    }
 
 pub parser::steps-returns-in-Err : goal.parser::steps-returns-in-Err
 parser::steps-returns-in-Err t c =
-    rw (c.in-Err.is, c.outcome.ensures c.args.state.now)
-    (resume_ended _ _ _ _ _ _ _ _ _ _ _ _ _ (ended_stops _ _))
+    record {
+      continues = rw (c.in-Err.is, c.outcome.ensures c.args.state.now)
+          (resume_ended _ _ _ _ _ _ _ _ _ _ _ _ _ (ended_stops _ _));
+      slice = refl;
+    }
 
 pub parser::steps-returns-in_err-finish-in-Steps : goal.parser::steps-returns-in_err-finish-in-Steps
 parser::steps-returns-in_err-finish-in-Steps t c =
-    let p = err_from_is_err_and c.from_residual.result c.from_residual.ensures.1 in
-    rw (p.1, p.2)
-    (rw c.in-Ok.is (path_end _ _ _ _ _ _ c.loop-stage.step c.loop-stage.remaining _ _ _ (without_failure 0
-    c.loop-stage.state) _ _ _ _
-    c.loop-stage.rows c.loop-stage.invariant.left (goes_done _) c.in-Steps.is _ _ _
-    c.if-remaining-eq0.true (rw c.in_err-finish-in-Steps.was at c.finish.ensures)))
+    record {
+      continues = let p = err_from_is_err_and c.from_residual.result c.from_residual.ensures.1 in
+          rw (p.1, p.2)
+          (rw c.in-Ok.is (path_end _ _ _ _ _ _ c.loop-stage.step c.loop-stage.remaining _ _ _ (without_failure 0
+          c.loop-stage.state) _ _ _ _
+          (table_in c.loop-stage.rows) c.loop-stage.invariant.left (goes_done _) c.in-Steps.is _ _ _
+          c.if-remaining-eq0.true (rw c.in_err-finish-in-Steps.was at c.finish.ensures.does)));
+      slice = c.finish.ensures.slice ∙ c.loop-stage.invariant.same;
+    }
 
 pub parser::steps-returns-then-remaining-eq0 : goal.parser::steps-returns-then-remaining-eq0
 parser::steps-returns-then-remaining-eq0 t c =
-    rw c.in-Ok.is (path_end _ _ _ _ _ _ c.loop-stage.step c.loop-stage.remaining _ _ _ (without_failure 0
-    c.loop-stage.state) _ _ _ _
-    c.loop-stage.rows c.loop-stage.invariant.left (goes_done _) c.in-Steps.is _ _ _
-    c.if-remaining-eq0.true (rw c.in_ok-finish-in-Steps.was at c.finish.ensures))
+    record {
+      continues = rw c.in-Ok.is (path_end _ _ _ _ _ _ c.loop-stage.step c.loop-stage.remaining _ _ _ (without_failure 0
+          c.loop-stage.state) _ _ _ _
+          (table_in c.loop-stage.rows) c.loop-stage.invariant.left (goes_done _) c.in-Steps.is _ _ _
+          c.if-remaining-eq0.true (rw c.in_ok-finish-in-Steps.was at c.finish.ensures.does));
+      slice = c.finish.ensures.slice ∙ c.loop-stage.invariant.same;
+    }
 
 pub parser::steps-returns-in-Err-take_step : goal.parser::steps-returns-in-Err-take_step
 parser::steps-returns-in-Err-take_step t c =
-    rw (c.in-Ok.is, c.outcome-in-Err-take_step.ensures c.take_step.new.state)
-    (path_ended _ _ _ _ _ _ _ _ _ _ _ _ _ _ _ _ _ (path_step _ _ _ _ _ _ c.loop-stage.step c.loop-stage.remaining _ _
-    _ (without_failure 0 c.loop-stage.state) _ _ _ _
-    c.loop-stage.rows c.loop-stage.invariant.left (goes_done _) c.in-Steps.is _ _
-    c.if-remaining-eq0.false c.loop-stage.invariant.in_range.2 (rw c.in-Err-take_step.is at c.take_step.ensures))
-    (ended_stops _ _))
+    record {
+      continues = rw (c.in-Ok.is, c.outcome-in-Err-take_step.ensures c.take_step.new.state)
+          (path_ended _ _ _ _ _ _ _ _ _ _ _ _ _ _ _ _ _ (path_step _ _ _ _ _ _ c.loop-stage.step c.loop-stage.remaining _ _
+          _ (without_failure 0 c.loop-stage.state) _ _ _ _
+          (table_in c.loop-stage.rows) c.loop-stage.invariant.left (goes_done _) c.in-Steps.is _ _
+          c.if-remaining-eq0.false c.loop-stage.invariant.in_range.2 (rw c.in-Err-take_step.is at (rw c.shared.ensures at c.take_step.ensures)))
+          (ended_stops _ _));
+      slice = c.loop-stage.invariant.same;
+    }
 
 pub parser::steps-loop-stage-preserved : goal.parser::steps-loop-stage-preserved
 parser::steps-loop-stage-preserved t c =
@@ -336,65 +457,90 @@ parser::steps-loop-stage-preserved t c =
       left =
           path_step _ _ _ _ _ _ c.loop-stage.step c.loop-stage.remaining _ _ _ (without_failure 0 c.loop-stage.state)
           _ _ _ _
-          c.loop-stage.rows c.loop-stage.invariant.left (goes_done _) c.in-Steps.is _ _
-          c.if-remaining-eq0.false c.loop-stage.invariant.in_range.2 (rw c.in-Ok-take_step.is at c.take_step.ensures);
+          (table_in c.loop-stage.rows) c.loop-stage.invariant.left (goes_done _) c.in-Steps.is _ _
+          c.if-remaining-eq0.false c.loop-stage.invariant.in_range.2 (rw c.in-Ok-take_step.is at (rw c.shared.ensures at c.take_step.ensures));
+      same = c.loop-stage.invariant.same;
     }
 
 pub parser::steps-returns-in-Child : goal.parser::steps-returns-in-Child
 parser::steps-returns-in-Child t c =
-    rw c.in-Ok.is (path_child _ _ _ _ _ _ c.loop-stage.step c.loop-stage.remaining _ _ _ (without_failure 0
-    c.loop-stage.state) _ _ _ _
-    c.loop-stage.rows c.loop-stage.invariant.left (goes_done _) _ _ _ _ c.in-Child.is c.descend.ensures)
+    record {
+      continues = rw c.in-Ok.is (path_child _ _ _ _ _ _ c.loop-stage.step c.loop-stage.remaining _ _ _ (without_failure 0
+          c.loop-stage.state) _ _ _ _
+          (table_in c.loop-stage.rows) c.loop-stage.invariant.left (goes_done _) _ _ _ _ c.in-Child.is c.descend.ensures.does);
+      slice = c.descend.ensures.slice ∙ c.loop-stage.invariant.same;
+    }
 
 pub parser::steps-returns-in-Optional : goal.parser::steps-returns-in-Optional
 parser::steps-returns-in-Optional t c =
-    rw c.in-Ok.is (path_optional _ _ _ _ _ _ c.loop-stage.step c.loop-stage.remaining _ _ _ (without_failure 0
-    c.loop-stage.state) _ _ _ _
-    c.loop-stage.rows c.loop-stage.invariant.left (goes_done _) _ _ _ _ c.in-Optional.is c.choice.ensures)
+    record {
+      continues = rw c.in-Ok.is (path_optional _ _ _ _ _ _ c.loop-stage.step c.loop-stage.remaining _ _ _ (without_failure 0
+          c.loop-stage.state) _ _ _ _
+          (table_in c.loop-stage.rows) c.loop-stage.invariant.left (goes_done _) _ _ _ _ c.in-Optional.is c.choice.ensures.does);
+      slice = c.choice.ensures.slice ∙ c.loop-stage.invariant.same;
+    }
 
 pub parser::steps-returns-then-list : goal.parser::steps-returns-then-list
 parser::steps-returns-then-list t c =
-    rw c.in-Ok.is (path_names _ _ _ _ _ _ c.loop-stage.step c.loop-stage.remaining _ _ _ (without_failure 0
-    c.loop-stage.state) _ _ _ _
-    c.loop-stage.rows c.loop-stage.invariant.left (goes_done _) _ _ _ _ _ c.in-Elements.is
-    c.if-list.true c.no_names.ensures c.choose.ensures)
+    record {
+      continues = rw c.in-Ok.is (path_names _ _ _ _ _ _ c.loop-stage.step c.loop-stage.remaining _ _ _ (without_failure 0
+          c.loop-stage.state) _ _ _ _
+          (table_in c.loop-stage.rows) c.loop-stage.invariant.left (goes_done _) _ _ _ _ _ c.in-Elements.is
+          c.if-list.true c.no_names.ensures c.choose.ensures.does);
+      slice = c.choose.ensures.slice ∙ c.loop-stage.invariant.same;
+    }
 
 pub parser::steps-returns-in-Elements : goal.parser::steps-returns-in-Elements
 parser::steps-returns-in-Elements t c =
-    rw c.in-Ok.is (path_elements _ _ _ _ _ _ c.loop-stage.step c.loop-stage.remaining _ _ _ (without_failure 0
-    c.loop-stage.state) _ _ _ _
-    c.loop-stage.rows c.loop-stage.invariant.left (goes_done _) _ _ _ _ c.in-Elements.is c.if-list.false
-    c.choice-in-Elements.ensures)
+    record {
+      continues = rw c.in-Ok.is (path_elements _ _ _ _ _ _ c.loop-stage.step c.loop-stage.remaining _ _ _ (without_failure 0
+          c.loop-stage.state) _ _ _ _
+          (table_in c.loop-stage.rows) c.loop-stage.invariant.left (goes_done _) _ _ _ _ c.in-Elements.is c.if-list.false
+          c.choice-in-Elements.ensures.does);
+      slice = c.choice-in-Elements.ensures.slice ∙ c.loop-stage.invariant.same;
+    }
 
 pub parser::variant-returns-then-variant-minimum : goal.parser::variant-returns-then-variant-minimum
 parser::variant-returns-then-variant-minimum t c =
-    variant_skipped _ _ _ _ _ _ _ c.variant-variant.ensures _ _ c.if-variant-minimum.true refl
+    record {
+      does = variant_skipped _ _ _ _ _ _ _ c.variant-variant.ensures _ _ c.if-variant-minimum.true refl;
+      slice = refl;
+    }
 
 pub parser::variant-returns-in_err-items : goal.parser::variant-returns-in_err-items
 parser::variant-returns-in_err-items t c =
-    let p = err_from_is_err_and c.from_residual.result c.from_residual.ensures.1 in
-    rw (p.1, p.2)
-    (variant_ran _ _ _ _ _ _ _ c.variant-variant.ensures _ _ c.if-variant-minimum.false _ _ _ _ _ _ _
-    (rw c.in_err-items.was at c.begin_variant.ensures)
-    (resume_ended _ _ _ _ _ _ _ _ _ _ _ _ _ (limit_stops_path _ _))
-    (variant_limit _ _ _ (done_with c.args.before c.args.state.now) (without_failure (limit_number
-    c.in_err-items.field-0.0) c.begin_variant.new.state) _
-    (number_there _) refl))
+    record {
+      does = let p = err_from_is_err_and c.from_residual.result c.from_residual.ensures.1 in
+          rw (p.1, p.2)
+          (variant_ran _ _ _ _ _ _ _ c.variant-variant.ensures _ _ c.if-variant-minimum.false _ _ _ _ _ _ _
+          (rw c.in_err-items.was at c.begin_variant.ensures.begins)
+          (resume_ended _ _ _ _ _ _ _ _ _ _ _ _ _ (limit_stops_path _ _))
+          (variant_limit _ _ _ (done_with c.args.before c.args.state.now) (without_failure (limit_number
+          c.in_err-items.field-0.0) c.begin_variant.new.state) _
+          (number_there _) refl));
+      slice = c.begin_variant.ensures.slice;
+    }
 
 pub parser::variant-returns-in_err-failure : goal.parser::variant-returns-in_err-failure
 parser::variant-returns-in_err-failure t c =
-    let p = err_from_is_err_and c.from_residual-in_err-failure.result c.from_residual-in_err-failure.ensures.1 in
-    rw (p.1, p.2)
-    (variant_ran _ _ _ _ _ _ _ c.variant-variant.ensures _ _ c.if-variant-minimum.false _ _ _ _ _ _ _
-    (rw c.in_ok-items.was at c.begin_variant.ensures)
-    (rw (c.start_of-start.ensures, c.in_err-failure.was) at c.steps.ensures)
-    (variant_limit _ _ _ (done_with c.args.before c.args.state.now) (without_failure (limit_number
-    c.in_err-failure.field-0.0) c.steps.new.state) _
-    (number_there _) refl))
+    record {
+      does = let p = err_from_is_err_and c.from_residual-in_err-failure.result c.from_residual-in_err-failure.ensures.1 in
+          rw (p.1, p.2)
+          (variant_ran _ _ _ _ _ _ _ c.variant-variant.ensures _ _ c.if-variant-minimum.false _ _ _ _ _ _ _
+          (rw c.in_ok-items.was at c.begin_variant.ensures.begins)
+          (rw ((rw c.shared.ensures at c.start_of-start.ensures), c.in_err-failure.was) at c.steps.ensures.continues)
+          (variant_limit _ _ _ (done_with c.args.before c.args.state.now) (without_failure (limit_number
+          c.in_err-failure.field-0.0) c.steps.new.state) _
+          (number_there _) refl));
+      slice = c.steps.ensures.slice ∙ c.begin_variant.ensures.slice;
+    }
 
 pub parser::variant-returns : goal.parser::variant-returns
 parser::variant-returns t c =
-    variant_ran _ _ _ _ _ _ _ c.variant-variant.ensures _ _ c.if-variant-minimum.false _ _ _ _ _ _ _
-    (rw c.in_ok-items.was at c.begin_variant.ensures)
-    (rw (c.start_of-start.ensures, c.in_ok-failure.was) at c.steps.ensures)
-    (rw c.start_of-start.ensures at (c.after_variant.ensures c.args.state.now c.steps.new.state))
+    record {
+      does = variant_ran _ _ _ _ _ _ _ c.variant-variant.ensures _ _ c.if-variant-minimum.false _ _ _ _ _ _ _
+          (rw c.in_ok-items.was at c.begin_variant.ensures.begins)
+          (rw ((rw c.shared.ensures at c.start_of-start.ensures), c.in_ok-failure.was) at c.steps.ensures.continues)
+          (rw (rw c.shared.ensures at c.start_of-start.ensures) at (c.after_variant.ensures c.args.state.now c.steps.new.state));
+      slice = c.steps.ensures.slice ∙ c.begin_variant.ensures.slice;
+    }

@@ -1,6 +1,7 @@
 -- The measures: 2,048 for each level of nesting left, 6 for each step left, and a rank that falls from one function to
 -- the next on one level. Each loop keeps that what is still to do gives what was to do when it began.
 use Rattle.std.proofs.Common.{◌+◌, ◌-◌, ◌*◌, ◌≤◌}
+use Rattle.calls.specs.Lent.{table_in, SameSlice}
 use Rattle.parser.specs.ResultLaws.{Going}
 use Rattle.parser.specs.Cycle.{InRange, todo_at, further, proceeds, rank_of, rank_begun}
 use Rattle.transitions.specs.Entering.{inner_runner}
@@ -53,10 +54,11 @@ invariant-left_recursion::rounds-loop-round l = record {
   left :
       Held l.text l.initial.store l.initial.state.cells → Going l.text l.store l.state.cells
       (rounds_rows l.book l.text (65 - l._round) (inner_runner l.book l.text l.row)
-      l.row l.minimum (row_state l.state.units (cells_of l.store l.state.cells) l.rows))
+      l.row l.minimum (row_state l.state.units (cells_of l.store l.state.cells) (table_in l.rows)))
       (rounds_rows l.book l.text 65 (inner_runner l.book l.text l.row)
       l.row l.minimum (row_state l.initial.state.units (cells_of l.initial.store l.initial.state.cells)
-      l.initial.rows));
+      (table_in l.initial.rows)));
+  same : SameSlice l.initial.rows l.rows;
 }
 
 abbrev pub invariant-parser::follow-loop-i : goal.invariant-parser::follow-loop-i
@@ -67,11 +69,12 @@ invariant-parser::follow-loop-i l = record {
       (follow_from l.book l.text (runner_rows l.book l.text l.free) l.free
       (next_rows l.book l.text l.here.call l.here.variant (todo_at l.book l.here)
       l.next l.here.items) (l.parses - l.i) l.i (failure_of (failure_at (done_with l.all l.state)))
-      (row_state l.state.units (cells_of l.store l.state.cells) l.rows))
+      (row_state l.state.units (cells_of l.store l.state.cells) (table_in l.rows)))
       (follow_from l.book l.text (runner_rows l.book l.text l.free) l.free
       (next_rows l.book l.text l.here.call l.here.variant (todo_at l.book l.here)
       l.next l.here.items) l.parses 0 (failure_of (failure_at (done_with l.initial.all l.initial.state)))
-      (row_state l.initial.state.units (cells_of l.initial.store l.initial.state.cells) l.initial.rows));
+      (row_state l.initial.state.units (cells_of l.initial.store l.initial.state.cells) (table_in l.initial.rows)));
+  same : SameSlice l.initial.rows l.rows;
 }
 
 abbrev pub invariant-parser::one_run-loop-k : goal.invariant-parser::one_run-loop-k
@@ -81,10 +84,11 @@ invariant-parser::one_run-loop-k l = record {
       Held l.text l.initial.store l.initial.state.cells → Going l.text l.store l.state.cells
       (variants_rows l.book l.text (inner_runner l.book l.text l.row) l.row
       l.minimum (l.called.count - l.k) (l.called.first + l.k) (failure_of (failure_at (done_with l.failure l.state)))
-      (row_state l.state.units (cells_of l.store l.state.cells) l.rows))
+      (row_state l.state.units (cells_of l.store l.state.cells) (table_in l.rows)))
       (variants_rows l.book l.text (inner_runner l.book l.text l.row) l.row
       l.minimum l.called.count l.called.first (failure_of (failure_at (done_with l.initial.failure l.initial.state)))
-      (row_state l.initial.state.units (cells_of l.initial.store l.initial.state.cells) l.initial.rows));
+      (row_state l.initial.state.units (cells_of l.initial.store l.initial.state.cells) (table_in l.initial.rows)));
+  same : SameSlice l.initial.rows l.rows;
 }
 
 abbrev pub invariant-parser::steps-loop-stage : goal.invariant-parser::steps-loop-stage
@@ -94,10 +98,11 @@ invariant-parser::steps-loop-stage l = record {
   left :
       Held l.text l.initial.store l.initial.state.cells → Going l.text l.store l.state.cells
       (proceeds l.free (further l.from l.step l.remaining l.stage.place l.stage.items) l.stage.doing l.book l.text
-      (given (without_failure 0 l.state) (cells_of l.store l.state.cells) l.rows))
+      (given (without_failure 0 l.state) (cells_of l.store l.state.cells) (table_in l.rows)))
       (proceeds l.free (further l.from l.initial.step l.initial.remaining l.initial.stage.place l.initial.stage.items)
       l.initial.stage.doing l.book l.text
-      (given (without_failure 0 l.initial.state) (cells_of l.initial.store l.initial.state.cells) l.initial.rows));
+      (given (without_failure 0 l.initial.state) (cells_of l.initial.store l.initial.state.cells) (table_in l.initial.rows)));
+  same : SameSlice l.initial.rows l.rows;
 }
 
 abbrev pub decreases-parser::steps-loop-stage : goal.decreases-parser::steps-loop-stage

@@ -28,4 +28,4 @@ pub returns : goal.returns
 returns c =
     let high = c.first_high.ensures ∙ high_at c.args.text.now in
     book_run _ _ _ _ _ _ _ c.nonterminals.ensures c.if-nonterminals-start.false c.if-text.false _
-    high _ _ c.in_default.is c.run-found.ensures.is c.ending.ensures
+    high _ _ c.in_default.is c.run-found.ensures.runs.is (rw c.shared.ensures at c.ending.ensures)

@@ -1,5 +1,6 @@
 -- `run::run` meets its contract.
-use Rattle.std.proofs.Common.{arith, sym, ◌∙◌}
+use Rattle.std.proofs.Common.{arith}
+use Rattle.calls.specs.TableLaws.{table_length}
 use Rattle.transitions.specs.TakenLaws.{skip_fits}
 use Rattle.transitions.specs.Results.{outcome_of}
 use Rattle.run.specs.ReadingLaws.{run_is}
@@ -11,7 +12,10 @@ overflow_cast-first c =
 
 pub returns : goal.returns
 returns c =
-    let size = sym c.len.ensures.0 ∙ c.len.ensures.1 in
-    run_is c.args.book.now c.args.text.now _ _ _ _ _ c.args.units c.args.start c.skip-first.result (outcome_of
-    c.enter-found.result c.enter-found.new.state) size
-    c.clear.ensures c.requires.0 c.skip-first.ensures c.enter-found.ensures
+    record {
+      runs =
+          run_is c.args.book.now c.args.text.now _ _ _ _ _ c.args.units c.args.start c.skip-first.result (outcome_of
+          c.enter-found.result c.enter-found.new.state) (table_length _)
+          c.clear.ensures c.requires.0 c.skip-first.ensures c.enter-found.ensures.does;
+      slice = c.enter-found.ensures.slice;
+    }

@@ -1,7 +1,9 @@
 -- `transitions::declare_name` meets its contract.
-use Rattle.std.proofs.Common.{arith, refl, sym, ◌∙◌}
+use Rattle.std.proofs.Common.{arith, refl}
 use Rattle.std.proofs.lemmas.Result.{err_from_is_err_and}
 use Rattle.semantics.specs.Cells.{Cell}
+use Rattle.calls.specs.TableLaws.{table_length}
+use Rattle.calls.specs.Lent.{table_in}
 use Rattle.transitions.specs.OutcomeLaws.{number_there}
 use Rattle.transitions.specs.NamesLaws.{kind_few, place_inside, end_inside, declare_missing, declare_limit}
 use Rattle.transitions.specs.NamesLaws.{declare_chain_limit, declare_on}
@@ -24,29 +26,38 @@ overflow_cast-size c = omega (
 
 pub returns-in_err-name : goal.returns-in_err-name
 returns-in_err-name c =
-    let p = err_from_is_err_and c.from_residual.result c.from_residual.ensures.1 in
-    rw (p.1, p.2)
-    (declare_missing c.args.book.now c.args.text.now c.args.store.now c.args.rows.now c.args.free c.args.here
-    c.args.names c.args.state.now _ _ _ _ _ c.skipped-at.ensures c.declaration_at.ensures c.in_err-name.was refl refl)
+    record {
+      declares = let p = err_from_is_err_and c.from_residual.result c.from_residual.ensures.1 in
+          rw (p.1, p.2)
+          (declare_missing c.args.book.now c.args.text.now c.args.store.now (table_in c.args.rows.now) c.args.free c.args.here
+          c.args.names c.args.state.now _ _ _ _ _ c.skipped-at.ensures c.declaration_at.ensures c.in_err-name.was refl refl);
+      slice = refl;
+    }
 
 pub returns-in_err-cell : goal.returns-in_err-cell
 returns-in_err-cell c =
-    let p = err_from_is_err_and c.from_residual-in_err-cell.result c.from_residual-in_err-cell.ensures.1 in
-    rw (p.1, p.2)
-    (declare_limit c.args.book.now c.args.text.now c.args.store.now _ c.args.rows.now _ c.args.free c.args.here
-    c.args.names c.args.state.now _ c.skipped-at.ensures _ c.declaration_at.ensures _ c.in_ok-name.was _
-    c.span_length-size.ensures c.declare.ensures _ _ c.number.ensures (rw c.in_err-cell.was at c.make.ensures) _ _
-    (number_there _) refl refl)
+    record {
+      declares = let p = err_from_is_err_and c.from_residual-in_err-cell.result c.from_residual-in_err-cell.ensures.1 in
+          rw (p.1, p.2)
+          (declare_limit c.args.book.now c.args.text.now c.args.store.now _ (table_in c.args.rows.now) _ c.args.free c.args.here
+          c.args.names c.args.state.now _ c.skipped-at.ensures _ c.declaration_at.ensures _ c.in_ok-name.was _
+          c.span_length-size.ensures c.declare.ensures.0 _ _ c.number.ensures (rw c.in_err-cell.was at c.make.ensures) _ _
+          (number_there _) refl refl);
+      slice = c.declare.ensures.1;
+    }
 
 pub returns-in_err-kinds : goal.returns-in_err-kinds
 returns-in_err-kinds c =
-    let p = err_from_is_err_and c.from_residual-in_err-kinds.result c.from_residual-in_err-kinds.ensures.1 in
-    rw (p.1, p.2)
-    (declare_chain_limit c.args.book.now c.args.text.now c.args.store.now _ c.args.rows.now _ c.args.free c.args.here
-    c.args.names c.args.state.now _ c.skipped-at.ensures _ c.declaration_at.ensures _ c.in_ok-name.was _
-    c.span_length-size.ensures c.declare.ensures _ _ c.number.ensures (rw c.in_ok-cell.was at c.make.ensures) _ refl _
-    (rw c.in_err-kinds.was at (c.make-2.ensures (Cell.chain c.args.names.kinds _) c.chain.ensures)) _ _
-    (number_there _) refl refl)
+    record {
+      declares = let p = err_from_is_err_and c.from_residual-in_err-kinds.result c.from_residual-in_err-kinds.ensures.1 in
+          rw (p.1, p.2)
+          (declare_chain_limit c.args.book.now c.args.text.now c.args.store.now _ (table_in c.args.rows.now) _ c.args.free c.args.here
+          c.args.names c.args.state.now _ c.skipped-at.ensures _ c.declaration_at.ensures _ c.in_ok-name.was _
+          c.span_length-size.ensures c.declare.ensures.0 _ _ c.number.ensures (rw c.in_ok-cell.was at c.make.ensures) _ refl _
+          (rw c.in_err-kinds.was at (c.make-2.ensures (Cell.chain c.args.names.kinds _) c.chain.ensures)) _ _
+          (number_there _) refl refl);
+      slice = c.declare.ensures.1;
+    }
 
 pub behind_name-requires : goal.behind_name-requires
 behind_name-requires c =
@@ -55,8 +66,11 @@ behind_name-requires c =
 
 pub returns : goal.returns
 returns c =
-    declare_on c.args.book.now c.args.text.now c.args.store.now _ c.args.rows.now _ c.args.free c.args.here
-    c.args.names c.args.state.now _ c.skipped-at.ensures _ c.declaration_at.ensures _ c.in_ok-name.was _
-    c.span_length-size.ensures c.declare.ensures _ _ c.number.ensures (rw c.in_ok-cell.was at c.make.ensures) _ refl _
-    (rw c.in_ok-kinds.was at (c.make-2.ensures (Cell.chain c.args.names.kinds _) c.chain.ensures)) refl
-    c.requires.1 c.requires.0.0 (sym c.len.ensures.0 ∙ c.len.ensures.1) _ (c.behind_name.ensures _)
+    record {
+      declares = declare_on c.args.book.now c.args.text.now c.args.store.now _ (table_in c.args.rows.now) _ c.args.free c.args.here
+          c.args.names c.args.state.now _ c.skipped-at.ensures _ c.declaration_at.ensures _ c.in_ok-name.was _
+          c.span_length-size.ensures c.declare.ensures.0 _ _ c.number.ensures (rw c.in_ok-cell.was at c.make.ensures) _ refl _
+          (rw c.in_ok-kinds.was at (c.make-2.ensures (Cell.chain c.args.names.kinds _) c.chain.ensures)) refl
+          c.requires.1 c.requires.0.0 (table_length _) _ (c.behind_name.ensures _);
+      slice = c.declare.ensures.1;
+    }

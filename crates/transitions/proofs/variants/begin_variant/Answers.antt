@@ -1,6 +1,7 @@
 -- `transitions::begin_variant` meets its contract.
 use Rattle.std.proofs.Common.{refl, ap, arith}
 use Rattle.book.specs.declared.records.Variant.{Variant}
+use Rattle.calls.specs.Lent.{table_in}
 use Rattle.transitions.specs.EndingLaws.{variant_begins}
 use Rattle.transitions.proofs.variants.begin_variant.Goals as goal
 
@@ -10,6 +11,9 @@ overflow_cast-variant c =
 
 pub returns : goal.returns
 returns c =
-    variant_begins c.args.book.now c.args.text.now c.args.store.now _
-    c.args.rows.now _ c.args.row c.args.j c.args.state.now _ c.begin.ensures _ _ _ refl
-    c.variant-variant.ensures c.take_variant.ensures refl
+    record {
+      begins = variant_begins c.args.book.now c.args.text.now c.args.store.now _
+          (table_in c.args.rows.now) _ c.args.row c.args.j c.args.state.now _ c.begin.ensures _ _ _ refl
+          c.variant-variant.ensures c.take_variant.ensures.0 refl;
+      slice = c.take_variant.ensures.1;
+    }
