@@ -30,8 +30,8 @@ pub fn begin_variant(
     state: &mut State,
 ) -> Result<u32, Limit>
     requires { Ready book.now text.now row }
-    ensures begins { Begins book.now text.now store.old store.new (table_in rows.old) (table_in rows.new) row j state.old
-        (reached_with (cell_of result state.new) (row_of (table_in rows.old) row).start) }
+    ensures begins { Begins book.now text.now store.old store.new (table_in rows.old) (table_in rows.new) row j
+        state.old (reached_with (cell_of result state.new) (row_of (table_in rows.old) row).start) }
     ensures slice { SameSlice rows.old rows.new }
 {
     let variant = book.variant(j as usize);

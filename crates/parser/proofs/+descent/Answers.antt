@@ -39,7 +39,8 @@ left_recursion::call-returns-in_err-failure t c =
 pub left_recursion::call-returns-in_err-failure-2 : goal.left_recursion::call-returns-in_err-failure-2
 left_recursion::call-returns-in_err-failure-2 t c =
     record {
-      does = let p = err_from_is_err_and c.from_residual-in_err-failure-2.result c.from_residual-in_err-failure-2.ensures.1 in
+      does = let p = err_from_is_err_and c.from_residual-in_err-failure-2.result
+          c.from_residual-in_err-failure-2.ensures.1 in
           rw (p.1, p.2)
           (run_call_over _ _ _ _ _ _ _ _ _ _ _ _ _ _ _ _ _ c.open_call.ensures.0
           (rw c.in_ok-failure.was at c.one_run.ensures.does)
@@ -78,14 +79,16 @@ left_recursion::enter-returns-in_err-failure t c =
 pub left_recursion::enter-returns-in-Over : goal.left_recursion::enter-returns-in-Over
 left_recursion::enter-returns-in-Over t c =
     record {
-      does = enter_over _ _ _ _ _ _ _ _ _ _ _ _ (rw c.in-Over.is at (rw c.in_ok-failure.was at c.begin_use.ensures.begins)) refl;
+      does = enter_over _ _ _ _ _ _ _ _ _ _ _ _ (rw c.in-Over.is at (rw c.in_ok-failure.was at
+          c.begin_use.ensures.begins)) refl;
       slice = c.begin_use.ensures.slice;
     }
 
 pub left_recursion::enter-returns-in-Runs : goal.left_recursion::enter-returns-in-Runs
 left_recursion::enter-returns-in-Runs t c =
     record {
-      does = enter_runs _ _ _ _ _ _ _ _ _ _ _ _ (rw c.in-Runs.is at (rw c.in_ok-failure.was at c.begin_use.ensures.begins))
+      does = enter_runs _ _ _ _ _ _ _ _ _ _ _ _ (rw c.in-Runs.is at (rw c.in_ok-failure.was at
+          c.begin_use.ensures.begins))
           _ _ _ refl c.call.ensures.does;
       slice = c.call.ensures.slice ∙ c.begin_use.ensures.slice;
     }
@@ -103,7 +106,8 @@ left_recursion::rounds-returns-in_err-failure t c =
 pub left_recursion::rounds-returns-in_err-failure-2 : goal.left_recursion::rounds-returns-in_err-failure-2
 left_recursion::rounds-returns-in_err-failure-2 t c =
     record {
-      does = let p = err_from_is_err_and c.from_residual-in_err-failure-2.result c.from_residual-in_err-failure-2.ensures.1 in
+      does = let p = err_from_is_err_and c.from_residual-in_err-failure-2.result
+          c.from_residual-in_err-failure-2.ensures.1 in
           rw (p.1, p.2)
           (rounds_over _ _ _ _ _ _ _ _ _ _ _ _ c.loop-round.invariant.left _ _ _ _ _ c.loop-round-test.true
           (rw c.in_ok-failure.was at c.one_run.ensures.does)
@@ -173,7 +177,8 @@ names::choose-returns t c =
     record {
       does = names_both _ _ _ c.args.here _ _ _ _ _ _ (rw c.in_ok-spend.was at c.spend.ensures) refl _ _ _
           (rw c.in_ok-first.was at c.close.ensures.does) refl c.requires.0.3 c.requires.0.2.0 (table_length _)
-          _ _ _ _ (rw c.in_ok-second.was at c.declare.ensures.does) (rw c.shared.ensures at (c.both_sides.ensures _ _));
+          _ _ _ _ (rw c.in_ok-second.was at c.declare.ensures.does) (rw c.shared.ensures at (c.both_sides.ensures
+          c.close.new.state c.declare.new.state));
       slice = c.declare.ensures.slice ∙ c.close.ensures.slice;
     }
 
@@ -181,7 +186,8 @@ pub names::close-returns-in-Err : goal.names::close-returns-in-Err
 names::close-returns-in-Err t c =
     record {
       does = rw (c.outcome.ensures c.open_body.new.state)
-          (close_ended _ _ _ _ _ _ _ _ _ _ _ (rw c.in-Err.is at (rw c.shared.ensures at c.open_body.ensures)) (ended_stops _ _));
+          (close_ended _ _ _ _ _ _ _ _ _ _ _ (rw c.in-Err.is at (rw c.shared.ensures at c.open_body.ensures))
+          (ended_stops _ _));
       slice = refl;
     }
 
@@ -190,19 +196,26 @@ names::close-returns-in_err-failure t c =
     record {
       does = let p = err_from_is_err_and c.from_residual.result c.from_residual.ensures.1 in
           rw (p.1, p.2)
-          (close_body _ _ _ _ _ _ _ _ _ _ _ (rw c.in-Ok.is at (rw c.shared.ensures at c.open_body.ensures)) (goes_done _) _ _ _
-          (descended _ _ _ _ _ _ _ _ _ _ _ _ _ _ _ _ _ _ _ _ _ _ _ _ (names_binder c.args.text.now (table_in c.args.rows.now)
-          c.args.free c.args.names.count _ c.args.here.call c.body_binder-binder.ensures) c.begin_child-at.ensures.begins
-          (rw c.in_err-failure.was at c.enter.ensures.does) (follow_ended _ _ _ _ _ _ _ _ _ _ _ _ (limit_stops_path _ _))));
+          (close_body _ _ _ _ _ _ _ _ _ _ _ (rw c.in-Ok.is at (rw c.shared.ensures at c.open_body.ensures)) (goes_done
+          _) _ _ _
+          (descended _ _ _ _ _ _ _ _ _ _ _ _ _ _ _ _ _ _ _ _ _ _ _ _ (names_binder c.args.text.now (table_in
+          c.args.rows.now)
+          c.args.free c.args.names.count _ c.args.here.call c.body_binder-binder.ensures)
+          c.begin_child-at.ensures.begins
+          (rw c.in_err-failure.was at c.enter.ensures.does) (follow_ended _ _ _ _ _ _ _ _ _ _ _ _ (limit_stops_path _
+          _))));
       slice = c.enter.ensures.slice ∙ c.begin_child-at.ensures.slice;
     }
 
 pub names::close-returns : goal.names::close-returns
 names::close-returns t c =
     record {
-      does = close_body _ _ _ _ _ _ _ _ _ _ _ (rw c.in-Ok.is at (rw c.shared.ensures at c.open_body.ensures)) (goes_done _) _ _ _
-          (descended _ _ _ _ _ _ _ _ _ _ _ _ _ _ _ _ _ _ _ _ _ _ _ _ (names_binder c.args.text.now (table_in c.args.rows.now)
-          c.args.free c.args.names.count _ c.args.here.call c.body_binder-binder.ensures) c.begin_child-at.ensures.begins
+      does = close_body _ _ _ _ _ _ _ _ _ _ _ (rw c.in-Ok.is at (rw c.shared.ensures at c.open_body.ensures))
+          (goes_done _) _ _ _
+          (descended _ _ _ _ _ _ _ _ _ _ _ _ _ _ _ _ _ _ _ _ _ _ _ _ (names_binder c.args.text.now (table_in
+          c.args.rows.now)
+          c.args.free c.args.names.count _ c.args.here.call c.body_binder-binder.ensures)
+          c.begin_child-at.ensures.begins
           (rw c.in_ok-failure.was at c.enter.ensures.does) c.follow.ensures.continues);
       slice = c.follow.ensures.slice ∙ c.enter.ensures.slice ∙ c.begin_child-at.ensures.slice;
     }
@@ -219,7 +232,8 @@ names::declare-returns-in_err-spend t c =
 pub names::declare-returns-then-free-eq0 : goal.names::declare-returns-then-free-eq0
 names::declare-returns-then-free-eq0 t c =
     record {
-      does = declare_deep _ _ _ c.args.here _ _ _ _ _ _ (rw c.in_ok-spend.was at c.spend.ensures) refl _ c.if-free-eq0.true refl;
+      does = declare_deep _ _ _ c.args.here _ _ _ _ _ _ (rw c.in_ok-spend.was at c.spend.ensures) refl _
+          c.if-free-eq0.true refl;
       slice = refl;
     }
 
@@ -227,7 +241,8 @@ pub names::declare-returns-in-Err : goal.names::declare-returns-in-Err
 names::declare-returns-in-Err t c =
     record {
       does = rw (c.outcome.ensures c.declare_name.new.state)
-          (declare_ended _ _ _ c.args.here _ _ _ _ _ _ (rw c.in_ok-spend.was at c.spend.ensures) refl c.if-free-eq0.false _
+          (declare_ended _ _ _ c.args.here _ _ _ _ _ _ (rw c.in_ok-spend.was at c.spend.ensures) refl
+          c.if-free-eq0.false _
           _ _
           (rw c.in-Err.is at c.declare_name.ensures.declares) (ended_stops _ _));
       slice = c.declare_name.ensures.slice;
@@ -236,7 +251,8 @@ names::declare-returns-in-Err t c =
 pub names::declare-returns-then-name : goal.names::declare-returns-then-name
 names::declare-returns-then-name t c =
     record {
-      does = declare_more _ _ _ c.args.here _ _ _ _ _ _ (rw c.in_ok-spend.was at c.spend.ensures) refl c.if-free-eq0.false _ _ _
+      does = declare_more _ _ _ c.args.here _ _ _ _ _ _ (rw c.in_ok-spend.was at c.spend.ensures) refl
+          c.if-free-eq0.false _ _ _
           (rw c.in-Ok.is at c.declare_name.ensures.declares) (goes_done _) _ _ _
           c.if-name.true c.choose.ensures.does;
       slice = c.choose.ensures.slice ∙ c.declare_name.ensures.slice;
@@ -245,7 +261,8 @@ names::declare-returns-then-name t c =
 pub names::declare-returns-else-name : goal.names::declare-returns-else-name
 names::declare-returns-else-name t c =
     record {
-      does = declare_last _ _ _ c.args.here _ _ _ _ _ _ (rw c.in_ok-spend.was at c.spend.ensures) refl c.if-free-eq0.false _ _ _
+      does = declare_last _ _ _ c.args.here _ _ _ _ _ _ (rw c.in_ok-spend.was at c.spend.ensures) refl
+          c.if-free-eq0.false _ _ _
           (rw c.in-Ok.is at c.declare_name.ensures.declares) (goes_done _) _ _ _
           c.if-name.false c.close.ensures.does;
       slice = c.close.ensures.slice ∙ c.declare_name.ensures.slice;
@@ -273,7 +290,8 @@ parser::choice-returns-in_err-second t c =
           c.first_side-begun.new.state c.first_side-begun.ensures.steps) at
           c.first_side-begun.ensures.does)
           (rw (side_steps c.first_side-begun.result c.first_side-begun.new.state c.first_side-begun.ensures.steps) at
-          (rw c.in_ok-first.was at c.steps.ensures.continues)) refl _ _ _ _ (rw c.in_err-second.was at c.descend.ensures.does) (both_limit
+          (rw c.in_ok-first.was at c.steps.ensures.continues)) refl _ _ _ _ (rw c.in_err-second.was at
+          c.descend.ensures.does) (both_limit
           _ _ _ _ _ _ (number_there _)));
       slice = c.descend.ensures.slice ∙ c.steps.ensures.slice;
     }
@@ -285,8 +303,9 @@ parser::choice-returns t c =
           c.first_side-begun.new.state c.first_side-begun.ensures.steps) at
           c.first_side-begun.ensures.does)
           (rw (side_steps c.first_side-begun.result c.first_side-begun.new.state c.first_side-begun.ensures.steps) at
-          (rw c.in_ok-first.was at c.steps.ensures.continues)) refl _ _ _ _ (rw c.in_ok-second.was at c.descend.ensures.does)
-          (rw c.shared.ensures at (c.both_sides.ensures _ _));
+          (rw c.in_ok-first.was at c.steps.ensures.continues)) refl _ _ _ _ (rw c.in_ok-second.was at
+          c.descend.ensures.does)
+          (rw c.shared.ensures at (c.both_sides.ensures c.steps.new.state c.descend.new.state));
       slice = c.descend.ensures.slice ∙ c.steps.ensures.slice;
     }
 
@@ -295,16 +314,19 @@ parser::descend-returns-in_err-failure t c =
     record {
       does = let p = err_from_is_err_and c.from_residual.result c.from_residual.ensures.1 in
           rw (p.1, p.2)
-          (descended _ _ _ _ _ _ _ _ _ _ _ _ _ _ _ _ _ _ _ _ _ _ _ _ (rw c.shared.ensures at c.inherited_binder-binder.ensures)
+          (descended _ _ _ _ _ _ _ _ _ _ _ _ _ _ _ _ _ _ _ _ _ _ _ _ (rw c.shared.ensures at
+          c.inherited_binder-binder.ensures)
           c.begin_child-at.ensures.begins
-          (rw c.in_err-failure.was at c.enter.ensures.does) (follow_ended _ _ _ _ _ _ _ _ _ _ _ _ (limit_stops_path _ _)));
+          (rw c.in_err-failure.was at c.enter.ensures.does) (follow_ended _ _ _ _ _ _ _ _ _ _ _ _ (limit_stops_path _
+          _)));
       slice = c.enter.ensures.slice ∙ c.begin_child-at.ensures.slice;
     }
 
 pub parser::descend-returns : goal.parser::descend-returns
 parser::descend-returns t c =
     record {
-      does = descended _ _ _ _ _ _ _ _ _ _ _ _ _ _ _ _ _ _ _ _ _ _ _ _ (rw c.shared.ensures at c.inherited_binder-binder.ensures) c.begin_child-at.ensures.begins
+      does = descended _ _ _ _ _ _ _ _ _ _ _ _ _ _ _ _ _ _ _ _ _ _ _ _ (rw c.shared.ensures at
+          c.inherited_binder-binder.ensures) c.begin_child-at.ensures.begins
           (rw c.in_ok-failure.was at c.enter.ensures.does) c.follow.ensures.continues;
       slice = c.follow.ensures.slice ∙ c.enter.ensures.slice ∙ c.begin_child-at.ensures.slice;
     }
@@ -327,8 +349,10 @@ parser::follow-loop-i-init t c =
 pub parser::follow-returns-then-free-eq0 : goal.parser::follow-returns-then-free-eq0
 parser::follow-returns-then-free-eq0 t c =
     record {
-      continues = follow_whole _ _ _ _ _ _ _ _ _ _ _ _ _ _ _ _ (nothing_goes _ _ (sym c.is_some.ensures ∙ c.if-is_some.false))
-          (rw c.shared.ensures at c.parse_count-parses.ensures.count) (follow_deep _ _ _ _ _ _ _ _ _ _ _ _ _ _ (table_in c.loop-i.rows) (done_with c.loop-i.all
+      continues = follow_whole _ _ _ _ _ _ _ _ _ _ _ _ _ _ _ _ (nothing_goes _ _ (sym c.is_some.ensures ∙
+          c.if-is_some.false))
+          (rw c.shared.ensures at c.parse_count-parses.ensures.count) (follow_deep _ _ _ _ _ _ _ _ _ _ _ _ _ _
+          (table_in c.loop-i.rows) (done_with c.loop-i.all
           c.loop-i.state) c.loop-i.invariant.left
           _ refl c.loop-i-test.true c.if-free-eq0.true);
       slice = c.loop-i.invariant.same;
@@ -340,9 +364,12 @@ parser::follow-returns-in_err-failure t c =
       continues = let p = err_from_is_err_and c.from_residual.result c.from_residual.ensures.1 in
           rw (p.1, p.2)
           (follow_whole _ _ _ _ _ _ _ _ _ _ _ _ _ _ _ _ (nothing_goes _ _ (sym c.is_some.ensures ∙ c.if-is_some.false))
-          (rw c.shared.ensures at c.parse_count-parses.ensures.count) (follow_stop _ _ _ _ _ _ _ _ _ _ _ _ _ _ (table_in c.loop-i.rows) (done_with c.loop-i.all
-          c.loop-i.state) c.loop-i.invariant.left c.loop-i-test.true c.if-free-eq0.false _ (rw c.shared-2.ensures at c.nth_parse-q.ensures) _ _ _ _ _ _
-          c.next_of-begun.ensures (rw c.in_err-failure.was at c.steps.ensures.continues) (joined_limit _ _ _ (number_there _))
+          (rw c.shared.ensures at c.parse_count-parses.ensures.count) (follow_stop _ _ _ _ _ _ _ _ _ _ _ _ _ _
+          (table_in c.loop-i.rows) (done_with c.loop-i.all
+          c.loop-i.state) c.loop-i.invariant.left c.loop-i-test.true c.if-free-eq0.false _ (rw
+          c.shared-in-loop-i.ensures at c.nth_parse-q.ensures) _ _ _ _ _ _
+          c.next_of-begun.ensures (rw c.in_err-failure.was at c.steps.ensures.continues) (joined_limit _ _ _
+          (number_there _))
           (number_there _)));
       slice = c.steps.ensures.slice ∙ c.loop-i.invariant.same;
     }
@@ -352,16 +379,20 @@ parser::follow-loop-i-preserved t c =
     record {
       few = omega (arith, c.loop-i-test.true);
       left = follow_again _ _ _ _ _ _ _ _ _ _ _ _ _ _ (table_in c.loop-i.rows) (done_with c.loop-i.all c.loop-i.state)
-          c.loop-i.invariant.left c.loop-i-test.true c.if-free-eq0.false _ (rw c.shared-2.ensures at c.nth_parse-q.ensures) _ _ _ _ _ _
-          c.next_of-begun.ensures (rw c.in_ok-failure.was at c.steps.ensures.continues) (c.after_parse-all.ensures _ _) refl;
+          c.loop-i.invariant.left c.loop-i-test.true c.if-free-eq0.false _ (rw c.shared-in-loop-i.ensures at
+          c.nth_parse-q.ensures) _ _ _ _ _ _
+          c.next_of-begun.ensures (rw c.in_ok-failure.was at c.steps.ensures.continues) (c.after_parse-all.ensures _
+          _) refl;
       same = c.steps.ensures.slice ∙ c.loop-i.invariant.same;
     }
 
 pub parser::follow-returns : goal.parser::follow-returns
 parser::follow-returns t c =
     record {
-      continues = follow_whole _ _ _ _ _ _ _ _ _ _ _ _ _ _ _ _ (nothing_goes _ _ (sym c.is_some.ensures ∙ c.if-is_some.false))
-          (rw c.shared.ensures at c.parse_count-parses.ensures.count) (follow_end _ _ _ _ _ _ _ _ _ _ _ _ _ _ (table_in c.loop-i.rows) (done_with c.loop-i.all
+      continues = follow_whole _ _ _ _ _ _ _ _ _ _ _ _ _ _ _ _ (nothing_goes _ _ (sym c.is_some.ensures ∙
+          c.if-is_some.false))
+          (rw c.shared.ensures at c.parse_count-parses.ensures.count) (follow_end _ _ _ _ _ _ _ _ _ _ _ _ _ _
+          (table_in c.loop-i.rows) (done_with c.loop-i.all
           c.loop-i.state) c.loop-i.invariant.left c.loop-i-test.false refl);
       slice = c.loop-i.invariant.same;
     }
@@ -371,7 +402,8 @@ parser::one_run-returns-in_err-failure t c =
     record {
       does = let p = err_from_is_err_and c.from_residual.result c.from_residual.ensures.1 in
           rw (p.1, p.2)
-          (one_run_whole _ _ _ _ _ _ _ _ _ _ _ _ _ _ _ (rw c.shared.ensures at c.nonterminal_of-nonterminal.ensures) c.clear_run.ensures.0
+          (one_run_whole _ _ _ _ _ _ _ _ _ _ _ _ _ _ _ (rw c.shared.ensures at c.nonterminal_of-nonterminal.ensures)
+          c.clear_run.ensures.0
           c.nonterminal-called.ensures refl (variants_stop _ _ _ _ _ _ _ _ _ _ _ _ (table_in c.loop-k.rows) (done_with
           c.loop-k.failure c.loop-k.state) c.loop-k.invariant.left c.loop-k-test.true
           _ refl _ _ _ (rw c.in_err-failure.was at c.variant.ensures.does) (number_there _)));
@@ -391,8 +423,10 @@ parser::one_run-loop-k-preserved t c =
 pub parser::one_run-returns : goal.parser::one_run-returns
 parser::one_run-returns t c =
     record {
-      does = one_run_whole _ _ _ _ _ _ _ _ _ _ _ _ _ _ _ (rw c.shared.ensures at c.nonterminal_of-nonterminal.ensures) c.clear_run.ensures.0
-          c.nonterminal-called.ensures refl (variants_end _ _ _ _ _ _ _ _ _ _ _ _ (table_in c.loop-k.rows) (done_with c.loop-k.failure
+      does = one_run_whole _ _ _ _ _ _ _ _ _ _ _ _ _ _ _ (rw c.shared.ensures at c.nonterminal_of-nonterminal.ensures)
+          c.clear_run.ensures.0
+          c.nonterminal-called.ensures refl (variants_end _ _ _ _ _ _ _ _ _ _ _ _ (table_in c.loop-k.rows) (done_with
+          c.loop-k.failure
           c.loop-k.state) c.loop-k.invariant.left c.loop-k-test.false refl);
       slice = c.loop-k.invariant.same ∙ c.clear_run.ensures.1;
     }
@@ -431,10 +465,12 @@ pub parser::steps-returns-in-Err-take_step : goal.parser::steps-returns-in-Err-t
 parser::steps-returns-in-Err-take_step t c =
     record {
       continues = rw (c.in-Ok.is, c.outcome-in-Err-take_step.ensures c.take_step.new.state)
-          (path_ended _ _ _ _ _ _ _ _ _ _ _ _ _ _ _ _ _ (path_step _ _ _ _ _ _ c.loop-stage.step c.loop-stage.remaining _ _
+          (path_ended _ _ _ _ _ _ _ _ _ _ _ _ _ _ _ _ _ (path_step _ _ _ _ _ _ c.loop-stage.step
+          c.loop-stage.remaining _ _
           _ (without_failure 0 c.loop-stage.state) _ _ _ _
           (table_in c.loop-stage.rows) c.loop-stage.invariant.left (goes_done _) c.in-Steps.is _ _
-          c.if-remaining-eq0.false c.loop-stage.invariant.in_range.2 (rw c.in-Err-take_step.is at (rw c.shared.ensures at c.take_step.ensures)))
+          c.if-remaining-eq0.false c.loop-stage.invariant.in_range.2 (rw c.in-Err-take_step.is at (rw c.shared.ensures
+          at c.take_step.ensures)))
           (ended_stops _ _));
       slice = c.loop-stage.invariant.same;
     }
@@ -458,32 +494,38 @@ parser::steps-loop-stage-preserved t c =
           path_step _ _ _ _ _ _ c.loop-stage.step c.loop-stage.remaining _ _ _ (without_failure 0 c.loop-stage.state)
           _ _ _ _
           (table_in c.loop-stage.rows) c.loop-stage.invariant.left (goes_done _) c.in-Steps.is _ _
-          c.if-remaining-eq0.false c.loop-stage.invariant.in_range.2 (rw c.in-Ok-take_step.is at (rw c.shared.ensures at c.take_step.ensures));
+          c.if-remaining-eq0.false c.loop-stage.invariant.in_range.2 (rw c.in-Ok-take_step.is at (rw c.shared.ensures
+          at c.take_step.ensures));
       same = c.loop-stage.invariant.same;
     }
 
 pub parser::steps-returns-in-Child : goal.parser::steps-returns-in-Child
 parser::steps-returns-in-Child t c =
     record {
-      continues = rw c.in-Ok.is (path_child _ _ _ _ _ _ c.loop-stage.step c.loop-stage.remaining _ _ _ (without_failure 0
+      continues = rw c.in-Ok.is (path_child _ _ _ _ _ _ c.loop-stage.step c.loop-stage.remaining _ _ _
+          (without_failure 0
           c.loop-stage.state) _ _ _ _
-          (table_in c.loop-stage.rows) c.loop-stage.invariant.left (goes_done _) _ _ _ _ c.in-Child.is c.descend.ensures.does);
+          (table_in c.loop-stage.rows) c.loop-stage.invariant.left (goes_done _) _ _ _ _ c.in-Child.is
+          c.descend.ensures.does);
       slice = c.descend.ensures.slice ∙ c.loop-stage.invariant.same;
     }
 
 pub parser::steps-returns-in-Optional : goal.parser::steps-returns-in-Optional
 parser::steps-returns-in-Optional t c =
     record {
-      continues = rw c.in-Ok.is (path_optional _ _ _ _ _ _ c.loop-stage.step c.loop-stage.remaining _ _ _ (without_failure 0
+      continues = rw c.in-Ok.is (path_optional _ _ _ _ _ _ c.loop-stage.step c.loop-stage.remaining _ _ _
+          (without_failure 0
           c.loop-stage.state) _ _ _ _
-          (table_in c.loop-stage.rows) c.loop-stage.invariant.left (goes_done _) _ _ _ _ c.in-Optional.is c.choice.ensures.does);
+          (table_in c.loop-stage.rows) c.loop-stage.invariant.left (goes_done _) _ _ _ _ c.in-Optional.is
+          c.choice.ensures.does);
       slice = c.choice.ensures.slice ∙ c.loop-stage.invariant.same;
     }
 
 pub parser::steps-returns-then-list : goal.parser::steps-returns-then-list
 parser::steps-returns-then-list t c =
     record {
-      continues = rw c.in-Ok.is (path_names _ _ _ _ _ _ c.loop-stage.step c.loop-stage.remaining _ _ _ (without_failure 0
+      continues = rw c.in-Ok.is (path_names _ _ _ _ _ _ c.loop-stage.step c.loop-stage.remaining _ _ _
+          (without_failure 0
           c.loop-stage.state) _ _ _ _
           (table_in c.loop-stage.rows) c.loop-stage.invariant.left (goes_done _) _ _ _ _ _ c.in-Elements.is
           c.if-list.true c.no_names.ensures c.choose.ensures.does);
@@ -493,9 +535,11 @@ parser::steps-returns-then-list t c =
 pub parser::steps-returns-in-Elements : goal.parser::steps-returns-in-Elements
 parser::steps-returns-in-Elements t c =
     record {
-      continues = rw c.in-Ok.is (path_elements _ _ _ _ _ _ c.loop-stage.step c.loop-stage.remaining _ _ _ (without_failure 0
+      continues = rw c.in-Ok.is (path_elements _ _ _ _ _ _ c.loop-stage.step c.loop-stage.remaining _ _ _
+          (without_failure 0
           c.loop-stage.state) _ _ _ _
-          (table_in c.loop-stage.rows) c.loop-stage.invariant.left (goes_done _) _ _ _ _ c.in-Elements.is c.if-list.false
+          (table_in c.loop-stage.rows) c.loop-stage.invariant.left (goes_done _) _ _ _ _ c.in-Elements.is
+          c.if-list.false
           c.choice-in-Elements.ensures.does);
       slice = c.choice-in-Elements.ensures.slice ∙ c.loop-stage.invariant.same;
     }
@@ -524,7 +568,8 @@ parser::variant-returns-in_err-items t c =
 pub parser::variant-returns-in_err-failure : goal.parser::variant-returns-in_err-failure
 parser::variant-returns-in_err-failure t c =
     record {
-      does = let p = err_from_is_err_and c.from_residual-in_err-failure.result c.from_residual-in_err-failure.ensures.1 in
+      does = let p = err_from_is_err_and c.from_residual-in_err-failure.result
+          c.from_residual-in_err-failure.ensures.1 in
           rw (p.1, p.2)
           (variant_ran _ _ _ _ _ _ _ c.variant-variant.ensures _ _ c.if-variant-minimum.false _ _ _ _ _ _ _
           (rw c.in_ok-items.was at c.begin_variant.ensures.begins)
@@ -541,6 +586,7 @@ parser::variant-returns t c =
       does = variant_ran _ _ _ _ _ _ _ c.variant-variant.ensures _ _ c.if-variant-minimum.false _ _ _ _ _ _ _
           (rw c.in_ok-items.was at c.begin_variant.ensures.begins)
           (rw ((rw c.shared.ensures at c.start_of-start.ensures), c.in_ok-failure.was) at c.steps.ensures.continues)
-          (rw (rw c.shared.ensures at c.start_of-start.ensures) at (c.after_variant.ensures c.args.state.now c.steps.new.state));
+          (rw (rw c.shared.ensures at c.start_of-start.ensures) at (c.after_variant.ensures c.args.state.now
+          c.steps.new.state));
       slice = c.steps.ensures.slice ∙ c.begin_variant.ensures.slice;
     }

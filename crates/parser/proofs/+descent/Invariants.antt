@@ -101,7 +101,8 @@ invariant-parser::steps-loop-stage l = record {
       (given (without_failure 0 l.state) (cells_of l.store l.state.cells) (table_in l.rows)))
       (proceeds l.free (further l.from l.initial.step l.initial.remaining l.initial.stage.place l.initial.stage.items)
       l.initial.stage.doing l.book l.text
-      (given (without_failure 0 l.initial.state) (cells_of l.initial.store l.initial.state.cells) (table_in l.initial.rows)));
+      (given (without_failure 0 l.initial.state) (cells_of l.initial.store l.initial.state.cells) (table_in
+      l.initial.rows)));
   same : SameSlice l.initial.rows l.rows;
 }
 

@@ -13,7 +13,8 @@ returns-in_err-spend c =
     record {
       begins = let p = err_from_is_err_and c.from_residual.result c.from_residual.ensures.1 in
           rw (p.1, p.2)
-          (enters_spent c.args.book.now c.args.text.now (table_in c.args.rows.now) c.args.row c.args.binder c.args.nonterminal c.args.at
+          (enters_spent c.args.book.now c.args.text.now (table_in c.args.rows.now) c.args.row c.args.binder
+          c.args.nonterminal c.args.at
           c.args.state.now _ _ (rw c.in_err-spend.was at c.spend.ensures) c.args.store.now (number_there _) refl);
       slice = refl;
     }
@@ -26,16 +27,19 @@ stored-failure-requires c =
 pub returns-in-SameStart : goal.returns-in-SameStart
 returns-in-SameStart c =
     record {
-      begins = enters_stored c.args.book.now c.args.text.now (table_in c.args.rows.now) c.args.row c.args.binder c.args.nonterminal c.args.at
+      begins = enters_stored c.args.book.now c.args.text.now (table_in c.args.rows.now) c.args.row c.args.binder
+          c.args.nonterminal c.args.at
           c.args.state.now _ _ (rw c.in_ok-spend.was at c.spend.ensures) c.args.store.now _ _ _ _
-          refl (rw c.shared.ensures at c.governor_of-governor.ensures) c.in-SameStart.is (c.stored-failure.ensures.stores _) refl;
+          refl (rw c.shared.ensures at c.governor_of-governor.ensures) c.in-SameStart.is
+          (c.stored-failure.ensures.stores _) refl;
       slice = c.stored-failure.ensures.slice;
     }
 
 pub returns-in-Minimum : goal.returns-in-Minimum
 returns-in-Minimum c =
     record {
-      begins = enters_open c.args.book.now c.args.text.now (table_in c.args.rows.now) c.args.row c.args.binder c.args.nonterminal c.args.at
+      begins = enters_open c.args.book.now c.args.text.now (table_in c.args.rows.now) c.args.row c.args.binder
+          c.args.nonterminal c.args.at
           c.args.state.now _ _ (rw c.in_ok-spend.was at c.spend.ensures) c.args.store.now _ _ _ _
           refl (rw c.shared.ensures at c.governor_of-governor.ensures) c.in-Minimum.is c.«open».ensures.opens;
       slice = c.«open».ensures.slice;

@@ -20,7 +20,8 @@ returns-in_err-failure c =
       opens = let p = err_from_is_err_and c.from_residual.result c.from_residual.ensures.1 in
           rw (p.1, p.2)
           (opens_identifier c.args.book.now c.args.text.now c.args.row c.args.binder
-          c.args.nonterminal c.args.at c.args.minimum c.args.state.now _ c.args.store.now _ (table_in c.args.rows.now) _ _ _
+          c.args.nonterminal c.args.at c.args.minimum c.args.state.now _ c.args.store.now _ (table_in c.args.rows.now)
+          _ _ _
           c.if-row-eq0.false c.is_identifier.ensures c.if-is_identifier.true
           (rw c.in_err-failure.was at c.run_identifier.ensures.does) refl);
       slice = c.run_identifier.ensures.slice;
@@ -30,7 +31,8 @@ pub returns-then-is_identifier : goal.returns-then-is_identifier
 returns-then-is_identifier c =
     record {
       opens = opens_identifier c.args.book.now c.args.text.now c.args.row c.args.binder
-          c.args.nonterminal c.args.at c.args.minimum c.args.state.now _ c.args.store.now _ (table_in c.args.rows.now) _ _ _
+          c.args.nonterminal c.args.at c.args.minimum c.args.state.now _ c.args.store.now _ (table_in c.args.rows.now)
+          _ _ _
           c.if-row-eq0.false c.is_identifier.ensures c.if-is_identifier.true
           (rw c.in_ok-failure.was at c.run_identifier.ensures.does) refl;
       slice = c.run_identifier.ensures.slice;

@@ -45,7 +45,8 @@ returns-in_err-cell c =
           (identifier_full c.args.book.now c.args.text.now c.args.store.now
           (table_in c.args.rows.now) _ _ c.args.row c.args.binder c.args.nonterminal c.args.at c.args.state.now _
           c.clear_set.ensures.0 c.end_call.ensures.0
-          (rw c.shared.ensures at c.claimed.ensures) _ _ _ _ _ _ c.if-claimed.false c.free_end.ensures c.in-Some.is c.span_length-size.ensures
+          (rw c.shared.ensures at c.claimed.ensures) _ _ _ _ _ _ c.if-claimed.false c.free_end.ensures c.in-Some.is
+          c.span_length-size.ensures
           c.name.ensures (rw c.in_err-cell.was at c.make.ensures) _ (number_there _) refl);
       slice = c.end_call.ensures.1 ∙ c.clear_set.ensures.1;
     }
@@ -63,7 +64,8 @@ returns c =
       does = identifier_named c.args.book.now c.args.text.now c.args.store.now
           (table_in c.args.rows.now) _ _ c.args.row c.args.binder c.args.nonterminal c.args.at c.args.state.now _
           c.clear_set.ensures.0 c.end_call.ensures.0
-          (rw c.shared.ensures at c.claimed.ensures) _ _ _ _ _ _ c.if-claimed.false c.free_end.ensures c.in-Some.is c.span_length-size.ensures
+          (rw c.shared.ensures at c.claimed.ensures) _ _ _ _ _ _ c.if-claimed.false c.free_end.ensures c.in-Some.is
+          c.span_length-size.ensures
           c.name.ensures (rw c.in_ok-cell.was at c.make.ensures) _ _ refl c.put_one.ensures.0 refl;
       slice = c.put_one.ensures.1 ∙ c.end_call.ensures.1 ∙ c.clear_set.ensures.1;
     }

@@ -19,6 +19,7 @@ returns-else-parse_count-eq0 c =
     record {
       stores = λ s.
           stored_some (table_in c.args.rows.now) _ c.args.governor c.args.row c.args.nonterminal c.args.at s _
-          c.take_stored.ensures.0 (rw c.shared.ensures at c.parse_count.ensures.count) _ c.if-parse_count-eq0.false refl;
+          c.take_stored.ensures.0 (rw c.shared.ensures at c.parse_count.ensures.count) _ c.if-parse_count-eq0.false
+          refl;
       slice = c.take_stored.ensures.1;
     }

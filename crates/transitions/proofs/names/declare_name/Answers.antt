@@ -29,8 +29,10 @@ returns-in_err-name c =
     record {
       declares = let p = err_from_is_err_and c.from_residual.result c.from_residual.ensures.1 in
           rw (p.1, p.2)
-          (declare_missing c.args.book.now c.args.text.now c.args.store.now (table_in c.args.rows.now) c.args.free c.args.here
-          c.args.names c.args.state.now _ _ _ _ _ c.skipped-at.ensures c.declaration_at.ensures c.in_err-name.was refl refl);
+          (declare_missing c.args.book.now c.args.text.now c.args.store.now (table_in c.args.rows.now) c.args.free
+          c.args.here
+          c.args.names c.args.state.now _ _ _ _ _ c.skipped-at.ensures c.declaration_at.ensures c.in_err-name.was refl
+          refl);
       slice = refl;
     }
 
@@ -39,9 +41,11 @@ returns-in_err-cell c =
     record {
       declares = let p = err_from_is_err_and c.from_residual-in_err-cell.result c.from_residual-in_err-cell.ensures.1 in
           rw (p.1, p.2)
-          (declare_limit c.args.book.now c.args.text.now c.args.store.now _ (table_in c.args.rows.now) _ c.args.free c.args.here
+          (declare_limit c.args.book.now c.args.text.now c.args.store.now _ (table_in c.args.rows.now) _ c.args.free
+          c.args.here
           c.args.names c.args.state.now _ c.skipped-at.ensures _ c.declaration_at.ensures _ c.in_ok-name.was _
-          c.span_length-size.ensures c.declare.ensures.0 _ _ c.number.ensures (rw c.in_err-cell.was at c.make.ensures) _ _
+          c.span_length-size.ensures c.declare.ensures.0 _ _ c.number.ensures (rw c.in_err-cell.was at c.make.ensures)
+          _ _
           (number_there _) refl refl);
       slice = c.declare.ensures.1;
     }
@@ -49,11 +53,14 @@ returns-in_err-cell c =
 pub returns-in_err-kinds : goal.returns-in_err-kinds
 returns-in_err-kinds c =
     record {
-      declares = let p = err_from_is_err_and c.from_residual-in_err-kinds.result c.from_residual-in_err-kinds.ensures.1 in
+      declares = let p = err_from_is_err_and c.from_residual-in_err-kinds.result
+          c.from_residual-in_err-kinds.ensures.1 in
           rw (p.1, p.2)
-          (declare_chain_limit c.args.book.now c.args.text.now c.args.store.now _ (table_in c.args.rows.now) _ c.args.free c.args.here
+          (declare_chain_limit c.args.book.now c.args.text.now c.args.store.now _ (table_in c.args.rows.now) _
+          c.args.free c.args.here
           c.args.names c.args.state.now _ c.skipped-at.ensures _ c.declaration_at.ensures _ c.in_ok-name.was _
-          c.span_length-size.ensures c.declare.ensures.0 _ _ c.number.ensures (rw c.in_ok-cell.was at c.make.ensures) _ refl _
+          c.span_length-size.ensures c.declare.ensures.0 _ _ c.number.ensures (rw c.in_ok-cell.was at c.make.ensures)
+          _ refl _
           (rw c.in_err-kinds.was at (c.make-2.ensures (Cell.chain c.args.names.kinds _) c.chain.ensures)) _ _
           (number_there _) refl refl);
       slice = c.declare.ensures.1;
@@ -67,9 +74,11 @@ behind_name-requires c =
 pub returns : goal.returns
 returns c =
     record {
-      declares = declare_on c.args.book.now c.args.text.now c.args.store.now _ (table_in c.args.rows.now) _ c.args.free c.args.here
+      declares = declare_on c.args.book.now c.args.text.now c.args.store.now _ (table_in c.args.rows.now) _
+          c.args.free c.args.here
           c.args.names c.args.state.now _ c.skipped-at.ensures _ c.declaration_at.ensures _ c.in_ok-name.was _
-          c.span_length-size.ensures c.declare.ensures.0 _ _ c.number.ensures (rw c.in_ok-cell.was at c.make.ensures) _ refl _
+          c.span_length-size.ensures c.declare.ensures.0 _ _ c.number.ensures (rw c.in_ok-cell.was at c.make.ensures)
+          _ refl _
           (rw c.in_ok-kinds.was at (c.make-2.ensures (Cell.chain c.args.names.kinds _) c.chain.ensures)) refl
           c.requires.1 c.requires.0.0 (table_length _) _ (c.behind_name.ensures _);
       slice = c.declare.ensures.1;

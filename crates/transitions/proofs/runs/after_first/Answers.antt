@@ -10,7 +10,8 @@ pub returns : goal.returns
 returns c =
     record {
       ends = λ s.
-          first_settled (table_in c.args.rows.now) c.args.row (done_with c.args.failure s) _ _ _ refl c.settle_first-how.ensures.0
+          first_settled (table_in c.args.rows.now) c.args.row (done_with c.args.failure s) _ _ _ refl
+          c.settle_first-how.ensures.0
           c.args.failure (sym (failure_done c.args.failure s)) (rw c.shared.ensures at c.settled_as.ensures s);
       slice = c.settle_first-how.ensures.1;
     }

@@ -12,7 +12,8 @@ returns-in_err-cell c =
       does = let p = err_from_is_err_and c.from_residual.result c.from_residual.ensures.1 in
           rw (p.1, p.2)
           (finish_limit c.args.book.now c.args.text.now c.args.store.now _ c.args.here.call c.args.here.variant
-          c.args.here.place c.args.here.items c.args.state.now _ (rw c.in_err-cell.was at c.value.ensures) (table_in c.args.rows.now) _
+          c.args.here.place c.args.here.items c.args.state.now _ (rw c.in_err-cell.was at c.value.ensures) (table_in
+          c.args.rows.now) _
           (number_there _) refl);
       slice = refl;
     }
@@ -25,7 +26,8 @@ pub returns-then-not-add_run : goal.returns-then-not-add_run
 returns-then-not-add_run c =
     record {
       does = finish_full c.args.book.now c.args.text.now c.args.store.now _ c.args.here.call c.args.here.variant
-          c.args.here.place c.args.here.items c.args.state.now _ (rw c.in_ok-cell.was at c.value.ensures) (table_in c.args.rows.now) _
+          c.args.here.place c.args.here.items c.args.state.now _ (rw c.in_ok-cell.was at c.value.ensures) (table_in
+          c.args.rows.now) _
           _ _
           (parse_of_variant c.args.book.now c.args.text.now c.args.here.variant c.args.here.place _ _ _
           c.variant-variant.ensures c.parse_of.ensures) c.add_run.ensures.0 refl _ c.if-not-add_run.true refl;
@@ -36,7 +38,8 @@ pub returns : goal.returns
 returns c =
     record {
       does = finish_added c.args.book.now c.args.text.now c.args.store.now _ c.args.here.call c.args.here.variant
-          c.args.here.place c.args.here.items c.args.state.now _ (rw c.in_ok-cell.was at c.value.ensures) (table_in c.args.rows.now) _
+          c.args.here.place c.args.here.items c.args.state.now _ (rw c.in_ok-cell.was at c.value.ensures) (table_in
+          c.args.rows.now) _
           _ _
           (parse_of_variant c.args.book.now c.args.text.now c.args.here.variant c.args.here.place _ _ _
           c.variant-variant.ensures c.parse_of.ensures) c.add_run.ensures.0 refl _ c.if-not-add_run.false refl;
