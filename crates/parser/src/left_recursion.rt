@@ -33,8 +33,8 @@ fn rounds(
         (runs_again row minimum) }
 {
     for _round in 0..MOST_ROUNDS {
-        let failure = one_run(book, text, store, rows, row, minimum, state)?;
-        match after_round(rows, row, failure)? {
+        let outcome = one_run(book, text, store, rows, row, minimum, state);
+        match after_round(rows, row, outcome)? {
             RunEnd::Over(failure) => return Ok(failure),
             RunEnd::Again => {}
         }
@@ -61,8 +61,8 @@ fn call(
         (runs_call row binder nonterminal at minimum) }
 {
     rows.open_call(row, binder, nonterminal, at);
-    let failure = one_run(book, text, store, rows, row, minimum, state)?;
-    match after_first(rows, row, failure)? {
+    let outcome = one_run(book, text, store, rows, row, minimum, state);
+    match after_first(rows, row, outcome)? {
         RunEnd::Over(failure) => Ok(failure),
         RunEnd::Again => rounds(book, text, store, rows, row, minimum, state),
     }

@@ -114,6 +114,6 @@ pub fn choose(
     // The table has the rows of the names, which `close` leaves as they are.
     prove!(MOST_NESTING < rows.len());
     let first = close(book, text, store, rows, free, here, names, state)?;
-    let second = declare(book, text, store, rows, free, here, names, state)?;
-    Ok(both_sides(text, rows, here, first, second))
+    let second = declare(book, text, store, rows, free, here, names, state);
+    both_sides(text, rows, here, Ok(first), second)
 }

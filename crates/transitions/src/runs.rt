@@ -1,7 +1,7 @@
 // How a call stands after one of its runs.
 ghost use Rattle.std.specs.Prelude.{◌≡◌, ◌≤◌, false};
 ghost use Rattle.semantics.specs.Numbers.{most_nesting};
-ghost use Rattle.transitions.specs.Results.{end_of, done_with};
+ghost use Rattle.transitions.specs.Results.{end_of, outcome_of};
 ghost use Rattle.transitions.specs.declared.outcomes.State as code;
 ghost use Rattle.transitions.specs.Entering.{SettledAs, FirstEnded, RoundEnded};
 
@@ -37,20 +37,31 @@ fn settled_as(
     }
 }
 
-// After the first run of the call of a row. `after_first` and `after_round` are two, as the model's definitions are.
-pub fn after_first(rows: &mut Rows, row: usize, failure: Option<Error>) -> Result<RunEnd, Limit>
+// After the first run of the call of a row; a limit that the run met is given on. `after_first` and `after_round` are
+// two, as the model's definitions are.
+pub fn after_first(
+    rows: &mut Rows,
+    row: usize,
+    first: Result<Option<Error>, Limit>,
+) -> Result<RunEnd, Limit>
     requires { row ≤ most_nesting }
-    ensures { (s : code.State) → FirstEnded rows.old rows.new row (done_with failure s) (end_of result s) }
+    ensures { (s : code.State) → FirstEnded rows.old rows.new row (outcome_of first s) (end_of result s) }
 {
+    let failure = first?;
     let how = rows.settle_first(row);
     settled_as(rows, row, how, failure)
 }
 
 // After a further run.
-pub fn after_round(rows: &mut Rows, row: usize, failure: Option<Error>) -> Result<RunEnd, Limit>
+pub fn after_round(
+    rows: &mut Rows,
+    row: usize,
+    round: Result<Option<Error>, Limit>,
+) -> Result<RunEnd, Limit>
     requires { row ≤ most_nesting }
-    ensures { (s : code.State) → RoundEnded rows.old rows.new row (done_with failure s) (end_of result s) }
+    ensures { (s : code.State) → RoundEnded rows.old rows.new row (outcome_of round s) (end_of result s) }
 {
+    let failure = round?;
     let how = rows.settle(row);
     settled_as(rows, row, how, failure)
 }

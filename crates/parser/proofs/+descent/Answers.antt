@@ -19,37 +19,25 @@ use Rattle.transitions.specs.Results.{done_with, without_failure, limit_number}
 use Rattle.transitions.specs.OutcomeLaws.{number_there}
 use Rattle.transitions.specs.LimitLaws.{ended_stops, goes_done, limit_stops_path, failure_stops, nothing_goes}
 use Rattle.transitions.specs.LimitLaws.{side_steps}
-use Rattle.transitions.specs.NextLaws.{joined_limit}
-use Rattle.transitions.specs.EndingLaws.{first_limit, round_limit, variant_limit}
-use Rattle.transitions.specs.NextLaws.{both_limit}
+use Rattle.transitions.specs.EndingLaws.{variant_limit}
 use Rattle.parser.proofs.+descent.Goals as goal
 
 pub left_recursion::call-returns-in_err-failure : goal.left_recursion::call-returns-in_err-failure
 left_recursion::call-returns-in_err-failure t c =
     let p = err_from_is_err_and c.from_residual.result c.from_residual.ensures.1 in
     rw (p.1, p.2)
-    (run_call_over _ _ _ _ _ _ _ _ _ _ _ _ _ _ _ _ _ c.open_call.ensures
-    (rw c.in_err-failure.was at c.one_run.ensures) (first_limit _ _ _ _ (number_there _) refl) refl)
-
-pub left_recursion::call-returns-in_err-failure-2 : goal.left_recursion::call-returns-in_err-failure-2
-left_recursion::call-returns-in_err-failure-2 t c =
-    let p = err_from_is_err_and c.from_residual-in_err-failure-2.result c.from_residual-in_err-failure-2.ensures.1 in
-    rw (p.1, p.2)
-    (run_call_over _ _ _ _ _ _ _ _ _ _ _ _ _ _ _ _ _ c.open_call.ensures
-    (rw c.in_ok-failure.was at c.one_run.ensures)
-    (rw c.in_err-failure-2.was at (c.after_first.ensures c.one_run.new.state)) refl)
+    (run_call_over _ _ _ _ _ _ _ _ _ _ _ _ _ _ _ _ _ c.open_call.ensures c.one_run-outcome.ensures
+    (rw c.in_err-failure.was at (c.after_first.ensures c.one_run-outcome.new.state)) refl)
 
 pub left_recursion::call-returns-in-Over : goal.left_recursion::call-returns-in-Over
 left_recursion::call-returns-in-Over t c =
-    run_call_over _ _ _ _ _ _ _ _ _ _ _ _ _ _ _ _ _ c.open_call.ensures
-    (rw c.in_ok-failure.was at c.one_run.ensures)
-    (rw c.in-Over.is at (rw c.in_ok-failure-2.was at (c.after_first.ensures c.one_run.new.state))) refl
+    run_call_over _ _ _ _ _ _ _ _ _ _ _ _ _ _ _ _ _ c.open_call.ensures c.one_run-outcome.ensures
+    (rw c.in-Over.is at (rw c.in_ok-failure.was at (c.after_first.ensures c.one_run-outcome.new.state))) refl
 
 pub left_recursion::call-returns-in-Again : goal.left_recursion::call-returns-in-Again
 left_recursion::call-returns-in-Again t c =
-    run_call_rounds _ _ _ _ _ _ _ _ _ _ _ _ _ _ _ _ _ c.open_call.ensures
-    (rw c.in_ok-failure.was at c.one_run.ensures)
-    (rw c.in-Again.is at (rw c.in_ok-failure-2.was at (c.after_first.ensures c.one_run.new.state)))
+    run_call_rounds _ _ _ _ _ _ _ _ _ _ _ _ _ _ _ _ _ c.open_call.ensures c.one_run-outcome.ensures
+    (rw c.in-Again.is at (rw c.in_ok-failure.was at (c.after_first.ensures c.one_run-outcome.new.state)))
     _ _ _ refl c.rounds.ensures
 
 pub left_recursion::enter-returns-in_err-failure : goal.left_recursion::enter-returns-in_err-failure
@@ -72,21 +60,14 @@ left_recursion::rounds-returns-in_err-failure t c =
     let p = err_from_is_err_and c.from_residual.result c.from_residual.ensures.1 in
     rw (p.1, p.2)
     (rounds_over _ _ _ _ _ _ _ _ _ _ _ _ c.loop-round.invariant.left _ _ _ _ _ c.loop-round-test.true
-    (rw c.in_err-failure.was at c.one_run.ensures) (round_limit _ _ _ _ (number_there _) refl) refl)
-
-pub left_recursion::rounds-returns-in_err-failure-2 : goal.left_recursion::rounds-returns-in_err-failure-2
-left_recursion::rounds-returns-in_err-failure-2 t c =
-    let p = err_from_is_err_and c.from_residual-in_err-failure-2.result c.from_residual-in_err-failure-2.ensures.1 in
-    rw (p.1, p.2)
-    (rounds_over _ _ _ _ _ _ _ _ _ _ _ _ c.loop-round.invariant.left _ _ _ _ _ c.loop-round-test.true
-    (rw c.in_ok-failure.was at c.one_run.ensures)
-    (rw c.in_err-failure-2.was at (c.after_round.ensures c.one_run.new.state)) refl)
+    c.one_run-outcome.ensures
+    (rw c.in_err-failure.was at (c.after_round.ensures c.one_run-outcome.new.state)) refl)
 
 pub left_recursion::rounds-returns-in-Over : goal.left_recursion::rounds-returns-in-Over
 left_recursion::rounds-returns-in-Over t c =
     rounds_over _ _ _ _ _ _ _ _ _ _ _ _ c.loop-round.invariant.left _ _ _ _ _ c.loop-round-test.true
-    (rw c.in_ok-failure.was at c.one_run.ensures)
-    (rw c.in-Over.is at (rw c.in_ok-failure-2.was at (c.after_round.ensures c.one_run.new.state))) refl
+    c.one_run-outcome.ensures
+    (rw c.in-Over.is at (rw c.in_ok-failure.was at (c.after_round.ensures c.one_run-outcome.new.state))) refl
 
 pub left_recursion::rounds-loop-round-preserved : goal.left_recursion::rounds-loop-round-preserved
 left_recursion::rounds-loop-round-preserved t c =
@@ -94,8 +75,8 @@ left_recursion::rounds-loop-round-preserved t c =
       few = omega (arith, c.loop-round-test.true);
       left =
           rounds_again _ _ _ _ _ _ _ _ _ _ _ _ c.loop-round.invariant.left _ _ _ _ _ c.loop-round-test.true
-          (rw c.in_ok-failure.was at c.one_run.ensures)
-          (rw c.in-Again.is at (rw c.in_ok-failure-2.was at (c.after_round.ensures c.one_run.new.state))) refl;
+          c.one_run-outcome.ensures
+          (rw c.in-Again.is at (rw c.in_ok-failure.was at (c.after_round.ensures c.one_run-outcome.new.state))) refl;
     }
 
 pub left_recursion::rounds-returns : goal.left_recursion::rounds-returns
@@ -115,21 +96,12 @@ names::choose-returns-in_err-first t c =
     (names_stopped _ _ _ c.args.here _ _ _ _ _ _ (rw c.in_ok-spend.was at c.spend.ensures) refl _ _ _
     (rw c.in_err-first.was at c.close.ensures) (number_there _))
 
-pub names::choose-returns-in_err-second : goal.names::choose-returns-in_err-second
-names::choose-returns-in_err-second t c =
-    let p = err_from_is_err_and c.from_residual-in_err-second.result c.from_residual-in_err-second.ensures.1 in
-    rw (p.1, p.2)
-    (names_both _ _ _ c.args.here _ _ _ _ _ _ (rw c.in_ok-spend.was at c.spend.ensures) refl _ _ _
-    (rw c.in_ok-first.was at c.close.ensures) refl c.requires.0.3 c.requires.0.2.0 (sym c.len.ensures.0 ∙
-    c.len.ensures.1)
-    _ _ _ _ (rw c.in_err-second.was at c.declare.ensures) (both_limit _ _ _ _ _ _ (number_there _)))
-
 pub names::choose-returns : goal.names::choose-returns
 names::choose-returns t c =
     names_both _ _ _ c.args.here _ _ _ _ _ _ (rw c.in_ok-spend.was at c.spend.ensures) refl _ _ _
     (rw c.in_ok-first.was at c.close.ensures) refl c.requires.0.3 c.requires.0.2.0 (sym c.len.ensures.0 ∙
     c.len.ensures.1)
-    _ _ _ _ (rw c.in_ok-second.was at c.declare.ensures) (c.both_sides.ensures _ _)
+    _ _ _ _ c.declare-second.ensures (c.both_sides.ensures.does c.close.new.state c.declare-second.new.state)
 
 pub names::close-returns-in-Err : goal.names::close-returns-in-Err
 names::close-returns-in-Err t c =
@@ -191,25 +163,14 @@ parser::choice-returns-in_err-first t c =
     (rw (side_steps c.first_side-begun.result c.first_side-begun.new.state c.first_side-begun.ensures.steps) at
     (rw c.in_err-first.was at c.steps.ensures)) (number_there _))
 
-pub parser::choice-returns-in_err-second : goal.parser::choice-returns-in_err-second
-parser::choice-returns-in_err-second t c =
-    let p = err_from_is_err_and c.from_residual-in_err-second.result c.from_residual-in_err-second.ensures.1 in
-    rw (p.1, p.2)
-    (choice_both _ _ _ _ _ _ _ _ _ _ _ _ _ _ _ _ _ _ _ (rw (side_steps c.first_side-begun.result
-    c.first_side-begun.new.state c.first_side-begun.ensures.steps) at
-    c.first_side-begun.ensures.does)
-    (rw (side_steps c.first_side-begun.result c.first_side-begun.new.state c.first_side-begun.ensures.steps) at
-    (rw c.in_ok-first.was at c.steps.ensures)) refl _ _ _ _ (rw c.in_err-second.was at c.descend.ensures) (both_limit
-    _ _ _ _ _ _ (number_there _)))
-
 pub parser::choice-returns : goal.parser::choice-returns
 parser::choice-returns t c =
     choice_both _ _ _ _ _ _ _ _ _ _ _ _ _ _ _ _ _ _ _ (rw (side_steps c.first_side-begun.result
     c.first_side-begun.new.state c.first_side-begun.ensures.steps) at
     c.first_side-begun.ensures.does)
     (rw (side_steps c.first_side-begun.result c.first_side-begun.new.state c.first_side-begun.ensures.steps) at
-    (rw c.in_ok-first.was at c.steps.ensures)) refl _ _ _ _ (rw c.in_ok-second.was at c.descend.ensures)
-    (c.both_sides.ensures _ _)
+    (rw c.in_ok-first.was at c.steps.ensures)) refl _ _ _ _ c.descend-second.ensures
+    (c.both_sides.ensures.does c.steps.new.state c.descend-second.new.state)
 
 pub parser::descend-returns-in_err-failure : goal.parser::descend-returns-in_err-failure
 parser::descend-returns-in_err-failure t c =
@@ -239,15 +200,15 @@ parser::follow-returns-then-free-eq0 t c =
     c.loop-i.state) c.loop-i.invariant.left
     _ refl c.loop-i-test.true c.if-free-eq0.true)
 
-pub parser::follow-returns-in_err-failure : goal.parser::follow-returns-in_err-failure
-parser::follow-returns-in_err-failure t c =
+pub parser::follow-returns-in_err-all : goal.parser::follow-returns-in_err-all
+parser::follow-returns-in_err-all t c =
     let p = err_from_is_err_and c.from_residual.result c.from_residual.ensures.1 in
     rw (p.1, p.2)
     (follow_whole _ _ _ _ _ _ _ _ _ _ _ _ _ _ _ _ (nothing_goes _ _ (sym c.is_some.ensures ∙ c.if-is_some.false))
     c.parse_count-parses.ensures.count (follow_stop _ _ _ _ _ _ _ _ _ _ _ _ _ _ c.loop-i.rows (done_with c.loop-i.all
     c.loop-i.state) c.loop-i.invariant.left c.loop-i-test.true c.if-free-eq0.false _ c.nth_parse-q.ensures _ _ _ _ _ _
-    c.next_of-begun.ensures (rw c.in_err-failure.was at c.steps.ensures) (joined_limit _ _ _ (number_there _))
-    (number_there _)))
+    c.next_of-begun.ensures c.steps-outcome.ensures
+    (rw c.in_err-all.was at (c.after_parse.ensures.does c.loop-i.state c.steps-outcome.new.state)) (number_there _)))
 
 pub parser::follow-loop-i-preserved : goal.parser::follow-loop-i-preserved
 parser::follow-loop-i-preserved t c =
@@ -255,7 +216,8 @@ parser::follow-loop-i-preserved t c =
       few = omega (arith, c.loop-i-test.true);
       left = follow_again _ _ _ _ _ _ _ _ _ _ _ _ _ _ c.loop-i.rows (done_with c.loop-i.all c.loop-i.state)
           c.loop-i.invariant.left c.loop-i-test.true c.if-free-eq0.false _ c.nth_parse-q.ensures _ _ _ _ _ _
-          c.next_of-begun.ensures (rw c.in_ok-failure.was at c.steps.ensures) (c.after_parse-all.ensures _ _) refl;
+          c.next_of-begun.ensures c.steps-outcome.ensures
+          (rw c.in_ok-all.was at (c.after_parse.ensures.does c.loop-i.state c.steps-outcome.new.state)) refl;
     }
 
 pub parser::follow-returns : goal.parser::follow-returns
@@ -381,20 +343,9 @@ parser::variant-returns-in_err-items t c =
     c.in_err-items.field-0.0) c.begin_variant.new.state) _
     (number_there _) refl))
 
-pub parser::variant-returns-in_err-failure : goal.parser::variant-returns-in_err-failure
-parser::variant-returns-in_err-failure t c =
-    let p = err_from_is_err_and c.from_residual-in_err-failure.result c.from_residual-in_err-failure.ensures.1 in
-    rw (p.1, p.2)
-    (variant_ran _ _ _ _ _ _ _ c.variant-variant.ensures _ _ c.if-variant-minimum.false _ _ _ _ _ _ _
-    (rw c.in_ok-items.was at c.begin_variant.ensures)
-    (rw (c.start_of-start.ensures, c.in_err-failure.was) at c.steps.ensures)
-    (variant_limit _ _ _ (done_with c.args.before c.args.state.now) (without_failure (limit_number
-    c.in_err-failure.field-0.0) c.steps.new.state) _
-    (number_there _) refl))
-
 pub parser::variant-returns : goal.parser::variant-returns
 parser::variant-returns t c =
     variant_ran _ _ _ _ _ _ _ c.variant-variant.ensures _ _ c.if-variant-minimum.false _ _ _ _ _ _ _
     (rw c.in_ok-items.was at c.begin_variant.ensures)
-    (rw (c.start_of-start.ensures, c.in_ok-failure.was) at c.steps.ensures)
-    (rw c.start_of-start.ensures at (c.after_variant.ensures c.args.state.now c.steps.new.state))
+    (rw c.start_of-start.ensures at c.steps-outcome.ensures)
+    (rw c.start_of-start.ensures at (c.after_variant.ensures.does c.args.state.now c.steps-outcome.new.state))
