@@ -35,8 +35,8 @@ fn rounds(
     ensures slice { SameSlice rows.old rows.new }
 {
     for _round in 0..MOST_ROUNDS {
-        let failure = one_run(book, text, store, rows, row, minimum, state)?;
-        match after_round(rows, row, failure)? {
+        let outcome = one_run(book, text, store, rows, row, minimum, state);
+        match after_round(rows, row, outcome)? {
             RunEnd::Over(failure) => return Ok(failure),
             RunEnd::Again => {}
         }
@@ -64,8 +64,8 @@ fn call(
     ensures slice { SameSlice rows.old rows.new }
 {
     rows.open_call(row, binder, nonterminal, at);
-    let failure = one_run(book, text, store, rows, row, minimum, state)?;
-    match after_first(rows, row, failure)? {
+    let outcome = one_run(book, text, store, rows, row, minimum, state);
+    match after_first(rows, row, outcome)? {
         RunEnd::Over(failure) => Ok(failure),
         RunEnd::Again => rounds(book, text, store, rows, row, minimum, state),
     }

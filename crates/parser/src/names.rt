@@ -116,6 +116,6 @@ pub fn choose(
 {
     spend(state)?;
     let first = close(book, text, store, rows, free, here, names, state)?;
-    let second = declare(book, text, store, rows, free, here, names, state)?;
-    Ok(both_sides(text, &rows.shared(), here, first, second))
+    let second = declare(book, text, store, rows, free, here, names, state);
+    both_sides(text, &rows.shared(), here, Ok(first), second)
 }

@@ -62,8 +62,8 @@ fn variant(
         items,
         doing: Doing::Steps,
     });
-    let failure = steps(book, text, store, rows, row - 1, here, begun, state)?;
-    Ok(after_variant(book, j, start, before, failure))
+    let outcome = steps(book, text, store, rows, row - 1, here, begun, state);
+    after_variant(book, j, start, Ok(before), outcome)
 }
 
 // One run of the call of a row.
@@ -157,8 +157,8 @@ pub fn follow(
         }
         let q = rows.shared().nth_parse(free, i);
         let begun = next_of(book, text, store, here, next, q, state);
-        let failure = steps(book, text, store, rows, free - 1, here, begun, state)?;
-        all = after_parse(i, all, failure);
+        let outcome = steps(book, text, store, rows, free - 1, here, begun, state);
+        all = after_parse(i, Ok(all), outcome)?;
     }
     Ok(all)
 }
@@ -194,8 +194,8 @@ fn choice(
         next,
         nonterminal,
         state,
-    )?;
-    Ok(both_sides(text, &rows.shared(), here, first, second))
+    );
+    both_sides(text, &rows.shared(), here, Ok(first), second)
 }
 
 // ---- Steps

@@ -6,7 +6,7 @@
 -- - units: spend_one, spend_none, unit_spent, no_unit_lem
 -- - cells: cell_ok, cell_met, cells_held, now_held, got_in, makes_at, makes_full
 -- - the cells of a variant: begin_passing, begin_made, with_passing, with_made, value_passing, value_made
--- - the code's results: number_there, cell_there, spent_there, outcome_there
+-- - the code's results: number_there, cell_there, spent_there, outcome_there, failure_given
 -- - what a token adds: name_fit, variable_fit, item_cell_lem, item_name, item_number, item_variable, item_declared,
 --   token_nothing, token_limit, token_made
 use Rattle.std.specs.Prelude.{◌≡◌, refl, Bool, true, false, List, ℕ, ◌-◌, ◌/◌, ◌%◌, ◌^◌, eqb, length}
@@ -33,6 +33,7 @@ use Rattle.errors.specs.declared.Error as code
 use Rattle.errors.specs.Maps.{Failure}
 use Rattle.tokens.specs.declared.steps.Item.{Item}
 use Rattle.std.specs.Prelude as std
+use Rattle.std.specs.Result.{result_unwrap_or}
 use Rattle.transitions.specs.declared.outcomes.Limit.{Limit}
 use Rattle.transitions.specs.Results.{limit_number, outcome_of, cell_of, spent_of}
 use Rattle.transitions.specs.Results.{CellOutcome, Outcome, done_with, without_failure}
@@ -315,3 +316,8 @@ spent_there r l s e = rw e (number_there l)
 pub outcome_there : (r : std.Result Failure Limit) (l : Limit) (s : State) → r ≡ std.Err l →
     (outcome_of r s).limit ≡ 0 → ⊥
 outcome_there r l s e = rw e (number_there l)
+
+-- the failure of a result, of which a limit has none
+pub failure_given : (r : std.Result Failure Limit) (s : State) → result_unwrap_or r None ≡ failure_at (outcome_of r s)
+failure_given (std.Ok failure) s = sym (failure_done failure s)
+failure_given (std.Err limit) s = refl

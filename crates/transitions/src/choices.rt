@@ -1,14 +1,14 @@
 // The first side of a choice, and both sides together.
-ghost use Rattle.std.specs.Prelude.{◌≡◌, ◌≤◌, IfOk};
+ghost use Rattle.std.specs.Prelude.{◌≡◌, ◌≤◌, IfOk, IsOk, OnOk};
 ghost use Rattle.semantics.specs.Numbers.{most_nesting};
-ghost use Rattle.transitions.specs.Results.{reached_of, stage_of, done_with};
+ghost use Rattle.transitions.specs.Results.{reached_of, stage_of, outcome_of};
 ghost use Rattle.transitions.specs.Steps.{Chosen};
 ghost use Rattle.transitions.specs.declared.outcomes.State as code;
 ghost use Rattle.transitions.specs.LayerContracts.{Short, Fitting, Reaches, Stages, first_side};
 ghost use Rattle.transitions.specs.declared.stages.Next.{Next};
 ghost use Rattle.transitions.specs.declared.stages.Doing.TheVariants.{Steps};
 
-use crate::outcomes::{Ended, State, spend};
+use crate::outcomes::{Ended, Limit, State, spend};
 use crate::places::skipped;
 use crate::stages::{Doing, List, Next, Progress, Reached, Stage, then_steps};
 use crate::steps::{absent, stop};
@@ -73,18 +73,26 @@ pub fn first_side(
     }
 }
 
-// Both sides of a choice: their failures.
+// Both sides of a choice: their failures, or the limit that the second met. A limit of the first, where a run ends
+// before there is a second, counts as no failure.
 pub fn both_sides(
     text: &[u8],
     rows: &Rows,
     here: Progress,
-    first: Option<Error>,
-    second: Option<Error>,
-) -> Option<Error>
+    first: Result<Option<Error>, Limit>,
+    second: Result<Option<Error>, Limit>,
+) -> Result<Option<Error>, Limit>
     requires { (here.call ≤ most_nesting) × Short text.now }
-    ensures { (s t : code.State) → Chosen text.now rows.now here.call here.place (done_with first s)
-        (done_with second t) (done_with result t) }
+    ensures does { (s t : code.State) → Chosen text.now rows.now here.call here.place (outcome_of first s)
+        (outcome_of second t) (outcome_of result t) }
+    ensures limits { OnOk second (IsOk result) }
 {
+    let failure = second?;
     let at = skipped(text, here.place);
-    errors::chosen(at, rows.nonterminal_of(here.call), first, second)
+    Ok(errors::chosen(
+        at,
+        rows.nonterminal_of(here.call),
+        first.unwrap_or(None),
+        failure,
+    ))
 }

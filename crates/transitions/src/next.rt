@@ -1,14 +1,15 @@
 // What follows a parse of a child: the item is added and the steps go on, or the list does; and the failures of what
 // follows its parses, together.
+ghost use Rattle.std.specs.Prelude.{IsOk, OnOk};
 ghost use Rattle.sets.specs.Sets.{parse_of};
-ghost use Rattle.transitions.specs.Results.{stage_of, done_with};
+ghost use Rattle.transitions.specs.Results.{stage_of, outcome_of};
 ghost use Rattle.transitions.specs.Steps.{ParseEnded};
 ghost use Rattle.transitions.specs.declared.outcomes.State as code;
 ghost use Rattle.transitions.specs.LayerContracts.{Fitting, Stages, follows};
 ghost use Rattle.transitions.specs.declared.stages.Next.{Next};
 
 use crate::items::{make, with_cell};
-use crate::outcomes::{Ended, State};
+use crate::outcomes::{Ended, Limit, State};
 use crate::stages::{Doing, List, Next, Progress, Stage, then_steps};
 use crate::steps::stop;
 use book::Book;
@@ -84,12 +85,20 @@ pub fn next_of(
     }
 }
 
-// The failures of what follows the parses of a child, up to the i-th; before the first there is none to join.
-pub fn after_parse(i: usize, before: Option<Error>, failure: Option<Error>) -> Option<Error>
-    ensures { (s t : code.State) → ParseEnded i (done_with before s) (done_with failure t) (done_with result t) }
+// The failures of what follows the parses of a child, up to the i-th, or the limit that what follows the i-th met;
+// before the first there is none to join. A limit met before it, where a run ends, counts as no failure.
+pub fn after_parse(
+    i: usize,
+    before: Result<Option<Error>, Limit>,
+    outcome: Result<Option<Error>, Limit>,
+) -> Result<Option<Error>, Limit>
+    ensures does { (s t : code.State) → ParseEnded i (outcome_of before s) (outcome_of outcome t)
+        (outcome_of result t) }
+    ensures limits { OnOk outcome (IsOk result) }
 {
+    let failure = outcome?;
     if i == 0 {
-        return failure;
+        return Ok(failure);
     }
-    errors::either(before, failure)
+    Ok(errors::either(before.unwrap_or(None), failure))
 }

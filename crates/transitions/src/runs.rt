@@ -2,7 +2,7 @@
 ghost use Rattle.std.specs.Prelude.{◌≡◌, ◌≤◌, false};
 ghost use Rattle.semantics.specs.Numbers.{most_nesting};
 ghost use Rattle.calls.specs.Lent.{table_in, SameSlice};
-ghost use Rattle.transitions.specs.Results.{end_of, done_with};
+ghost use Rattle.transitions.specs.Results.{end_of, outcome_of};
 ghost use Rattle.transitions.specs.declared.outcomes.State as code;
 ghost use Rattle.transitions.specs.Entering.{SettledAs, FirstEnded, RoundEnded};
 
@@ -38,24 +38,35 @@ fn settled_as(
     }
 }
 
-// After the first run of the call of a row. `after_first` and `after_round` are two, as the model's definitions are.
-pub fn after_first(rows: &mut RowsMut, row: usize, failure: Option<Error>) -> Result<RunEnd, Limit>
+// After the first run of the call of a row; a limit that the run met is given on. `after_first` and `after_round` are
+// two, as the model's definitions are.
+pub fn after_first(
+    rows: &mut RowsMut,
+    row: usize,
+    first: Result<Option<Error>, Limit>,
+) -> Result<RunEnd, Limit>
     requires { row ≤ most_nesting }
-    ensures ends { (s : code.State) → FirstEnded (table_in rows.old) (table_in rows.new) row (done_with failure s)
+    ensures ends { (s : code.State) → FirstEnded (table_in rows.old) (table_in rows.new) row (outcome_of first s)
         (end_of result s) }
     ensures slice { SameSlice rows.old rows.new }
 {
+    let failure = first?;
     let how = rows.settle_first(row);
     settled_as(&rows.shared(), row, how, failure)
 }
 
 // After a further run.
-pub fn after_round(rows: &mut RowsMut, row: usize, failure: Option<Error>) -> Result<RunEnd, Limit>
+pub fn after_round(
+    rows: &mut RowsMut,
+    row: usize,
+    round: Result<Option<Error>, Limit>,
+) -> Result<RunEnd, Limit>
     requires { row ≤ most_nesting }
-    ensures ends { (s : code.State) → RoundEnded (table_in rows.old) (table_in rows.new) row (done_with failure s)
+    ensures ends { (s : code.State) → RoundEnded (table_in rows.old) (table_in rows.new) row (outcome_of round s)
         (end_of result s) }
     ensures slice { SameSlice rows.old rows.new }
 {
+    let failure = round?;
     let how = rows.settle(row);
     settled_as(&rows.shared(), row, how, failure)
 }

@@ -1,11 +1,11 @@
 // What a call does before and after a variant's steps, and where a child of it begins.
-ghost use Rattle.std.specs.Prelude.{◌≡◌, ◌≤◌};
+ghost use Rattle.std.specs.Prelude.{◌≡◌, ◌≤◌, IsOk, OnOk};
 ghost use Rattle.characters.specs.Skipping.{skip_from};
 ghost use Rattle.run_model.specs.Rows.{with_child, row_of};
 ghost use Rattle.semantics.specs.Numbers.{most_nesting};
 ghost use Rattle.calls.specs.Table.{Changed};
 ghost use Rattle.calls.specs.Lent.{table_in, SameSlice};
-ghost use Rattle.transitions.specs.Results.{cell_of, done_with};
+ghost use Rattle.transitions.specs.Results.{cell_of, outcome_of};
 ghost use Rattle.transitions.specs.declared.outcomes.State as code;
 ghost use Rattle.transitions.specs.Steps.{reached_with};
 ghost use Rattle.transitions.specs.Entering.{VariantEnded};
@@ -39,19 +39,25 @@ pub fn begin_variant(
     begin(book, text, store, j, state)
 }
 
-// The failure of variant j of a call that begins at `start`, after that of the variants before it.
+// The failure of variant j of a call that begins at `start`, after that of the variants before it, or the limit that
+// variant j met. A limit of those before it, where a run ends, counts as no failure.
 pub fn after_variant(
     book: &Book,
     j: u32,
     start: u32,
-    before: Option<Error>,
-    failure: Option<Error>,
-) -> Option<Error>
-    ensures { (s t : code.State) → VariantEnded book.now j start (done_with before s) (done_with failure t)
-        (done_with result t) }
+    before: Result<Option<Error>, Limit>,
+    outcome: Result<Option<Error>, Limit>,
+) -> Result<Option<Error>, Limit>
+    ensures does { (s t : code.State) → VariantEnded book.now j start (outcome_of before s) (outcome_of outcome t)
+        (outcome_of result t) }
+    ensures limits { OnOk outcome (IsOk result) }
 {
+    let failure = outcome?;
     let variant = book.variant(j as usize);
-    errors::join_with(before, errors::counted(variant.committed, start, failure))
+    Ok(errors::join_with(
+        before.unwrap_or(None),
+        errors::counted(variant.committed, start, failure),
+    ))
 }
 
 // The child of the path's call begins where skipping leads.

@@ -21,9 +21,7 @@ use Rattle.transitions.specs.Results.{done_with, without_failure, limit_number}
 use Rattle.transitions.specs.OutcomeLaws.{number_there}
 use Rattle.transitions.specs.LimitLaws.{ended_stops, goes_done, limit_stops_path, failure_stops, nothing_goes}
 use Rattle.transitions.specs.LimitLaws.{side_steps}
-use Rattle.transitions.specs.NextLaws.{joined_limit}
-use Rattle.transitions.specs.EndingLaws.{first_limit, round_limit, variant_limit}
-use Rattle.transitions.specs.NextLaws.{both_limit}
+use Rattle.transitions.specs.EndingLaws.{variant_limit}
 use Rattle.parser.proofs.+descent.Goals as goal
 
 pub left_recursion::call-returns-in_err-failure : goal.left_recursion::call-returns-in_err-failure
@@ -31,40 +29,28 @@ left_recursion::call-returns-in_err-failure t c =
     record {
       does = let p = err_from_is_err_and c.from_residual.result c.from_residual.ensures.1 in
           rw (p.1, p.2)
-          (run_call_over _ _ _ _ _ _ _ _ _ _ _ _ _ _ _ _ _ c.open_call.ensures.0
-          (rw c.in_err-failure.was at c.one_run.ensures.does) (first_limit _ _ _ _ (number_there _) refl) refl);
-      slice = c.one_run.ensures.slice ∙ c.open_call.ensures.1;
-    }
-
-pub left_recursion::call-returns-in_err-failure-2 : goal.left_recursion::call-returns-in_err-failure-2
-left_recursion::call-returns-in_err-failure-2 t c =
-    record {
-      does = let p = err_from_is_err_and c.from_residual-in_err-failure-2.result
-          c.from_residual-in_err-failure-2.ensures.1 in
-          rw (p.1, p.2)
-          (run_call_over _ _ _ _ _ _ _ _ _ _ _ _ _ _ _ _ _ c.open_call.ensures.0
-          (rw c.in_ok-failure.was at c.one_run.ensures.does)
-          (rw c.in_err-failure-2.was at (c.after_first.ensures.ends c.one_run.new.state)) refl);
-      slice = c.after_first.ensures.slice ∙ c.one_run.ensures.slice ∙ c.open_call.ensures.1;
+          (run_call_over _ _ _ _ _ _ _ _ _ _ _ _ _ _ _ _ _ c.open_call.ensures.0 c.one_run-outcome.ensures.does
+          (rw c.in_err-failure.was at (c.after_first.ensures.ends c.one_run-outcome.new.state)) refl);
+      slice = c.after_first.ensures.slice ∙ c.one_run-outcome.ensures.slice ∙ c.open_call.ensures.1;
     }
 
 pub left_recursion::call-returns-in-Over : goal.left_recursion::call-returns-in-Over
 left_recursion::call-returns-in-Over t c =
     record {
-      does = run_call_over _ _ _ _ _ _ _ _ _ _ _ _ _ _ _ _ _ c.open_call.ensures.0
-          (rw c.in_ok-failure.was at c.one_run.ensures.does)
-          (rw c.in-Over.is at (rw c.in_ok-failure-2.was at (c.after_first.ensures.ends c.one_run.new.state))) refl;
-      slice = c.after_first.ensures.slice ∙ c.one_run.ensures.slice ∙ c.open_call.ensures.1;
+      does = run_call_over _ _ _ _ _ _ _ _ _ _ _ _ _ _ _ _ _ c.open_call.ensures.0 c.one_run-outcome.ensures.does
+          (rw c.in-Over.is at (rw c.in_ok-failure.was at (c.after_first.ensures.ends c.one_run-outcome.new.state)))
+          refl;
+      slice = c.after_first.ensures.slice ∙ c.one_run-outcome.ensures.slice ∙ c.open_call.ensures.1;
     }
 
 pub left_recursion::call-returns-in-Again : goal.left_recursion::call-returns-in-Again
 left_recursion::call-returns-in-Again t c =
     record {
-      does = run_call_rounds _ _ _ _ _ _ _ _ _ _ _ _ _ _ _ _ _ c.open_call.ensures.0
-          (rw c.in_ok-failure.was at c.one_run.ensures.does)
-          (rw c.in-Again.is at (rw c.in_ok-failure-2.was at (c.after_first.ensures.ends c.one_run.new.state)))
+      does = run_call_rounds _ _ _ _ _ _ _ _ _ _ _ _ _ _ _ _ _ c.open_call.ensures.0 c.one_run-outcome.ensures.does
+          (rw c.in-Again.is at (rw c.in_ok-failure.was at (c.after_first.ensures.ends c.one_run-outcome.new.state)))
           _ _ _ refl c.rounds.ensures.does;
-      slice = c.rounds.ensures.slice ∙ c.after_first.ensures.slice ∙ c.one_run.ensures.slice ∙ c.open_call.ensures.1;
+      slice = c.rounds.ensures.slice ∙ c.after_first.ensures.slice ∙ c.one_run-outcome.ensures.slice ∙
+          c.open_call.ensures.1;
     }
 
 pub left_recursion::enter-returns-in_err-failure : goal.left_recursion::enter-returns-in_err-failure
@@ -99,29 +85,19 @@ left_recursion::rounds-returns-in_err-failure t c =
       does = let p = err_from_is_err_and c.from_residual.result c.from_residual.ensures.1 in
           rw (p.1, p.2)
           (rounds_over _ _ _ _ _ _ _ _ _ _ _ _ c.loop-round.invariant.left _ _ _ _ _ c.loop-round-test.true
-          (rw c.in_err-failure.was at c.one_run.ensures.does) (round_limit _ _ _ _ (number_there _) refl) refl);
-      slice = c.one_run.ensures.slice ∙ c.loop-round.invariant.same;
-    }
-
-pub left_recursion::rounds-returns-in_err-failure-2 : goal.left_recursion::rounds-returns-in_err-failure-2
-left_recursion::rounds-returns-in_err-failure-2 t c =
-    record {
-      does = let p = err_from_is_err_and c.from_residual-in_err-failure-2.result
-          c.from_residual-in_err-failure-2.ensures.1 in
-          rw (p.1, p.2)
-          (rounds_over _ _ _ _ _ _ _ _ _ _ _ _ c.loop-round.invariant.left _ _ _ _ _ c.loop-round-test.true
-          (rw c.in_ok-failure.was at c.one_run.ensures.does)
-          (rw c.in_err-failure-2.was at (c.after_round.ensures.ends c.one_run.new.state)) refl);
-      slice = c.after_round.ensures.slice ∙ c.one_run.ensures.slice ∙ c.loop-round.invariant.same;
+          c.one_run-outcome.ensures.does
+          (rw c.in_err-failure.was at (c.after_round.ensures.ends c.one_run-outcome.new.state)) refl);
+      slice = c.after_round.ensures.slice ∙ c.one_run-outcome.ensures.slice ∙ c.loop-round.invariant.same;
     }
 
 pub left_recursion::rounds-returns-in-Over : goal.left_recursion::rounds-returns-in-Over
 left_recursion::rounds-returns-in-Over t c =
     record {
       does = rounds_over _ _ _ _ _ _ _ _ _ _ _ _ c.loop-round.invariant.left _ _ _ _ _ c.loop-round-test.true
-          (rw c.in_ok-failure.was at c.one_run.ensures.does)
-          (rw c.in-Over.is at (rw c.in_ok-failure-2.was at (c.after_round.ensures.ends c.one_run.new.state))) refl;
-      slice = c.after_round.ensures.slice ∙ c.one_run.ensures.slice ∙ c.loop-round.invariant.same;
+          c.one_run-outcome.ensures.does
+          (rw c.in-Over.is at (rw c.in_ok-failure.was at (c.after_round.ensures.ends c.one_run-outcome.new.state)))
+          refl;
+      slice = c.after_round.ensures.slice ∙ c.one_run-outcome.ensures.slice ∙ c.loop-round.invariant.same;
     }
 
 pub left_recursion::rounds-loop-round-preserved : goal.left_recursion::rounds-loop-round-preserved
@@ -130,9 +106,10 @@ left_recursion::rounds-loop-round-preserved t c =
       few = omega (arith, c.loop-round-test.true);
       left =
           rounds_again _ _ _ _ _ _ _ _ _ _ _ _ c.loop-round.invariant.left _ _ _ _ _ c.loop-round-test.true
-          (rw c.in_ok-failure.was at c.one_run.ensures.does)
-          (rw c.in-Again.is at (rw c.in_ok-failure-2.was at (c.after_round.ensures.ends c.one_run.new.state))) refl;
-      same = c.after_round.ensures.slice ∙ c.one_run.ensures.slice ∙ c.loop-round.invariant.same;
+          c.one_run-outcome.ensures.does
+          (rw c.in-Again.is at (rw c.in_ok-failure.was at (c.after_round.ensures.ends c.one_run-outcome.new.state)))
+          refl;
+      same = c.after_round.ensures.slice ∙ c.one_run-outcome.ensures.slice ∙ c.loop-round.invariant.same;
     }
 
 pub left_recursion::rounds-returns : goal.left_recursion::rounds-returns
@@ -161,25 +138,14 @@ names::choose-returns-in_err-first t c =
       slice = c.close.ensures.slice;
     }
 
-pub names::choose-returns-in_err-second : goal.names::choose-returns-in_err-second
-names::choose-returns-in_err-second t c =
-    record {
-      does = let p = err_from_is_err_and c.from_residual-in_err-second.result c.from_residual-in_err-second.ensures.1 in
-          rw (p.1, p.2)
-          (names_both _ _ _ c.args.here _ _ _ _ _ _ (rw c.in_ok-spend.was at c.spend.ensures) refl _ _ _
-          (rw c.in_ok-first.was at c.close.ensures.does) refl c.requires.0.3 c.requires.0.2.0 (table_length _)
-          _ _ _ _ (rw c.in_err-second.was at c.declare.ensures.does) (both_limit _ _ _ _ _ _ (number_there _)));
-      slice = c.declare.ensures.slice ∙ c.close.ensures.slice;
-    }
-
 pub names::choose-returns : goal.names::choose-returns
 names::choose-returns t c =
     record {
       does = names_both _ _ _ c.args.here _ _ _ _ _ _ (rw c.in_ok-spend.was at c.spend.ensures) refl _ _ _
           (rw c.in_ok-first.was at c.close.ensures.does) refl c.requires.0.3 c.requires.0.2.0 (table_length _)
-          _ _ _ _ (rw c.in_ok-second.was at c.declare.ensures.does) (rw c.shared.ensures at (c.both_sides.ensures
-          c.close.new.state c.declare.new.state));
-      slice = c.declare.ensures.slice ∙ c.close.ensures.slice;
+          _ _ _ _ c.declare-second.ensures.does (rw c.shared.ensures at (c.both_sides.ensures.does c.close.new.state
+          c.declare-second.new.state));
+      slice = c.declare-second.ensures.slice ∙ c.close.ensures.slice;
     }
 
 pub names::close-returns-in-Err : goal.names::close-returns-in-Err
@@ -281,21 +247,6 @@ parser::choice-returns-in_err-first t c =
       slice = c.steps.ensures.slice;
     }
 
-pub parser::choice-returns-in_err-second : goal.parser::choice-returns-in_err-second
-parser::choice-returns-in_err-second t c =
-    record {
-      does = let p = err_from_is_err_and c.from_residual-in_err-second.result c.from_residual-in_err-second.ensures.1 in
-          rw (p.1, p.2)
-          (choice_both _ _ _ _ _ _ _ _ _ _ _ _ _ _ _ _ _ _ _ (rw (side_steps c.first_side-begun.result
-          c.first_side-begun.new.state c.first_side-begun.ensures.steps) at
-          c.first_side-begun.ensures.does)
-          (rw (side_steps c.first_side-begun.result c.first_side-begun.new.state c.first_side-begun.ensures.steps) at
-          (rw c.in_ok-first.was at c.steps.ensures.continues)) refl _ _ _ _ (rw c.in_err-second.was at
-          c.descend.ensures.does) (both_limit
-          _ _ _ _ _ _ (number_there _)));
-      slice = c.descend.ensures.slice ∙ c.steps.ensures.slice;
-    }
-
 pub parser::choice-returns : goal.parser::choice-returns
 parser::choice-returns t c =
     record {
@@ -303,10 +254,9 @@ parser::choice-returns t c =
           c.first_side-begun.new.state c.first_side-begun.ensures.steps) at
           c.first_side-begun.ensures.does)
           (rw (side_steps c.first_side-begun.result c.first_side-begun.new.state c.first_side-begun.ensures.steps) at
-          (rw c.in_ok-first.was at c.steps.ensures.continues)) refl _ _ _ _ (rw c.in_ok-second.was at
-          c.descend.ensures.does)
-          (rw c.shared.ensures at (c.both_sides.ensures c.steps.new.state c.descend.new.state));
-      slice = c.descend.ensures.slice ∙ c.steps.ensures.slice;
+          (rw c.in_ok-first.was at c.steps.ensures.continues)) refl _ _ _ _ c.descend-second.ensures.does
+          (rw c.shared.ensures at (c.both_sides.ensures.does c.steps.new.state c.descend-second.new.state));
+      slice = c.descend-second.ensures.slice ∙ c.steps.ensures.slice;
     }
 
 pub parser::descend-returns-in_err-failure : goal.parser::descend-returns-in_err-failure
@@ -358,8 +308,8 @@ parser::follow-returns-then-free-eq0 t c =
       slice = c.loop-i.invariant.same;
     }
 
-pub parser::follow-returns-in_err-failure : goal.parser::follow-returns-in_err-failure
-parser::follow-returns-in_err-failure t c =
+pub parser::follow-returns-in_err-all : goal.parser::follow-returns-in_err-all
+parser::follow-returns-in_err-all t c =
     record {
       continues = let p = err_from_is_err_and c.from_residual.result c.from_residual.ensures.1 in
           rw (p.1, p.2)
@@ -368,10 +318,10 @@ parser::follow-returns-in_err-failure t c =
           (table_in c.loop-i.rows) (done_with c.loop-i.all
           c.loop-i.state) c.loop-i.invariant.left c.loop-i-test.true c.if-free-eq0.false _ (rw
           c.shared-in-loop-i.ensures at c.nth_parse-q.ensures) _ _ _ _ _ _
-          c.next_of-begun.ensures (rw c.in_err-failure.was at c.steps.ensures.continues) (joined_limit _ _ _
-          (number_there _))
-          (number_there _)));
-      slice = c.steps.ensures.slice ∙ c.loop-i.invariant.same;
+          c.next_of-begun.ensures c.steps-outcome.ensures.continues
+          (rw c.in_err-all.was at (c.after_parse.ensures.does c.loop-i.state c.steps-outcome.new.state)) (number_there
+          _)));
+      slice = c.steps-outcome.ensures.slice ∙ c.loop-i.invariant.same;
     }
 
 pub parser::follow-loop-i-preserved : goal.parser::follow-loop-i-preserved
@@ -381,9 +331,9 @@ parser::follow-loop-i-preserved t c =
       left = follow_again _ _ _ _ _ _ _ _ _ _ _ _ _ _ (table_in c.loop-i.rows) (done_with c.loop-i.all c.loop-i.state)
           c.loop-i.invariant.left c.loop-i-test.true c.if-free-eq0.false _ (rw c.shared-in-loop-i.ensures at
           c.nth_parse-q.ensures) _ _ _ _ _ _
-          c.next_of-begun.ensures (rw c.in_ok-failure.was at c.steps.ensures.continues) (c.after_parse-all.ensures _
-          _) refl;
-      same = c.steps.ensures.slice ∙ c.loop-i.invariant.same;
+          c.next_of-begun.ensures c.steps-outcome.ensures.continues
+          (rw c.in_ok-all.was at (c.after_parse.ensures.does c.loop-i.state c.steps-outcome.new.state)) refl;
+      same = c.steps-outcome.ensures.slice ∙ c.loop-i.invariant.same;
     }
 
 pub parser::follow-returns : goal.parser::follow-returns
@@ -565,28 +515,13 @@ parser::variant-returns-in_err-items t c =
       slice = c.begin_variant.ensures.slice;
     }
 
-pub parser::variant-returns-in_err-failure : goal.parser::variant-returns-in_err-failure
-parser::variant-returns-in_err-failure t c =
-    record {
-      does = let p = err_from_is_err_and c.from_residual-in_err-failure.result
-          c.from_residual-in_err-failure.ensures.1 in
-          rw (p.1, p.2)
-          (variant_ran _ _ _ _ _ _ _ c.variant-variant.ensures _ _ c.if-variant-minimum.false _ _ _ _ _ _ _
-          (rw c.in_ok-items.was at c.begin_variant.ensures.begins)
-          (rw ((rw c.shared.ensures at c.start_of-start.ensures), c.in_err-failure.was) at c.steps.ensures.continues)
-          (variant_limit _ _ _ (done_with c.args.before c.args.state.now) (without_failure (limit_number
-          c.in_err-failure.field-0.0) c.steps.new.state) _
-          (number_there _) refl));
-      slice = c.steps.ensures.slice ∙ c.begin_variant.ensures.slice;
-    }
-
 pub parser::variant-returns : goal.parser::variant-returns
 parser::variant-returns t c =
     record {
       does = variant_ran _ _ _ _ _ _ _ c.variant-variant.ensures _ _ c.if-variant-minimum.false _ _ _ _ _ _ _
           (rw c.in_ok-items.was at c.begin_variant.ensures.begins)
-          (rw ((rw c.shared.ensures at c.start_of-start.ensures), c.in_ok-failure.was) at c.steps.ensures.continues)
-          (rw (rw c.shared.ensures at c.start_of-start.ensures) at (c.after_variant.ensures c.args.state.now
-          c.steps.new.state));
-      slice = c.steps.ensures.slice ∙ c.begin_variant.ensures.slice;
+          (rw (rw c.shared.ensures at c.start_of-start.ensures) at c.steps-outcome.ensures.continues)
+          (rw (rw c.shared.ensures at c.start_of-start.ensures) at (c.after_variant.ensures.does c.args.state.now
+          c.steps-outcome.new.state));
+      slice = c.steps-outcome.ensures.slice ∙ c.begin_variant.ensures.slice;
     }
