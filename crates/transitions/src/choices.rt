@@ -1,5 +1,6 @@
 // The first side of a choice, and both sides together.
-ghost use Rattle.std.specs.Prelude.{◌≡◌, ◌≤◌, IfOk, IsOk, OnOk};
+ghost use Rattle.std.specs.Prelude.{◌≡◌, ◌≤◌, IfOk};
+ghost use Rattle.std.specs.Result.{result_err};
 ghost use Rattle.semantics.specs.Numbers.{most_nesting};
 ghost use Rattle.transitions.specs.Results.{reached_of, stage_of, outcome_of};
 ghost use Rattle.transitions.specs.Steps.{Chosen};
@@ -85,7 +86,7 @@ pub fn both_sides(
     requires { (here.call ≤ most_nesting) × Short text.now }
     ensures does { (s t : code.State) → Chosen text.now rows.now here.call here.place (outcome_of first s)
         (outcome_of second t) (outcome_of result t) }
-    ensures limits { OnOk second (IsOk result) }
+    ensures limit { result_err result ≡ result_err second }
 {
     let failure = second?;
     let at = skipped(text, here.place);

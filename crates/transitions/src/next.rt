@@ -1,6 +1,7 @@
 // What follows a parse of a child: the item is added and the steps go on, or the list does; and the failures of what
 // follows its parses, together.
-ghost use Rattle.std.specs.Prelude.{IsOk, OnOk};
+ghost use Rattle.std.specs.Prelude.{◌≡◌};
+ghost use Rattle.std.specs.Result.{result_err};
 ghost use Rattle.sets.specs.Sets.{parse_of};
 ghost use Rattle.transitions.specs.Results.{stage_of, outcome_of};
 ghost use Rattle.transitions.specs.Steps.{ParseEnded};
@@ -94,7 +95,7 @@ pub fn after_parse(
 ) -> Result<Option<Error>, Limit>
     ensures does { (s t : code.State) → ParseEnded i (outcome_of before s) (outcome_of outcome t)
         (outcome_of result t) }
-    ensures limits { OnOk outcome (IsOk result) }
+    ensures limit { result_err result ≡ result_err outcome }
 {
     let failure = outcome?;
     if i == 0 {

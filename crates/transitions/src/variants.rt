@@ -1,5 +1,6 @@
 // What a call does before and after a variant's steps, and where a child of it begins.
-ghost use Rattle.std.specs.Prelude.{◌≡◌, ◌≤◌, IsOk, OnOk};
+ghost use Rattle.std.specs.Prelude.{◌≡◌, ◌≤◌};
+ghost use Rattle.std.specs.Result.{result_err};
 ghost use Rattle.characters.specs.Skipping.{skip_from};
 ghost use Rattle.run_model.specs.Rows.{with_child, row_of};
 ghost use Rattle.semantics.specs.Numbers.{most_nesting};
@@ -50,7 +51,7 @@ pub fn after_variant(
 ) -> Result<Option<Error>, Limit>
     ensures does { (s t : code.State) → VariantEnded book.now j start (outcome_of before s) (outcome_of outcome t)
         (outcome_of result t) }
-    ensures limits { OnOk outcome (IsOk result) }
+    ensures limit { result_err result ≡ result_err outcome }
 {
     let failure = outcome?;
     let variant = book.variant(j as usize);
