@@ -48,32 +48,103 @@ fn column_of(text: &[u8], answer: Answer) -> usize
     }
 }
 
-fn refused(part: &mut Part, text: &[u8], answer: Answer)
+// Line and column of an answer. To count them is to go over the text up to the place: `print`, which lays its line
+// twice, counts once.
+#[derive(Clone, Copy)]
+struct Position {
+    line: usize,
+    column: usize,
+}
+
+fn position_of(text: &[u8], answer: Answer) -> Position
+    ensures line { result.line ≡ line_of text.now (answer_in answer) }
+    ensures column { result.column ≡ column_of text.now (answer_in answer) }
+{
+    Position {
+        line: line_of(text, answer),
+        column: column_of(text, answer),
+    }
+}
+
+// The text is the one that the position was counted in.
+fn refused(part: &mut Part, text: &[u8], answer: Answer, at: Position)
+    requires line { at.line ≡ line_of text.now (answer_in answer) }
+    requires column { at.column ≡ column_of text.now (answer_in answer) }
     ensures { Lays part.old part.new (refused_line text.now (answer_in answer)) }
 {
     part.field(b"refused ", answer.refusal as u64);
     part.field(b" place ", answer.place as u64);
     part.field(b" kind ", answer.kind as u64);
     part.field(b" argument ", answer.argument as u64);
-    part.field(b" line ", line_of(text, answer) as u64);
-    part.field(b" column ", column_of(text, answer) as u64);
+    part.field(b" line ", at.line as u64);
+    part.field(b" column ", at.column as u64);
     part.byte(b'\n');
 }
 
 // The line.
-fn line(book: &Book, text: &[u8], cells: &[u32], answer: Answer, part: &mut Part)
+fn line(book: &Book, text: &[u8], cells: &[u32], answer: Answer, at: Position, part: &mut Part)
+    requires line { at.line ≡ line_of text.now (answer_in answer) }
+    requires column { at.column ≡ column_of text.now (answer_in answer) }
     ensures { Lays part.old part.new (line_in book.now text.now cells.now answer) }
 {
     if answer.refusal != 0 {
-        return refused(part, text, answer);
+        return refused(part, text, answer, at);
     }
     part.bytes(b"value ");
     item(book, text, cell_numbers(cells), part, answer.value);
     part.byte(b'\n');
 }
 
-// How long the line is, if it has at most `limit` bytes; none if it is longer. The bytes are skipped, so that one which
-// is stored is past the limit.
+// The bytes are skipped, so that one which is stored is past the limit.
+fn length_at(
+    book: &Book,
+    text: &[u8],
+    cells: &[u32],
+    answer: Answer,
+    at: Position,
+    limit: usize,
+) -> Option<usize>
+    requires line { at.line ≡ line_of text.now (answer_in answer) }
+    requires column { at.column ≡ column_of text.now (answer_in answer) }
+    ensures { result ≡ length_within limit (line_in book.now text.now cells.now answer) }
+{
+    let mut past = [0u8; 1];
+    let mut part = Part {
+        out: &mut past,
+        skip: limit,
+        size: 0,
+    };
+    line(book, text, cells, answer, at, &mut part);
+    if part.size == 0 {
+        Some(limit - part.skip)
+    } else {
+        None
+    }
+}
+
+fn part_at(
+    book: &Book,
+    text: &[u8],
+    cells: &[u32],
+    answer: Answer,
+    at: Position,
+    from: usize,
+    out: &mut [u8],
+) -> usize
+    requires line { at.line ≡ line_of text.now (answer_in answer) }
+    requires column { at.column ≡ column_of text.now (answer_in answer) }
+    ensures { Window from (line_in book.now text.now cells.now answer) out.old out.new result }
+{
+    let mut part = Part {
+        out,
+        skip: from,
+        size: 0,
+    };
+    line(book, text, cells, answer, at, &mut part);
+    part.size
+}
+
+// How long the line is, if it has at most `limit` bytes; none if it is longer.
 pub fn line_length(
     book: &Book,
     text: &[u8],
@@ -83,18 +154,7 @@ pub fn line_length(
 ) -> Option<usize>
     ensures { result ≡ length_within limit (line_in book.now text.now cells.now answer) }
 {
-    let mut past = [0u8; 1];
-    let mut part = Part {
-        out: &mut past,
-        skip: limit,
-        size: 0,
-    };
-    line(book, text, cells, answer, &mut part);
-    if part.size == 0 {
-        Some(limit - part.skip)
-    } else {
-        None
-    }
+    length_at(book, text, cells, answer, position_of(text, answer), limit)
 }
 
 // The part of the line from byte number `from` on, as much of it as there is and `out` holds; and how many bytes that
@@ -109,13 +169,15 @@ pub fn print_part(
 ) -> usize
     ensures { Window from (line_in book.now text.now cells.now answer) out.old out.new result }
 {
-    let mut part = Part {
+    part_at(
+        book,
+        text,
+        cells,
+        answer,
+        position_of(text, answer),
+        from,
         out,
-        skip: from,
-        size: 0,
-    };
-    line(book, text, cells, answer, &mut part);
-    part.size
+    )
 }
 
 // The line, if `out` has room for all of it, and how long it is; else none, and `out` stays as it is.
@@ -128,7 +190,8 @@ pub fn print(
 ) -> Option<usize>
     ensures { Prints (line_in book.now text.now cells.now answer) out.old out.new result }
 {
-    let length = line_length(book, text, cells, answer, out.len())?;
-    print_part(book, text, cells, answer, 0, out);
+    let at = position_of(text, answer);
+    let length = length_at(book, text, cells, answer, at, out.len())?;
+    part_at(book, text, cells, answer, at, 0, out);
     Some(length)
 }

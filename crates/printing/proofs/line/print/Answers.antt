@@ -13,4 +13,4 @@ returns-in_err-length c =
 pub returns : goal.returns
 returns c =
     let bytes = line_bytes c.args.book.now.names c.args.text.now c.args.cells.now (answer_in c.args.answer) in
-    prints_whole bytes c.args.out.now _ c.in_ok-length.ensures _ _ _ refl c.print_part.ensures
+    prints_whole bytes c.args.out.now _ c.in_ok-length.ensures _ _ _ refl c.part_at.ensures

@@ -9,4 +9,4 @@ returns c =
     let ends = lays_then c.field-4.ensures (lays_then c.field-5.ensures (lays_then c.field-6.ensures c.byte.ensures)) in
     let parts = lays_then c.field.ensures (lays_then c.field-2.ensures (lays_then c.field-3.ensures ends)) in
     lays_as parts
-    (refused_fields c.args.text.now (answer_in c.args.answer) _ _ c.line_of.ensures c.column_of.ensures)
+    (refused_fields c.args.text.now (answer_in c.args.answer) _ _ c.requires.line c.requires.column)

@@ -1,7 +1,7 @@
--- `printing::print_part` meets its contract.
+-- `printing::part_at` meets its contract.
 use Rattle.std.proofs.Common.{rules, sym}
 use Rattle.printing.proofs.LayingLaws.{window, window_at}
-use Rattle.printing.proofs.line.print_part.Goals as goal
+use Rattle.printing.proofs.line.part_at.Goals as goal
 
 pub returns : goal.returns
 returns c =

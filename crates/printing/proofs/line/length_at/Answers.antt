@@ -1,10 +1,10 @@
--- `printing::line_length` meets its contract.
+-- `printing::length_at` meets its contract.
 use Rattle.std.proofs.Common.{arith, refl}
 use Rattle.run.specs.Promise.{answer_in}
 use Rattle.printing.specs.Printing.{line_bytes}
 use Rattle.printing.proofs.LineLaws.{length_in, length_out}
 use Rattle.printing.proofs.LayingLaws.{skip_is, within_limit, beyond_limit}
-use Rattle.printing.proofs.line.line_length.Goals as goal
+use Rattle.printing.proofs.line.length_at.Goals as goal
 
 pub overflow_sub-result : goal.overflow_sub-result
 overflow_sub-result c = omega (arith, skip_is _ _ _ c.line.ensures.laid)
