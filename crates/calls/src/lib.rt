@@ -11,8 +11,8 @@
 // is the body behind one, and the n names that this declared stand in the n rows above its own.
 //
 // Each method of the two equals the definition of the crate run_model that its contract names (specs/Rows.antt and
-// specs/Model.antt there), on the table, and asks only that the row is one of it. Those of `RowsMut` change at most one
-// row, `take_stored` two, and the table stays in its slice (`SameSlice` of specs/Lent.antt).
+// specs/Model.antt there), on the table, and asks at most that its row is one of it. Those of `RowsMut` change at most
+// one row, `take_stored` two, and the table stays in its slice (`SameSlice` of specs/Lent.antt).
 //
 // The crate relies on the promises of characters, book, cells and sets and on the definitions of book, semantics and
 // run_model, and assumes nothing. specs/ has the definitions (Table, Lent, Names) and laws.

@@ -1,4 +1,5 @@
-// The table of rows in a lent slice, read. Only this file and rows/parses.rt read the slice.
+// The table of rows in a shared slice. This file and rows/parses.rt read the slice, rows_mut.rt and rows_mut/parses.rt
+// write it, and no others.
 ghost use Rattle.std.specs.Prelude.{◌≡◌, ◌<◌, ◌≤◌, eqb, length};
 ghost use Rattle.semantics.specs.Numbers.{most_nesting};
 ghost use Rattle.run_model.specs.Rows.{row_of};

@@ -1,4 +1,4 @@
-// The table of rows in a lent slice, written. Only this file and rows_mut/parses.rt write the slice.
+// The table of rows in a slice that is lent to be written.
 //
 // In a contract `table_in` is the list of its rows, and `SameSlice` says that it lies in the slice in which it lay: so
 // who lends a slice knows what it holds afterwards. A type with a model would hide which slice that is.

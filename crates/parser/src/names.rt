@@ -42,7 +42,7 @@ fn close(
     };
     let binder = calls::body_binder(names.count);
     let at = begin_child(text, rows, there);
-    let failure = enter(book, text, store, rows, free, binder, names.body, at, state)?;
+    let child = enter(book, text, store, rows, free, binder, names.body, at, state);
     follow(
         book,
         text,
@@ -51,7 +51,7 @@ fn close(
         free,
         there,
         Next::Steps,
-        failure,
+        child,
         state,
     )
 }

@@ -114,7 +114,7 @@ fn descend(
 {
     let binder = rows.shared().inherited_binder(here.call);
     let at = begin_child(text, rows, here);
-    let failure = enter(
+    let child = enter(
         book,
         text,
         store,
@@ -124,11 +124,11 @@ fn descend(
         nonterminal,
         at,
         state,
-    )?;
-    follow(book, text, store, rows, free, here, next, failure, state)
+    );
+    follow(book, text, store, rows, free, here, next, child, state)
 }
 
-// What follows each parse that the row found, one level further in; a child that failed has none.
+// What follows each parse that the row found, one level further in; a child that failed or met a limit has none.
 #[cycle(descent)]
 pub fn follow(
     book: &Book,
@@ -138,19 +138,20 @@ pub fn follow(
     free: usize,
     here: Progress,
     next: Next,
-    child: Option<Error>,
+    child: Result<Option<Error>, Limit>,
     state: &mut State,
 ) -> Result<Option<Error>, Limit>
     requires { OnPath book.now text.now free here }
     ensures continues { Continues book.now text.now store.old store.new (table_in rows.old) (table_in rows.new)
-        (done_with child state.old) (outcome_of result state.new) (follows_each free here next) }
+        (outcome_of child state.old) (outcome_of result state.new) (follows_each free here next) }
     ensures slice { SameSlice rows.old rows.new }
 {
-    if child.is_some() {
-        return Ok(child);
+    let failure = child?;
+    if failure.is_some() {
+        return Ok(failure);
     }
     let parses = rows.shared().parse_count(free);
-    let mut all = child;
+    let mut all = failure;
     for i in 0..parses {
         if free == 0 {
             return Err(Limit::TooDeep);

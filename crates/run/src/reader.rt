@@ -3,6 +3,7 @@
 // `read` keeps working memory of its own, 500,460 bytes; `read_in` is lent it, whatever it holds. Its contract says
 // nothing of that memory at exit: it is no part of the answer, and the next call may find anything in it.
 ghost use Rattle.std.specs.Prelude.{◌≡◌, nat_le, position};
+ghost use Rattle.book.specs.Index.{book_in};
 ghost use Rattle.book.specs.Numbers.{fault_number};
 ghost use Rattle.semantics.specs.Numbers.{no_parse, first_high_byte};
 ghost use Rattle.semantics.specs.Answer as answers;
@@ -165,9 +166,10 @@ fn first_high(text: &[u8]) -> Option<usize>
     text.iter().position(|b| FIRST_HIGH_BYTE <= *b)
 }
 
-// The start, then the text: 9, 10, 11; then the run.
+// The start, then the text: 9, 10, 11; then the run, by the book that the index is of.
 fn on_book(
-    book: &Book,
+    book: &[u8],
+    index: &[usize],
     text: &[u8],
     start: u32,
     allowance: u32,
@@ -176,11 +178,12 @@ fn on_book(
     store: &mut [u32],
     rows: &mut RowsMut,
 ) -> Answer
-    requires { CanRead book.now cells.old parses.old store.old }
+    requires { CanRead (book_in book.now index.now) cells.old parses.old store.old }
     ensures { Gives cells.old cells.new parses.old parses.new result (λ cells parses.
-        answers.on_book cells parses book.now text.now start allowance) }
+        answers.on_book cells parses (book_in book.now index.now) text.now start allowance) }
 {
-    if book.nonterminals() <= start as usize {
+    let accepted = Book::new(book, index);
+    if accepted.nonterminals() <= start as usize {
         return refused(UNKNOWN_START, 0);
     }
     if (LONGEST_TEXT as usize) < text.len() {
@@ -189,7 +192,7 @@ fn on_book(
     if let Some(high) = first_high(text) {
         return refused(HIGH_BYTE, high as u32);
     }
-    let (found, state) = run(book, text, store, rows, start, allowance);
+    let (found, state) = run(&accepted, text, store, rows, start, allowance);
     ending(
         text,
         allowance,
@@ -255,9 +258,8 @@ fn in_room(
     if let Err(refusal) = check_into(book, index) {
         return book_refused(refusal);
     }
-    let accepted = Book::new(book, index);
     on_book(
-        &accepted, text, start, allowance, cells, parses, store, rows,
+        book, index, text, start, allowance, cells, parses, store, rows,
     )
 }
 

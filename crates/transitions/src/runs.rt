@@ -1,5 +1,5 @@
 // How a call stands after one of its runs.
-ghost use Rattle.std.specs.Prelude.{◌≡◌, ◌≤◌, false};
+ghost use Rattle.std.specs.Prelude.{◌≡◌, ◌≤◌, Err, IfErr};
 ghost use Rattle.semantics.specs.Numbers.{most_nesting};
 ghost use Rattle.calls.specs.Lent.{table_in, SameSlice};
 ghost use Rattle.transitions.specs.Results.{end_of, outcome_of};
@@ -49,6 +49,7 @@ pub fn after_first(
     ensures ends { (s : code.State) → FirstEnded (table_in rows.old) (table_in rows.new) row (outcome_of first s)
         (end_of result s) }
     ensures slice { SameSlice rows.old rows.new }
+    ensures limit { IfErr first (λ limit. result ≡ Err limit) }
 {
     let failure = first?;
     let how = rows.settle_first(row);
@@ -65,6 +66,7 @@ pub fn after_round(
     ensures ends { (s : code.State) → RoundEnded (table_in rows.old) (table_in rows.new) row (outcome_of round s)
         (end_of result s) }
     ensures slice { SameSlice rows.old rows.new }
+    ensures limit { IfErr round (λ limit. result ≡ Err limit) }
 {
     let failure = round?;
     let how = rows.settle(row);

@@ -157,22 +157,6 @@ names::close-returns-in-Err t c =
       slice = refl;
     }
 
-pub names::close-returns-in_err-failure : goal.names::close-returns-in_err-failure
-names::close-returns-in_err-failure t c =
-    record {
-      does = let p = err_from_is_err_and c.from_residual.result c.from_residual.ensures.1 in
-          rw (p.1, p.2)
-          (close_body _ _ _ _ _ _ _ _ _ _ _ (rw c.in-Ok.is at (rw c.shared.ensures at c.open_body.ensures)) (goes_done
-          _) _ _ _
-          (descended _ _ _ _ _ _ _ _ _ _ _ _ _ _ _ _ _ _ _ _ _ _ _ _ (names_binder c.args.text.now (table_in
-          c.args.rows.now)
-          c.args.free c.args.names.count _ c.args.here.call c.body_binder-binder.ensures)
-          c.begin_child-at.ensures.begins
-          (rw c.in_err-failure.was at c.enter.ensures.does) (follow_ended _ _ _ _ _ _ _ _ _ _ _ _ (limit_stops_path _
-          _))));
-      slice = c.enter.ensures.slice ∙ c.begin_child-at.ensures.slice;
-    }
-
 pub names::close-returns : goal.names::close-returns
 names::close-returns t c =
     record {
@@ -182,8 +166,8 @@ names::close-returns t c =
           c.args.rows.now)
           c.args.free c.args.names.count _ c.args.here.call c.body_binder-binder.ensures)
           c.begin_child-at.ensures.begins
-          (rw c.in_ok-failure.was at c.enter.ensures.does) c.follow.ensures.continues);
-      slice = c.follow.ensures.slice ∙ c.enter.ensures.slice ∙ c.begin_child-at.ensures.slice;
+          c.enter-child.ensures.does c.follow.ensures.continues);
+      slice = c.follow.ensures.slice ∙ c.enter-child.ensures.slice ∙ c.begin_child-at.ensures.slice;
     }
 
 pub names::declare-returns-in_err-spend : goal.names::declare-returns-in_err-spend
@@ -259,32 +243,28 @@ parser::choice-returns t c =
       slice = c.descend-second.ensures.slice ∙ c.steps.ensures.slice;
     }
 
-pub parser::descend-returns-in_err-failure : goal.parser::descend-returns-in_err-failure
-parser::descend-returns-in_err-failure t c =
-    record {
-      does = let p = err_from_is_err_and c.from_residual.result c.from_residual.ensures.1 in
-          rw (p.1, p.2)
-          (descended _ _ _ _ _ _ _ _ _ _ _ _ _ _ _ _ _ _ _ _ _ _ _ _ (rw c.shared.ensures at
-          c.inherited_binder-binder.ensures)
-          c.begin_child-at.ensures.begins
-          (rw c.in_err-failure.was at c.enter.ensures.does) (follow_ended _ _ _ _ _ _ _ _ _ _ _ _ (limit_stops_path _
-          _)));
-      slice = c.enter.ensures.slice ∙ c.begin_child-at.ensures.slice;
-    }
-
 pub parser::descend-returns : goal.parser::descend-returns
 parser::descend-returns t c =
     record {
       does = descended _ _ _ _ _ _ _ _ _ _ _ _ _ _ _ _ _ _ _ _ _ _ _ _ (rw c.shared.ensures at
           c.inherited_binder-binder.ensures) c.begin_child-at.ensures.begins
-          (rw c.in_ok-failure.was at c.enter.ensures.does) c.follow.ensures.continues;
-      slice = c.follow.ensures.slice ∙ c.enter.ensures.slice ∙ c.begin_child-at.ensures.slice;
+          c.enter-child.ensures.does c.follow.ensures.continues;
+      slice = c.follow.ensures.slice ∙ c.enter-child.ensures.slice ∙ c.begin_child-at.ensures.slice;
+    }
+
+pub parser::follow-returns-in_err-failure : goal.parser::follow-returns-in_err-failure
+parser::follow-returns-in_err-failure t c =
+    record {
+      continues = let p = err_from_is_err_and c.from_residual.result c.from_residual.ensures.1 in
+          rw (p.1, p.2, c.in_err-failure.was) (follow_ended _ _ _ _ _ _ _ _ _ _ _ _ (limit_stops_path _ _));
+      slice = refl;
     }
 
 pub parser::follow-returns-then-is_some : goal.parser::follow-returns-then-is_some
 parser::follow-returns-then-is_some t c =
     record {
-      continues = follow_ended _ _ _ _ _ _ _ _ _ _ _ _ (failure_stops _ _ (sym c.is_some.ensures ∙ c.if-is_some.true));
+      continues = rw c.in_ok-failure.was
+          (follow_ended _ _ _ _ _ _ _ _ _ _ _ _ (failure_stops _ _ (sym c.is_some.ensures ∙ c.if-is_some.true)));
       slice = refl;
     }
 
@@ -299,20 +279,22 @@ parser::follow-loop-i-init t c =
 pub parser::follow-returns-then-free-eq0 : goal.parser::follow-returns-then-free-eq0
 parser::follow-returns-then-free-eq0 t c =
     record {
-      continues = follow_whole _ _ _ _ _ _ _ _ _ _ _ _ _ _ _ _ (nothing_goes _ _ (sym c.is_some.ensures ∙
+      continues = rw c.in_ok-failure.was
+          (follow_whole _ _ _ _ _ _ _ _ _ _ _ _ _ _ _ _ (nothing_goes _ _ (sym c.is_some.ensures ∙
           c.if-is_some.false))
           (rw c.shared.ensures at c.parse_count-parses.ensures.count) (follow_deep _ _ _ _ _ _ _ _ _ _ _ _ _ _
           (table_in c.loop-i.rows) (done_with c.loop-i.all
           c.loop-i.state) c.loop-i.invariant.left
-          _ refl c.loop-i-test.true c.if-free-eq0.true);
+          _ refl c.loop-i-test.true c.if-free-eq0.true));
       slice = c.loop-i.invariant.same;
     }
 
 pub parser::follow-returns-in_err-all : goal.parser::follow-returns-in_err-all
 parser::follow-returns-in_err-all t c =
     record {
-      continues = let p = err_from_is_err_and c.from_residual.result c.from_residual.ensures.1 in
-          rw (p.1, p.2)
+      continues = let p = err_from_is_err_and c.from_residual-in_err-all.result
+          c.from_residual-in_err-all.ensures.1 in
+          rw (p.1, p.2, c.in_ok-failure.was)
           (follow_whole _ _ _ _ _ _ _ _ _ _ _ _ _ _ _ _ (nothing_goes _ _ (sym c.is_some.ensures ∙ c.if-is_some.false))
           (rw c.shared.ensures at c.parse_count-parses.ensures.count) (follow_stop _ _ _ _ _ _ _ _ _ _ _ _ _ _
           (table_in c.loop-i.rows) (done_with c.loop-i.all
@@ -339,11 +321,12 @@ parser::follow-loop-i-preserved t c =
 pub parser::follow-returns : goal.parser::follow-returns
 parser::follow-returns t c =
     record {
-      continues = follow_whole _ _ _ _ _ _ _ _ _ _ _ _ _ _ _ _ (nothing_goes _ _ (sym c.is_some.ensures ∙
+      continues = rw c.in_ok-failure.was
+          (follow_whole _ _ _ _ _ _ _ _ _ _ _ _ _ _ _ _ (nothing_goes _ _ (sym c.is_some.ensures ∙
           c.if-is_some.false))
           (rw c.shared.ensures at c.parse_count-parses.ensures.count) (follow_end _ _ _ _ _ _ _ _ _ _ _ _ _ _
           (table_in c.loop-i.rows) (done_with c.loop-i.all
-          c.loop-i.state) c.loop-i.invariant.left c.loop-i-test.false refl);
+          c.loop-i.state) c.loop-i.invariant.left c.loop-i-test.false refl));
       slice = c.loop-i.invariant.same;
     }
 

@@ -1,6 +1,5 @@
 -- `run::in_room` meets its contract.
-use Rattle.std.proofs.Common.{ap, arith, sym, ◌∙◌}
-use Rattle.book.specs.Check.{Outcome}
+use Rattle.std.proofs.Common.{arith}
 use Rattle.book.proofs.BoundLaws.{refusal_bounds}
 use Rattle.run.specs.ReadingLaws.{call_short, call_allowance, call_refused, call_book}
 use Rattle.run.specs.ReadingLaws.{verdict_refused}
@@ -34,4 +33,4 @@ pub returns : goal.returns
 returns c =
     call_book _ _ _ _ _ _ _ c.too_short.ensures c.if-too_short.false _ c.no_allowance.ensures c.if-no_allowance.false
     _ _
-    (c.check_into.ensures.gives c.in_default.is ∙ ap Outcome.book (sym c.new-accepted.ensures)) c.on_book.ensures
+    (c.check_into.ensures.gives c.in_default.is) c.on_book.ensures

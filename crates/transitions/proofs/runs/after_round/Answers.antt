@@ -13,6 +13,8 @@ returns-in_err-failure c =
       ends = let p = err_from_is_err_and c.from_residual.result c.from_residual.ensures.1 in
           rw (p.1, p.2, c.in_err-failure.was) (λ s. round_limit _ _ _ _ (number_there _) refl);
       slice = refl;
+      limit = let p = err_from_is_err_and c.from_residual.result c.from_residual.ensures.1 in
+          rw (p.1, p.2, c.in_err-failure.was) refl;
     }
 
 pub returns : goal.returns
@@ -25,4 +27,5 @@ returns c =
           c.in_ok-failure.failure (sym (failure_done c.in_ok-failure.failure s)) (rw c.shared.ensures at
           c.settled_as.ensures s));
       slice = c.settle-how.ensures.1;
+      limit = rw c.in_ok-failure.was tt;
     }
